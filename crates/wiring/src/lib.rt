@@ -1,0 +1,4 @@
+// The wiring.
+pub fn none() -> usize {
+    0
+}
