@@ -3,3 +3,9 @@ pub mod Nodes
 pub mod Targets
 pub mod Edges
 pub mod PerNode
+pub mod Members
+pub mod Reach
+pub mod Graph
+pub mod Run
+pub mod ReturnLists
+pub mod Demand3
