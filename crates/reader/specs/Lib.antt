@@ -1,5 +1,6 @@
 pub mod Bytes
 pub mod Listing
 pub mod Rows
+pub mod WordTable
 pub mod Read
 pub mod ListingText

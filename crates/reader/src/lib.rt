@@ -1,4 +1,2 @@
-// The reader.
-pub fn none() -> usize {
-    0
-}
+// The reader: a text in bracket form to the records of its listing.
+pub mod words;

@@ -9,3 +9,7 @@ pub mod Graph
 pub mod Run
 pub mod ReturnLists
 pub mod Demand3
+pub mod Print
+pub mod Build
+pub mod Opened
+pub mod Cases

@@ -1,0 +1,100 @@
+// The 28 opening words in one constant table: fixed byte rows with lengths.
+ghost use mathlib.Core.Path.{_≡_};
+ghost use mathlib.Core.List.{[]};
+ghost use Prim.Native.Nat.{_≤_, _<_};
+ghost use lib.ListN.{length, getD};
+ghost use Rattle.reader.specs.Bytes.{same};
+ghost use Rattle.reader.specs.WordTable.{words, wordIndex, kindAt};
+
+const WORDS: [[u8; 8]; 28] = [
+    [109, 111, 100, 117, 108, 101, 0, 0],
+    [108, 105, 110, 101, 0, 0, 0, 0],
+    [105, 102, 0, 0, 0, 0, 0, 0],
+    [105, 102, 101, 108, 115, 101, 0, 0],
+    [114, 99, 111, 109, 112, 0, 0, 0],
+    [116, 111, 0, 0, 0, 0, 0, 0],
+    [115, 116, 109, 116, 115, 0, 0, 0],
+    [103, 111, 116, 111, 0, 0, 0, 0],
+    [103, 111, 115, 117, 98, 0, 0, 0],
+    [114, 101, 116, 117, 114, 110, 0, 0],
+    [114, 117, 110, 0, 0, 0, 0, 0],
+    [111, 110, 103, 111, 116, 111, 0, 0],
+    [111, 110, 103, 111, 115, 117, 98, 0],
+    [102, 111, 114, 0, 0, 0, 0, 0],
+    [110, 101, 120, 116, 0, 0, 0, 0],
+    [114, 101, 112, 101, 97, 116, 0, 0],
+    [108, 111, 111, 112, 0, 0, 0, 0],
+    [117, 110, 116, 105, 108, 0, 0, 0],
+    [101, 110, 100, 108, 111, 111, 112, 0],
+    [101, 120, 105, 116, 0, 0, 0, 0],
+    [101, 120, 105, 116, 105, 102, 0, 0],
+    [100, 111, 105, 102, 0, 0, 0, 0],
+    [101, 108, 115, 101, 0, 0, 0, 0],
+    [100, 111, 110, 101, 0, 0, 0, 0],
+    [99, 108, 114, 0, 0, 0, 0, 0],
+    [115, 116, 111, 112, 0, 0, 0, 0],
+    [97, 110, 121, 0, 0, 0, 0, 0],
+    [112, 108, 97, 105, 110, 0, 0, 0],
+];
+
+const LENGTHS: [usize; 28] = [6, 4, 2, 6, 5, 2, 5, 4, 5, 6, 3, 6, 7, 3, 4, 6, 4, 5, 7, 4, 6, 4, 4, 4, 3, 4, 3, 5];
+
+const KINDS: [u8; 28] = [0, 1, 4, 4, 4, 2, 3, 6, 6, 5, 8, 7, 7, 9, 10, 5, 5, 5, 5, 5, 5, 5, 5, 5, 5, 5, 5, 5];
+
+// The letter j of opening word i, 0 past its end.
+fn letter(i: usize, j: usize) -> u8
+    requires { ⌜ (i < 28) × (j < 8) ⌝ }
+    ensures { λ r. ⌜ r ≡ getD (getD words i []) j 0 ⌝ }
+{
+    WORDS[i][j]
+}
+
+fn length_of(i: usize) -> usize
+    requires { ⌜ i < 28 ⌝ }
+    ensures { λ r. ⌜ (r ≡ length (getD words i [])) × (r ≤ 8) ⌝ }
+{
+    LENGTHS[i]
+}
+
+// Whether w is opening word i.
+fn is_word(w: &[u8], i: usize) -> bool
+    requires { ⌜ i < 28 ⌝ }
+    ensures { λ r. ⌜ r ≡ same (getD words i []) (now (w .entry)) ⌝ }
+{
+    let n = length_of(i);
+    if w.len() != n {
+        return false;
+    }
+    let mut j: usize = 0;
+    while j < n {
+        if w[j] != letter(i, j) {
+            return false;
+        }
+        j += 1;
+    }
+    true
+}
+
+// The number of the opening word that w is, or 28.
+pub fn word_of(w: &[u8]) -> usize
+    ensures { λ r. ⌜ r ≡ wordIndex (now (w .entry)) ⌝ }
+{
+    let mut i: usize = 0;
+    while i < 28 {
+        if is_word(w, i) {
+            return i;
+        }
+        i += 1;
+    }
+    28
+}
+
+// The kind of form that opening word k opens, or 11 where there is no such word.
+pub fn kind_of(k: usize) -> u8
+    ensures { λ r. ⌜ r ≡ kindAt k ⌝ }
+{
+    if k < 28 {
+        return KINDS[k];
+    }
+    11
+}
