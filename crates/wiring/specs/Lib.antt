@@ -1,4 +1,5 @@
 pub mod Lists
+pub mod ListLaws
 pub mod Nodes
 pub mod Targets
 pub mod Edges

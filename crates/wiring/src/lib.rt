@@ -1,4 +1,2 @@
-// The wiring.
-pub fn none() -> usize {
-    0
-}
+// The wiring: the records of a listing to its graph.
+pub mod lists;
