@@ -1,6 +1,12 @@
 pub mod Bytes
 pub mod Listing
 pub mod Rows
-pub mod WordTable
 pub mod Read
 pub mod ListingText
+pub mod WordTable
+pub mod Every
+pub mod RowLaws
+pub mod Accepted
+pub mod Shown
+pub mod ShownLaws
+pub mod RoundTrip

@@ -5,6 +5,9 @@ pub mod Targets
 pub mod Edges
 pub mod PerNode
 pub mod Members
+pub mod NodeLaws
+pub mod TargetLaws
+pub mod EdgeBounds
 pub mod Reach
 pub mod Graph
 pub mod Run
