@@ -10,6 +10,8 @@ pub mod TargetLaws
 pub mod EdgeBounds
 pub mod Reach
 pub mod Graph
+pub mod Distinct
+pub mod GraphLaws
 pub mod Run
 pub mod ReturnLists
 pub mod Demand3
