@@ -10,9 +10,9 @@ use lib.ListN.{length}
 use Rattle.reader.specs.Listing.{Simple, CondWord, if, ifelse, rcomp, BranchForm, to, stmts, absent, Stmts, ∅, _▸_, branching, Lines, nolines, line, Listing, size, total, count}
 use Rattle.reader.specs.Rows.{rowOf, parsed, Content, endRow, stmtsRow, moduleRow, lineRow, toRow, simpleRow, condRow, contentOf}
 use Rattle.reader.specs.Read.{OpenCond, Branches, noBranch, oneBranch, twoBranches, Position, begin, inModule, ended, inStmts, inCond, Reading, start, goTo, oneMore, Outcome, taken, orRefused, check, atBegin, ascends, readLine, atModule, readSimple, readCond, numberOf, branched, endStmts, atStmts, mayFollow, nextBranch, condStmt, endCond, readTo, readStmts, atCond, readRow, listing, finish, readRows}
-use Rattle.reader.specs.ListingText.{endForm, simpleText, condText, branchRows, stmtRows, lineRows, listingRows, listed, SimpleOk, BranchOk, NoBranch, SecondOk, BranchesOk, StmtsOk, lastNumber, Above, LinesOk, InForm}
-use Rattle.reader.specs.Every.{All, all[], all∷}
-use Rattle.reader.specs.RowLaws.{noNewline, stmtsText, toText, RowLaws}
+use Rattle.reader.specs.ListingText.{endForm, simpleText, condText, branchRows, stmtRows, lineRows, listingRows, listed, SimpleOk, BranchOk, NoBranch, SecondOk, BranchesOk, StmtsOk, lastNumber, Above, LinesOk, InForm, stmtsText, toText}
+use Rattle.reader.specs.Every.{All, all[], all∷, noNewline}
+use Rattle.reader.specs.RowText.{cond-newline, cond-row, end-newline, end-row, line-newline, line-row, module-newline, module-row, simple-newline, simple-row, stmts-newline, stmts-row, to-newline, to-row}
 
 -- from one reading to another over rows without byte 10, each of them taken
 pub data Steps : Reading → List (List ℕ) → Reading → Type 0 where
@@ -63,7 +63,7 @@ first-ok if t a u b ok = ok .0
 first-ok ifelse t a u b ok = ok .0
 first-ok rcomp t a u b ok = ok .0
 
-module _ (rows : RowLaws) (r : Reading) where
+module _ (r : Reading) where
   recount : (q : Reading) (ws : List (List ℕ)) (n m : ℕ) (p : Position) → n ≡ m → Steps q ws (moved r n p) → Steps q ws (moved r m p)
   recount q ws n m p e h = subst (λ (k : ℕ). Steps q ws (moved r k p)) e h
 
@@ -71,14 +71,14 @@ module _ (rows : RowLaws) (r : Reading) where
       → Steps (moved r n (inStmts s fs)) (simpleText o ∷ []) (moved r (suc n) (inStmts (s ▸ o) fs))
   unfolding readRow atStmts orRefused readSimple oneMore
   simple-step s fs n o few deep ok short =
-      one (simpleRow (parsed (o, listed o))) (rows .simple-plain o ok) (rows .simple-row o ok)
+      one (simpleRow (parsed (o, listed o))) (simple-newline o ok) (simple-row o ok)
       (check-true (ltb n 4096) 6 _ (lt→ltb n 4096 few) ∙ check-true (leb (length fs) 16) 7 _ (le→leb (length fs) 16 deep) ∙ check-true (leb (listed o) 64) 8 _ (le→leb (listed o) 64 short))
 
   cond-step : (s : Stmts) (fs : List OpenCond) (n : ℕ) (k : CondWord) → n < 4096 → length fs ≤ 16
       → Steps (moved r n (inStmts s fs)) (condText k ∷ []) (moved r (suc n) (inCond s k noBranch fs))
   unfolding readRow atStmts readCond oneMore
   cond-step s fs n k few deep =
-      one (condRow k) (rows .cond-plain k) (rows .cond-row k)
+      one (condRow k) (cond-newline k) (cond-row k)
       (check-true (ltb n 4096) 6 _ (lt→ltb n 4096 few) ∙ check-true (leb (length fs) 16) 7 _ (le→leb (length fs) 16 deep))
 
   module _ (s : Stmts) (k : CondWord) (fs : List OpenCond) where
@@ -90,17 +90,17 @@ module _ (rows : RowLaws) (r : Reading) where
     to-step : (bs : Branches) (f : Option (BranchForm × Stmts)) (n m : ℕ) → nextBranch k bs ≡ mayFollow f → m ≤ 65535
         → Steps (moved r n (inCond s k bs fs)) (toText m ∷ []) (moved r n (inCond s k (branched f (to m, ∅)) fs))
     unfolding readRow atCond readTo orRefused goTo
-    to-step bs f n m e ok = one (toRow (parsed m)) (rows .to-plain m ok) (rows .to-row m ok) (rw (e, readTo))
+    to-step bs f n m e ok = one (toRow (parsed m)) (to-newline m) (to-row m ok) (rw (e, readTo))
 
     into-step : (bs : Branches) (f : Option (BranchForm × Stmts)) (n : ℕ) → nextBranch k bs ≡ mayFollow f
         → Steps (moved r n (inCond s k bs fs)) (stmtsText ∷ []) (moved r n (inStmts ∅ (record { before = s; word = k; first = f } ∷ fs)))
     unfolding readRow atCond readStmts goTo
-    into-step bs f n e = one stmtsRow (rows .stmts-plain) (rows .stmts-row) (rw (e, readStmts))
+    into-step bs f n e = one stmtsRow (stmts-newline) (stmts-row) (rw (e, readStmts))
 
     out-step : (f : Option (BranchForm × Stmts)) (n : ℕ) (a : Stmts)
         → Steps (moved r n (inStmts a (record { before = s; word = k; first = f } ∷ fs))) (endForm ∷ []) (moved r n (inCond s k (branched f (stmts, a)) fs))
     unfolding readRow atStmts endStmts goTo
-    out-step f n a = one endRow (rows .end-plain) (rows .end-row) refl
+    out-step f n a = one endRow (end-newline) (end-row) refl
 
     branch-steps : (bs : Branches) (f : Option (BranchForm × Stmts)) (n : ℕ) (t : BranchForm) (a : Stmts) → nextBranch k bs ≡ mayFollow f → BranchOk t a → Inner f n a
         → Steps (moved r n (inCond s k bs fs)) (branchRows t (stmtRows a)) (moved r (n + size a) (inCond s k (branched f (t, a)) fs))
@@ -114,7 +114,7 @@ module _ (rows : RowLaws) (r : Reading) where
     -- `)` after the branches
     end-step : (bs : Branches) (n : ℕ) (c : Stmts) → condStmt s k bs ≡ some c → Steps (moved r n (inCond s k bs fs)) (endForm ∷ []) (moved r n (inStmts c fs))
     unfolding readRow atCond endCond goTo
-    end-step bs n c e = one endRow (rows .end-plain) (rows .end-row) (rw (e, endCond))
+    end-step bs n c e = one endRow (end-newline) (end-row) (rw (e, endCond))
 
     -- no second branch
     none-steps : (n : ℕ) (t : BranchForm) (a b : Stmts) → condStmt s k (oneBranch (t, a)) ≡ some (branching s k t a absent ∅) → b ≡ ∅
@@ -168,25 +168,25 @@ unfolding Above ascends
 ascends-true n none a = tt
 ascends-true n (some m) a = lt→ltb m n a
 
-module _ (rows : RowLaws) (h : Bool) where
+module _ (h : Bool) where
   line-steps : (ls : Lines) → LinesOk ls → count ls ≤ 1024 → total ls ≤ 4096 → Steps (after h nolines) (lineRows ls) (after h ls)
   unfolding LinesOk lineRows lastNumber count total readRow atModule orRefused readLine atStmts endStmts numberOf
   line-steps nolines ok few little = rest
   line-steps (line ls n s) ok few little =
       let a = ascends-true n (lastNumber ls) (ok .2) in
       steps-append (line-steps ls (ok .0) (omega arith) (omega arith)) (
-      steps-append (one (lineRow (parsed n)) (rows .line-plain n (ok .1)) (rows .line-row n (ok .1))
+      steps-append (one (lineRow (parsed n)) (line-newline n) (line-row n (ok .1))
       (check-true (ascends n (lastNumber ls)) 4 _ a ∙ check-true (ltb (count ls) 1024) 5 _ (lt→ltb (count ls) 1024 few))) (
-      steps-append (stmt-steps rows (record { handlers = h; lines = ls; last = some n; lineCount = suc (count ls); stmtCount = 0; position = begin }) s [] (total ls) (ok .3) little)
-      (one endRow (rows .end-plain) (rows .end-row) refl)))
+      steps-append (stmt-steps (record { handlers = h; lines = ls; last = some n; lineCount = suc (count ls); stmtCount = 0; position = begin }) s [] (total ls) (ok .3) little)
+      (one endRow (end-newline) (end-row) refl)))
 
-pub listing-steps : RowLaws → (L : Listing) → InForm L → (q : Reading) × Steps start (listingRows L) q × (q .position ≡ ended) × (L ≡ record { handlers = q .handlers; lines = q .lines })
+pub listing-steps : (L : Listing) → InForm L → (q : Reading) × Steps start (listingRows L) q × (q .position ≡ ended) × (L ≡ record { handlers = q .handlers; lines = q .lines })
 unfolding listingRows start readRow atBegin atModule goTo lastNumber count total
-listing-steps rows L ok = (
+listing-steps L ok = (
   goTo (after (L .handlers) (L .lines)) ended,
-  steps-append (one (moduleRow (L .handlers)) (rows .module-plain (L .handlers)) (rows .module-row (L .handlers)) refl) (
-      steps-append (line-steps rows (L .handlers) (L .lines) (ok .lines) (ok .lineCount) (ok .stmtCount)) (
-      one endRow (rows .end-plain) (rows .end-row) refl)),
+  steps-append (one (moduleRow (L .handlers)) (module-newline (L .handlers)) (module-row (L .handlers)) refl) (
+      steps-append (line-steps (L .handlers) (L .lines) (ok .lines) (ok .lineCount) (ok .stmtCount)) (
+      one endRow (end-newline) (end-row) refl)),
   refl,
   refl,
 )

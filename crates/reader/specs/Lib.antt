@@ -5,7 +5,10 @@ pub mod Read
 pub mod ListingText
 pub mod WordTable
 pub mod Every
-pub mod RowLaws
+pub mod NumberText
+pub mod WordText
+pub mod RowForms
+pub mod RowText
 pub mod Accepted
 pub mod Shown
 pub mod ShownLaws

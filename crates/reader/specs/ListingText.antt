@@ -69,10 +69,26 @@ condText if = openForm (bytes "if") []
 condText ifelse = openForm (bytes "ifelse") []
 condText rcomp = openForm (bytes "rcomp") []
 
+abbrev pub stmtsText : List ℕ
+stmtsText = openForm (bytes "stmts") []
+
+abbrev pub toText : ℕ → List ℕ
+toText n = closedForm (bytes "to") (decimal n ∷ [])
+
+abbrev pub lineText : ℕ → List ℕ
+lineText n = openForm (bytes "line") (decimal n ∷ [])
+
+unfoldable pub handlerWord : Bool → List ℕ
+handlerWord false = bytes "0"
+handlerWord true = bytes "1"
+
+abbrev pub moduleText : Bool → List ℕ
+moduleText h = openForm (bytes "module") (handlerWord h ∷ [])
+
 -- the rows of a branch, of whose statements these are the rows
 unfoldable pub branchRows : BranchForm → List (List ℕ) → List (List ℕ)
-branchRows (to n) rs = closedForm (bytes "to") (decimal n ∷ []) ∷ []
-branchRows stmts rs = openForm (bytes "stmts") [] ∷ (rs ++ (endForm ∷ []))
+branchRows (to n) rs = toText n ∷ []
+branchRows stmts rs = stmtsText ∷ (rs ++ (endForm ∷ []))
 branchRows absent rs = []
 
 unfoldable pub stmtRows : Stmts → List (List ℕ)
@@ -82,14 +98,10 @@ stmtRows (branching s w t a u b) = stmtRows s ++ (condText w ∷ (branchRows t (
 
 unfoldable pub lineRows : Lines → List (List ℕ)
 lineRows nolines = []
-lineRows (line ls n s) = lineRows ls ++ (openForm (bytes "line") (decimal n ∷ []) ∷ (stmtRows s ++ (endForm ∷ [])))
-
-unfoldable pub handlerWord : Bool → List ℕ
-handlerWord false = bytes "0"
-handlerWord true = bytes "1"
+lineRows (line ls n s) = lineRows ls ++ (lineText n ∷ (stmtRows s ++ (endForm ∷ [])))
 
 unfoldable pub listingRows : Listing → List (List ℕ)
-listingRows L = openForm (bytes "module") (handlerWord (L .handlers) ∷ []) ∷ (lineRows (L .lines) ++ (endForm ∷ []))
+listingRows L = moduleText (L .handlers) ∷ (lineRows (L .lines) ++ (endForm ∷ []))
 
 -- "each row ended by byte 10"
 unfoldable pub textOf : List (List ℕ) → List ℕ

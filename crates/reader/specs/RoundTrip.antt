@@ -1,4 +1,4 @@
--- In form is accepted, and whatever is accepted is the text of a listing in form; the laws about single rows are the parameter `rows`. Assumes nothing.
+-- In form is accepted, and whatever is accepted is the text of a listing in form. Assumes nothing.
 use Prim.Native.Nat.{ℕ, suc, _≤_}
 use mathlib.Core.Path.{_≡_, refl, sym, ap, _∙_, subst}
 use mathlib.Core.List.{List, [], _∷_, _++_, append-assoc, append-nil}
@@ -11,9 +11,10 @@ use Rattle.reader.specs.Listing.{Listing, total, count}
 use Rattle.reader.specs.Rows.{split, rowOf, contentOf}
 use Rattle.reader.specs.Read.{Position, begin, inModule, ended, inStmts, inCond, Reading, start, Outcome, taken, refused, readRow, Answer, listing, refusal, finish, readRows, read}
 use Rattle.reader.specs.ListingText.{listingRows, textOf, listingText, LinesOk, InForm}
-use Rattle.reader.specs.RowLaws.{RowLaws}
+use Rattle.reader.specs.RowForms.{split-text, text-split}
+use Rattle.reader.specs.RowText.{content-text}
 use Rattle.reader.specs.Accepted.{steps-plain, steps-read, listing-steps}
-use Rattle.reader.specs.Shown.{positionRows, shown, positionSize, openLines, PositionOk, Good, Next, written}
+use Rattle.reader.specs.Shown.{positionRows, shown, positionSize, openLines, PositionOk, Good, Next}
 use Rattle.reader.specs.ShownLaws.{row-next}
 
 pick-true : {A : Type 0} (b : Bool) (x y : A) → T b → pick b x y ≡ x
@@ -50,38 +51,37 @@ good-start : Good start (start .position)
 unfolding start openLines positionSize PositionOk LinesOk total count
 good-start = record { lines = tt; lineSum = refl; lineMost = omega arith; stmtSum = refl; stmtMost = omega arith; place = (refl, refl) }
 
-module _ (rows : RowLaws) where
-  pub in-form-accepted : (L : Listing) → InForm L → read (listingText L) ≡ listing L
-  unfolding read listingText
-  in-form-accepted L ok =
-      let h = listing-steps rows L ok in
-      pick-true (leb (length (listingText L)) 65536) _ _ (le→leb (length (listingText L)) 65536 (ok .byteCount))
-      ∙ ap (readRows start 0) (rows .split-text (listingRows L) (steps-plain (h .1)))
-      ∙ steps-read (h .1) 0 (h .2)
-      ∙ ap listing (sym (h .3))
+pub in-form-accepted : (L : Listing) → InForm L → read (listingText L) ≡ listing L
+unfolding read listingText
+in-form-accepted L ok =
+    let h = listing-steps L ok in
+    pick-true (leb (length (listingText L)) 65536) _ _ (le→leb (length (listingText L)) 65536 (ok .byteCount))
+    ∙ ap (readRows start 0) (split-text (listingRows L) (steps-plain (h .1)))
+    ∙ steps-read (h .1) 0 (h .2)
+    ∙ ap listing (sym (h .3))
 
-  rows-read : (ps : List (List ℕ)) (r : Reading) (i : ℕ) → Good r (r .position) → Answered (shown r (r .position)) ps (readRows r i ps)
-  unfolding readRows Answered Next
-  rows-read [] r i g = tt
-  rows-read (w ∷ []) r i g = finish-read r i (r .position) w g
-  rows-read (w ∷ v ∷ ws) r i g =
-      go (readRow r (r .position) (contentOf (rowOf w))) (row-next r (r .position) (contentOf (rowOf w)) w (written rows w (contentOf (rowOf w)) refl) g) (λ q h. rows-read (v ∷ ws) q (suc i) h)
-    where
-      go : (o : Outcome Reading) → Next (shown r (r .position) ++ (w ∷ [])) o → ((q : Reading) → Good q (q .position) → Answered (shown q (q .position)) (v ∷ ws) (readRows q (suc i) (v ∷ ws)))
-          → Answered (shown r (r .position)) (w ∷ v ∷ ws) (elim o [ refused n ↦ refusal n i | taken q ↦ readRows q (suc i) (v ∷ ws) ])
-      go (refused n) h next = tt
-      go (taken q) h next = more-read (shown r (r .position)) (shown q (q .position)) (v ∷ ws) w (readRows q (suc i) (v ∷ ws)) (h .1) (next q (h .0))
+rows-read : (ps : List (List ℕ)) (r : Reading) (i : ℕ) → Good r (r .position) → Answered (shown r (r .position)) ps (readRows r i ps)
+unfolding readRows Answered Next
+rows-read [] r i g = tt
+rows-read (w ∷ []) r i g = finish-read r i (r .position) w g
+rows-read (w ∷ v ∷ ws) r i g =
+    go (readRow r (r .position) (contentOf (rowOf w))) (row-next r (r .position) (contentOf (rowOf w)) w (content-text w) g) (λ q h. rows-read (v ∷ ws) q (suc i) h)
+  where
+    go : (o : Outcome Reading) → Next (shown r (r .position) ++ (w ∷ [])) o → ((q : Reading) → Good q (q .position) → Answered (shown q (q .position)) (v ∷ ws) (readRows q (suc i) (v ∷ ws)))
+        → Answered (shown r (r .position)) (w ∷ v ∷ ws) (elim o [ refused n ↦ refusal n i | taken q ↦ readRows q (suc i) (v ∷ ws) ])
+    go (refused n) h next = tt
+    go (taken q) h next = more-read (shown r (r .position)) (shown q (q .position)) (v ∷ ws) w (readRows q (suc i) (v ∷ ws)) (h .1) (next q (h .0))
 
-  rows-accepted : (t : List ℕ) (L : Listing) → length t ≤ 65536 → Answered [] (split 10 t) (listing L) → InForm L × (t ≡ listingText L)
-  unfolding Answered listingText
-  rows-accepted t L few x =
-      let e : t ≡ listingText L = rows .text-split t (x .1 .0) (x .1 .1) ∙ ap textOf (x .1 .2) in
-      (record { lines = x .0 .lines; lineCount = x .0 .lineCount; stmtCount = x .0 .stmtCount; byteCount = subst (λ (l : List ℕ). length l ≤ 65536) e few }, e)
+rows-accepted : (t : List ℕ) (L : Listing) → length t ≤ 65536 → Answered [] (split 10 t) (listing L) → InForm L × (t ≡ listingText L)
+unfolding Answered listingText
+rows-accepted t L few x =
+    let e : t ≡ listingText L = text-split t (x .1 .0) (x .1 .1) ∙ ap textOf (x .1 .2) in
+    (record { lines = x .0 .lines; lineCount = x .0 .lineCount; stmtCount = x .0 .stmtCount; byteCount = subst (λ (l : List ℕ). length l ≤ 65536) e few }, e)
 
-  pub accepted-in-form : (t : List ℕ) (L : Listing) → read t ≡ listing L → InForm L × (t ≡ listingText L)
-  unfolding read start positionRows
-  accepted-in-form t L e = go (leb (length t) 65536) refl e
-    where
-      go : (b : Bool) → leb (length t) 65536 ≡ b → pick b (readRows start 0 (split 10 t)) (refusal 1 0) ≡ listing L → InForm L × (t ≡ listingText L)
-      go true h f = rows-accepted t L (leb→le (length t) 65536 (rw h tt)) (subst (Answered [] (split 10 t)) f (rows-read (split 10 t) start 0 good-start))
-      go false h f = let z : _≡_ {A = ℕ} 0 1 = cc in absurd (omega arith)
+pub accepted-in-form : (t : List ℕ) (L : Listing) → read t ≡ listing L → InForm L × (t ≡ listingText L)
+unfolding read start positionRows
+accepted-in-form t L e = go (leb (length t) 65536) refl e
+  where
+    go : (b : Bool) → leb (length t) 65536 ≡ b → pick b (readRows start 0 (split 10 t)) (refusal 1 0) ≡ listing L → InForm L × (t ≡ listingText L)
+    go true h f = rows-accepted t L (leb→le (length t) 65536 (rw h tt)) (subst (Answered [] (split 10 t)) f (rows-read (split 10 t) start 0 good-start))
+    go false h f = let z : _≡_ {A = ℕ} 0 1 = cc in absurd (omega arith)

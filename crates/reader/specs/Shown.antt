@@ -8,8 +8,7 @@ use lib.ListN.{length}
 use Rattle.reader.specs.Listing.{BranchForm, Stmts, Lines, nolines, size, total, count}
 use Rattle.reader.specs.Rows.{rowOf, malformed, invalid, parsed, Content, noForm, endRow, stmtsRow, moduleRow, lineRow, toRow, simpleRow, condRow, contentOf}
 use Rattle.reader.specs.Read.{OpenCond, Branches, noBranch, oneBranch, twoBranches, Position, begin, inModule, ended, inStmts, inCond, Reading, Outcome, taken, refused, numberOf}
-use Rattle.reader.specs.ListingText.{endForm, simpleText, condText, branchRows, stmtRows, lineRows, listed, SimpleOk, NumberOk, BranchOk, StmtsOk, lastNumber, Above, LinesOk}
-use Rattle.reader.specs.RowLaws.{stmtsText, toText, lineText, moduleText, RowLaws}
+use Rattle.reader.specs.ListingText.{endForm, simpleText, condText, branchRows, stmtRows, lineRows, listed, SimpleOk, NumberOk, BranchOk, StmtsOk, lastNumber, Above, LinesOk, stmtsText, toText, lineText, moduleText}
 
 -- ---- what was read, as rows
 
@@ -117,37 +116,3 @@ pub record Good (r : Reading) (p : Position) : Type 0 where
 unfoldable pub Next : List (List ℕ) → Outcome Reading → Type 0
 Next ws (taken q) = Good q (q .position) × (shown q (q .position) ≡ ws)
 Next ws (refused n) = Unit {0}
-
--- what row says so
-unfoldable pub Written : Content → List ℕ → Type 0
-Written noForm w = Unit {0}
-Written endRow w = w ≡ endForm
-Written stmtsRow w = w ≡ stmtsText
-Written (moduleRow h) w = w ≡ moduleText h
-Written (lineRow malformed) w = Unit {0}
-Written (lineRow invalid) w = Unit {0}
-Written (lineRow (parsed n)) w = (w ≡ lineText n) × (n ≤ 65535)
-Written (toRow malformed) w = Unit {0}
-Written (toRow invalid) w = Unit {0}
-Written (toRow (parsed n)) w = (w ≡ toText n) × (n ≤ 65535)
-Written (simpleRow malformed) w = Unit {0}
-Written (simpleRow invalid) w = Unit {0}
-Written (simpleRow (parsed d)) w = (w ≡ simpleText (d .0)) × SimpleOk (d .0) × (d .1 ≡ listed (d .0))
-Written (condRow k) w = w ≡ condText k
-
-pub written : RowLaws → (w : List ℕ) (c : Content) → contentOf (rowOf w) ≡ c → Written c w
-unfolding Written
-written rows w noForm e = tt
-written rows w endRow e = rows .row-end w e
-written rows w stmtsRow e = rows .row-stmts w e
-written rows w (moduleRow h) e = rows .row-module w h e
-written rows w (lineRow malformed) e = tt
-written rows w (lineRow invalid) e = tt
-written rows w (lineRow (parsed n)) e = rows .row-line w n e
-written rows w (toRow malformed) e = tt
-written rows w (toRow invalid) e = tt
-written rows w (toRow (parsed n)) e = rows .row-to w n e
-written rows w (simpleRow malformed) e = tt
-written rows w (simpleRow invalid) e = tt
-written rows w (simpleRow (parsed d)) e = rows .row-simple w d e
-written rows w (condRow k) e = rows .row-cond w k e

@@ -10,9 +10,10 @@ use lib.ListN.{length}
 use Rattle.reader.specs.Listing.{CondWord, if, ifelse, rcomp, BranchForm, to, stmts, absent, Stmts, ∅, branching, Lines, size, total, count}
 use Rattle.reader.specs.Rows.{Parse, malformed, invalid, parsed, Counted, Content, noForm, endRow, stmtsRow, moduleRow, lineRow, toRow, simpleRow, condRow}
 use Rattle.reader.specs.Read.{OpenCond, Branches, noBranch, oneBranch, twoBranches, Position, begin, inModule, ended, inStmts, inCond, Reading, goTo, oneMore, Outcome, taken, orRefused, check, atBegin, ascends, readLine, atModule, readSimple, readCond, numberOf, branched, endStmts, atStmts, NextBranch, noMore, mayFollow, nextBranch, condStmt, endCond, readTo, readStmts, atCond, readRow}
-use Rattle.reader.specs.ListingText.{endForm, simpleText, condText, branchRows, stmtRows, lineRows, listed, SimpleOk, BranchOk, NoBranch, SecondOk, BranchesOk, StmtsOk, lastNumber, Above, LinesOk}
-use Rattle.reader.specs.RowLaws.{stmtsText, lineText, moduleText}
-use Rattle.reader.specs.Shown.{Branch, rowsOf, firstRows, branchesRows, openRows, lineShown, positionRows, shown, firstSize, branchesSize, openSize, positionSize, openLines, ReadOk, FirstOk, AllRead, OpenOk, PositionOk, Good, Next, Written}
+use Rattle.reader.specs.ListingText.{endForm, simpleText, condText, branchRows, stmtRows, lineRows, listed, SimpleOk, BranchOk, NoBranch, SecondOk, BranchesOk, StmtsOk, lastNumber, Above, LinesOk, stmtsText, lineText, moduleText}
+use Rattle.reader.specs.NumberText.{IfParsed}
+use Rattle.reader.specs.RowText.{ContentText}
+use Rattle.reader.specs.Shown.{Branch, rowsOf, firstRows, branchesRows, openRows, lineShown, positionRows, shown, firstSize, branchesSize, openSize, positionSize, openLines, ReadOk, FirstOk, AllRead, OpenOk, PositionOk, Good, Next}
 
 check-next : (ws : List (List ℕ)) (b : Bool) (n : ℕ) (o : Outcome Reading) → (T b → Next ws o) → Next ws (check b n o)
 unfolding check Next
@@ -66,8 +67,8 @@ second-ok absent b x = absurd x
 
 -- ---- where a row stands
 
-begin-next : (r : Reading) (c : Content) (w : List ℕ) → Written c w → Good r begin → Next (shown r begin ++ (w ∷ [])) (atBegin r c)
-unfolding atBegin Next Written positionRows openLines positionSize PositionOk lastNumber lineRows
+begin-next : (r : Reading) (c : Content) (w : List ℕ) → ContentText w c → Good r begin → Next (shown r begin ++ (w ∷ [])) (atBegin r c)
+unfolding atBegin Next positionRows openLines positionSize PositionOk lastNumber lineRows
 begin-next r noForm w x g = tt
 begin-next r endRow w x g = tt
 begin-next r stmtsRow w x g = tt
@@ -96,8 +97,8 @@ line-next r n w x y g =
       rw x,
     )
 
-module-next : (r : Reading) (c : Content) (w : List ℕ) → Written c w → Good r inModule → Next (shown r inModule ++ (w ∷ [])) (atModule r c)
-unfolding atModule Next Written orRefused goTo positionRows openLines positionSize PositionOk
+module-next : (r : Reading) (c : Content) (w : List ℕ) → ContentText w c → Good r inModule → Next (shown r inModule ++ (w ∷ [])) (atModule r c)
+unfolding atModule Next IfParsed orRefused goTo positionRows openLines positionSize PositionOk
 module-next r noForm w x g = tt
 module-next r endRow w x g =
     (record { lines = g .lines; lineSum = g .lineSum; lineMost = g .lineMost; stmtSum = g .stmtSum; stmtMost = g .stmtMost; place = tt }, rw x)
@@ -172,8 +173,8 @@ end-next r s (f ∷ fs) w x g =
       line-more (r .handlers) (r .lines) (r .last) _ _ w (rw (x, branched-rows) (simp append-assoc)),
     )
 
-stmts-next : (r : Reading) (s : Stmts) (fs : List OpenCond) (c : Content) (w : List ℕ) → Written c w → Good r (inStmts s fs) → Next (shown r (inStmts s fs) ++ (w ∷ [])) (atStmts r s fs c)
-unfolding atStmts Next Written orRefused
+stmts-next : (r : Reading) (s : Stmts) (fs : List OpenCond) (c : Content) (w : List ℕ) → ContentText w c → Good r (inStmts s fs) → Next (shown r (inStmts s fs) ++ (w ∷ [])) (atStmts r s fs c)
+unfolding atStmts Next IfParsed orRefused
 stmts-next r s fs noForm w x g = tt
 stmts-next r s fs endRow w x g = end-next r s fs w x g
 stmts-next r s fs stmtsRow w x g = tt
@@ -186,8 +187,8 @@ stmts-next r s fs (simpleRow (parsed d)) w x g = simple-next r s fs d w (x .0) (
 stmts-next r s fs (condRow k) w x g = cond-next r s fs k w x g
 
 module _ (r : Reading) (s : Stmts) (k : CondWord) (bs : Branches) (fs : List OpenCond) (w : List ℕ) (g : Good r (inCond s k bs fs)) where
-  to-next : (f : NextBranch) (n : Parse ℕ) → Follows (length fs) bs f → Written (toRow n) w → Next (shown r (inCond s k bs fs) ++ (w ∷ [])) (readTo r s k fs f n)
-  unfolding readTo Next Written orRefused goTo Follows positionRows openLines positionSize PositionOk BranchOk StmtsOk branchRows stmtRows size
+  to-next : (f : NextBranch) (n : Parse ℕ) → Follows (length fs) bs f → ContentText w (toRow n) → Next (shown r (inCond s k bs fs) ++ (w ∷ [])) (readTo r s k fs f n)
+  unfolding readTo Next IfParsed orRefused goTo Follows positionRows openLines positionSize PositionOk BranchOk StmtsOk branchRows stmtRows size
   to-next noMore n h x = tt
   to-next (mayFollow f) malformed h x = tt
   to-next (mayFollow f) invalid h x = tt
@@ -250,9 +251,9 @@ close-next r s ifelse (twoBranches a b) fs w x g =
 close-next r s rcomp (twoBranches a b) fs w x g =
     let h = g .place .4 in whole-next r s rcomp (twoBranches a b) fs w g (a .0) (a .1) (b .0) (b .1) x (h .0 .0, second-ok (b .0) (b .1) (h .1 .0)) (h .0 .1) (h .1 .1) refl refl
 
-conds-next : (r : Reading) (s : Stmts) (k : CondWord) (bs : Branches) (fs : List OpenCond) (c : Content) (w : List ℕ) → Written c w → Good r (inCond s k bs fs)
+conds-next : (r : Reading) (s : Stmts) (k : CondWord) (bs : Branches) (fs : List OpenCond) (c : Content) (w : List ℕ) → ContentText w c → Good r (inCond s k bs fs)
     → Next (shown r (inCond s k bs fs) ++ (w ∷ [])) (atCond r s k bs fs c)
-unfolding atCond Next Written PositionOk
+unfolding atCond Next PositionOk
 conds-next r s k bs fs noForm w x g = tt
 conds-next r s k bs fs endRow w x g = close-next r s k bs fs w x g
 conds-next r s k bs fs stmtsRow w x g = into-next r s k bs fs w g (nextBranch k bs) (follows (length fs) k bs (g .place .4)) x
@@ -263,7 +264,7 @@ conds-next r s k bs fs (simpleRow o) w x g = tt
 conds-next r s k bs fs (condRow j) w x g = tt
 
 -- a row taken is added at the end
-pub row-next : (r : Reading) (p : Position) (c : Content) (w : List ℕ) → Written c w → Good r p → Next (shown r p ++ (w ∷ [])) (readRow r p c)
+pub row-next : (r : Reading) (p : Position) (c : Content) (w : List ℕ) → ContentText w c → Good r p → Next (shown r p ++ (w ∷ [])) (readRow r p c)
 unfolding readRow Next
 row-next r begin c w x g = begin-next r c w x g
 row-next r inModule c w x g = module-next r c w x g

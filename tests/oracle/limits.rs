@@ -1,0 +1,264 @@
+//! Listings at the limits. The first `SHAPES.len()` are fixed; further ones repeat the shapes
+//! with seeded changes.
+
+use crate::listing::{Branch, Form, Line, Listing};
+use crate::lower;
+use crate::random::Random;
+use std::collections::HashSet;
+use std::hash::{DefaultHasher, Hash, Hasher};
+
+type Shape = fn() -> Listing;
+
+const SHAPES: [Shape; 30] = [
+    || plain(1_024, 4),
+    || any(32, 1_024, 0),
+    || any(32, 1_024, 1),
+    || calls(180, 176, false, false),
+    || calls(180, 176, true, false),
+    || calls(180, 176, false, true),
+    || calls(3_500, 8, false, false),
+    || calls(3_500, 8, false, true),
+    || many_returns(2_000, 1_000),
+    || calls(2_048, 2_046, false, true),
+    || regions(0),
+    || regions(9),
+    || regions(200),
+    || slots(78, 450, "plain", "static"),
+    || slots(60, 450, "orphan", "dispatched"),
+    || slots(90, 440, "orphan", "dispatched"),
+    || elses(4_093),
+    || listing(vec![vec![bare("any"); 4]; 1_024]),
+    || deep(16, 1),
+    || deep(16, 150),
+    || names(2_000, false),
+    || names(2_000, true),
+    || frames("repeat", "until"),
+    || frames("loop", "endloop"),
+    || exits(4_093),
+    || numbers(),
+    || listing(vec![Vec::new(); 1_024]),
+    last_line_only,
+    || padded(65_536),
+    spread_numbers,
+];
+
+pub fn listing_text(index: u64, random: &mut Random) -> Vec<u8> {
+    let count = SHAPES.len() as u64;
+    let mut found = SHAPES[(index % count) as usize]();
+    if index >= count {
+        vary(&mut found, random);
+    }
+    found.text()
+}
+
+/// Changes some statements to others of no more bytes; the limits stay kept.
+fn vary(listing: &mut Listing, random: &mut Random) {
+    let share = *random.pick(&[1, 5, 20]);
+    for line in &mut listing.lines {
+        for form in &mut line.body {
+            if random.chance(share) {
+                let word = *random.pick(&["exit", "else", "done", "loop", "any", "clr", "stop"]);
+                let other = bare(word);
+                if matches!(form, Form::Bare("plain") | Form::Gosub(_) | Form::Next(..)) {
+                    *form = other;
+                }
+            }
+        }
+    }
+    let possible = lower::handler_room(listing) > 0;
+    listing.handlers = possible && (listing.handlers || random.chance(20));
+}
+
+fn bare(word: &'static str) -> Form {
+    Form::Bare(word)
+}
+
+/// Lines numbered from 0.
+fn listing(bodies: Vec<Vec<Form>>) -> Listing {
+    let numbered = bodies.into_iter().zip(0..);
+    let lines = numbered.map(|(body, number)| Line { number, body }).collect();
+    Listing { handlers: false, lines }
+}
+
+fn plain(lines: usize, each: usize) -> Listing {
+    listing(vec![vec![bare("plain"); each]; lines])
+}
+
+/// `count` computed jumps over `lines` entries, and some edges more.
+fn any(count: usize, lines: usize, more: usize) -> Listing {
+    let word = |i| if i < count { "any" } else { "stop" };
+    let mut bodies: Vec<Vec<Form>> = (0..lines).map(|i| vec![bare(word(i))]).collect();
+    (0..more).for_each(|i| bodies[lines - 1 - i] = vec![Form::Goto(0)]);
+    listing(bodies)
+}
+
+/// Calls of one routine with many RETURNs, through one entry or through many.
+fn calls(calls: usize, returns: usize, entries: bool, handlers: bool) -> Listing {
+    let routine = 1_000;
+    let mut lines: Vec<Line> = Vec::new();
+    let target = |i: usize| if entries { 100 + i as u16 } else { routine };
+    let mut body: Vec<Form> = (0..calls).map(|i| Form::Gosub(target(i))).collect();
+    body.push(bare(if handlers { "plain" } else { "stop" }));
+    lines.push(Line { number: 0, body });
+    if entries {
+        lines.extend((0..calls).map(|i| {
+            Line { number: 100 + i as u16, body: vec![Form::Goto(routine)] }
+        }));
+    }
+    // Each RETURN in an IF of its own is reached; where there is no room for IFs, one is.
+    let inner = || Form::If(Branch::Stmts(vec![bare("return")]));
+    let roomy = calls + 2 * returns + 2 + lines.len() <= 4_096;
+    let body = if roomy {
+        (1..returns).map(|_| inner()).chain([bare("return")]).collect()
+    } else {
+        vec![bare("return"); returns]
+    };
+    lines.push(Line { number: routine, body });
+    Listing { handlers, lines }
+}
+
+/// RETURNs in lines of their own, all reached by one computed jump.
+fn many_returns(calls: usize, returns: usize) -> Listing {
+    let mut bodies = vec![vec![Form::Gosub(1); calls], vec![bare("any")]];
+    bodies.extend(vec![vec![bare("return")]; returns]);
+    listing(bodies)
+}
+
+/// 1,024 entries, each called, over 3,000 nodes; `jumps` of the statements go anywhere.
+fn regions(jumps: usize) -> Listing {
+    let mut bodies: Vec<Vec<Form>> = Vec::new();
+    for i in 0..1_024u16 {
+        let jump = jumps > 0 && usize::from(i) % (1_024 / jumps) == 0;
+        let third = if i == 1_023 { "return" } else if jump { "any" } else { "plain" };
+        bodies.push(vec![Form::Gosub(i), bare("plain"), bare(third)]);
+    }
+    listing(bodies)
+}
+
+/// FORs, then NEXTs of 64 slots without a name.
+fn slots(fors: usize, nexts: usize, mark: &str, tier: &str) -> Listing {
+    let names = distinct(fors);
+    let mut body: Vec<Form> =
+        names.into_iter().map(|name| Form::For(name, tier.to_string())).collect();
+    body.extend(vec![Form::Next(mark.to_string(), vec![None; 64]); nexts]);
+    listing(vec![body])
+}
+
+fn elses(count: usize) -> Listing {
+    let mut body = vec![bare("doif")];
+    body.extend(vec![bare("else"); count]);
+    body.extend([bare("done"), bare("stop")]);
+    listing(vec![body])
+}
+
+/// Branches inside branches, `copies` of them.
+fn deep(depth: usize, copies: usize) -> Listing {
+    let words = ["for", "repeat", "doif", "gosub", "next", "until", "done", "return"];
+    let mut bodies = Vec::new();
+    for copy in 0..copies {
+        let mut body = vec![bare("plain")];
+        for level in 0..depth {
+            let form = match words[(copy + level) % words.len()] {
+                "for" => Form::For("I".to_string(), "dispatched".to_string()),
+                "next" => Form::Next("orphan".to_string(), vec![None]),
+                "gosub" => Form::Gosub(0),
+                word => bare(crate::listing::BARE.iter().find(|b| **b == word).unwrap()),
+            };
+            let inner = Branch::Stmts(body);
+            body = match (copy + level) % 3 {
+                0 => vec![Form::If(inner)],
+                1 => vec![Form::IfElse(Branch::To(copy as u16), inner)],
+                _ => vec![Form::Rcomp(inner, None)],
+            };
+            // A listing of many copies has room for the holders alone.
+            if copies == 1 || level % 4 == 0 {
+                body.push(form);
+            }
+        }
+        bodies.push(body);
+    }
+    listing(bodies)
+}
+
+/// Many open FORs, closed one by one from the top, or all at once by the first name.
+fn names(count: usize, at_once: bool) -> Listing {
+    let names = distinct(count);
+    let open = names.iter().map(|n| Form::For(n.clone(), "framed".to_string()));
+    let mut body: Vec<Form> = open.collect();
+    let close = |n: &String| Form::Next("plain".to_string(), vec![Some(n.clone())]);
+    if at_once {
+        body.extend(names[..1].iter().map(close));
+        body.push(Form::Next("plain".to_string(), vec![None]));
+    } else {
+        body.extend(names.iter().rev().take(1_500).map(close));
+    }
+    listing(vec![body])
+}
+
+/// Names without a suffix whose 16-bit hashes differ in the original, as its domain asks.
+fn distinct(count: usize) -> Vec<String> {
+    let digits = "0123456789ABCDEFGHIJKLMNOPQRSTUVWXYZ".as_bytes();
+    let mut seen = HashSet::new();
+    let letters = (0..).map(|i: usize| {
+        let (a, b, c) = (i / 1_296 % 26 + 10, i / 36 % 36, i % 36);
+        String::from_utf8(vec![digits[a], digits[b], digits[c]]).expect("letters")
+    });
+    letters
+        .filter(|name| {
+            let mut hasher = DefaultHasher::new();
+            name.hash(&mut hasher);
+            seen.insert(hasher.finish() as u16)
+        })
+        .take(count)
+        .collect()
+}
+
+fn frames(open: &'static str, close: &'static str) -> Listing {
+    let mut body = vec![bare(open); 2_047];
+    body.extend(vec![bare("exitif"); 1]);
+    body.extend(vec![bare(close); 2_047]);
+    body.push(bare("stop"));
+    listing(vec![body])
+}
+
+fn exits(count: usize) -> Listing {
+    let mut body = vec![bare("loop")];
+    body.extend(vec![bare("exitif"); count]);
+    body.extend([bare("endloop"), bare("stop")]);
+    listing(vec![body])
+}
+
+/// Statements of 64 numbers over 64 lines.
+fn numbers() -> Listing {
+    let all: Vec<u16> = (0..64).collect();
+    let form = |i| if i % 2 == 0 { Form::OnGoto(all.clone()) } else { Form::OnGosub(all.clone()) };
+    listing((0..64).map(|i| (0..5).map(|j| form(i + j)).collect()).collect())
+}
+
+fn last_line_only() -> Listing {
+    let mut bodies = vec![Vec::new(); 1_024];
+    bodies[1_023] = vec![bare("any"), Form::Goto(0), Form::Gosub(500), bare("return")];
+    listing(bodies)
+}
+
+/// A listing of exactly so many bytes.
+fn padded(bytes: usize) -> Listing {
+    let wide = Form::OnGoto(vec![0; 64]);
+    let mut found = listing(vec![vec![wide; 430], Vec::new()]);
+    // Rows of 8 and of 9 bytes make up every length from 56 on.
+    let left = bytes - found.text().len();
+    let nines = left % 8;
+    found.lines[1].body.extend(vec![bare("return"); nines]);
+    found.lines[1].body.extend(vec![bare("plain"); (left - 9 * nines) / 8]);
+    assert_eq!(found.text().len(), bytes);
+    found
+}
+
+/// Numbers up to 65535, far apart.
+fn spread_numbers() -> Listing {
+    let lines = (0..1_024u32).map(|i| Line {
+        number: (i * 64 + 63) as u16,
+        body: vec![Form::Goto((i * 7 % 1_024 * 64 + 63) as u16), Form::Gosub(65_535)],
+    });
+    Listing { handlers: false, lines: lines.collect() }
+}
