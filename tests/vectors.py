@@ -26,6 +26,8 @@ SEED = 6375
 PER_TABLE = 60
 # The checker computes every vector, so they are kept small.
 MOST_NODES, MOST_BYTES, MOST_DAMAGED_BYTES = 12, 400, 600
+# Listings with questions, and how many frame lists of each.
+ASKED_LISTINGS, MOST_FRAMES = 60, 40
 # How often each refusal stands among 240 damaged texts; 1, 5 and 6 need long texts.
 SHARES = {2: 120, 3: 50, 4: 30, 7: 15, 8: 25}
 
@@ -34,8 +36,9 @@ SHARES = {2: 120, 3: 50, 4: 30, 7: 15, 8: 25}
 TABLE = """\
 -- {comment}. Assumes nothing.
 use mathlib.Core.List.{{List, [], _∷_}}
+use mathlib.Core.Bool.{{true, false}}
 use lib.Dec.{{T}}
-use Rattle.wiring.specs.Vectors.{{{vector}, {right}, opened}}
+use Rattle.vectors.specs.Vector.{{{vector}, {right}, opened{more}}}
 
 table : List {vector}
 table =
@@ -45,8 +48,9 @@ right-table : T ({right} table)
 unfolding opened {right} table
 right-table = tt
 """
-STRINGS = {"vector": "Vector", "right": "right"}
-BYTES = {"vector": "BytesVector", "right": "rightBytes"}
+STRINGS = {"vector": "Vector", "right": "right", "more": ""}
+BYTES = {"vector": "BytesVector", "right": "rightBytes", "more": ""}
+ASKS = {"vector": "AskVector", "right": "rightAsks", "more": ", word, frame"}
 
 ROW = re.compile(r'    record \{ text = (.*); writes = "((?:[^"\\]|\\.)*)" \} ∷$')
 
@@ -87,11 +91,36 @@ def write_tables(folder, name, comment, vectors):
             print(f"{os.path.basename(path)}: {len(part[start:start + PER_TABLE])} vectors")
 
 
+def ask_rows(answers, most):
+    """The questions of one listing: every opening word, and at most so many frame lists, spread over all of them."""
+    words = re.findall(r"^\(stmt (\d+) (\S+)\)$", answers, re.M)
+    frames = re.findall(r"^\(frame (\d+) (\d+) (\S+) ([01]) \(([\d ]*)\)\)$", answers, re.M)
+    if len(words) + len(frames) != answers.count("\n"):
+        raise SystemExit(f"an answer that is no question's: {answers[:200]!r}")
+    step = max(1, -(-len(frames) // most))
+    for node, word in words:
+        yield f'word {node} "{word}"'
+    for header, node, name, flag, ids in frames[::step]:
+        listed = " ∷ ".join(ids.split() + ["[]"])
+        yield f'frame {header} {node} "{name}" {("false", "true")[int(flag)]} ({listed})'
+
+
+def write_asks(folder, name, oracle, texts):
+    rows = ""
+    for text, answers in zip(texts, ask(oracle, ["frames"], texts)):
+        asks = " ∷ ".join([*ask_rows(answers.decode("ascii"), MOST_FRAMES), "[]"])
+        rows += f"    record {{ text = {quoted(text)}; asks = {asks} }} ∷\n"
+    path = os.path.join(folder, f"{name}1.antt")
+    with open(path, "w", encoding="utf-8") as out:
+        out.write(TABLE.format(comment="Random listings with the original's opening words and frame lists", rows=rows, **ASKS))
+    print(f"{os.path.basename(path)}: {len(texts)} listings, {rows.count(' frame ')} frame lists")
+
+
 def read_table(path):
     """The (text, writes) pairs of a table file."""
     with open(path, encoding="utf-8") as table:
         for line in table:
-            if not line.lstrip().startswith("record "):
+            if not line.startswith("    record {") or "; asks = " in line:
                 continue
             found = ROW.match(line.rstrip("\n"))
             if not found:
@@ -101,6 +130,28 @@ def read_table(path):
                 yield unquoted(text[1:-1]), unquoted(answer)
             else:
                 yield bytes(int(n) for n in text.split(" ∷ ")[:-1]), unquoted(answer)
+
+
+def read_asks(path):
+    """The (text, questions) pairs of a table file."""
+    with open(path, encoding="utf-8") as table:
+        for line in table:
+            if "; asks = " in line:
+                text, asks = line.strip()[len('record { text = "'):-len(" } ∷")].split('"; asks = ')
+                yield unquoted(text), re.findall(r'(?:word \d+ "\w+"|frame [^()]*\([^()]*\))', asks)
+
+
+def judge_asks(oracle, paths):
+    """How many stored questions the original answers otherwise, of how many."""
+    stored = [pair for path in tables(paths) for pair in read_asks(path)]
+    wrong = 0
+    for (text, asks), answers in zip(stored, ask(oracle, ["frames"], [text for text, _ in stored])):
+        found = set(ask_rows(answers.decode("ascii"), 10**9))
+        for row in asks:
+            if row not in found:
+                wrong += 1
+                print(f"{text!r}\n  stored {row}")
+    return wrong, sum(len(asks) for _, asks in stored)
 
 
 def tables(paths):
@@ -169,6 +220,7 @@ def random_tables(oracle, seed, n_listings, n_damaged, folder):
     chosen = enough(listings(oracle, texts, n_listings), n_listings, "listings")
     comment = "Random listings with the original's graphs"
     write_tables(folder, "Listings", comment, chosen)
+    write_asks(folder, "Frames", oracle, [text for text, _ in chosen[:ASKED_LISTINGS]])
     texts = generated(oracle, "damaged", seed, 60 * n_damaged + 2000)
     chosen = enough(damaged(texts, n_damaged), n_damaged, "damaged texts")
     comment = "Damaged texts with the refusals of a second reading of document 01"
@@ -224,9 +276,11 @@ def judge_tables(paths):
         print(f"{path}: {text!r}\n  stored {stored!r}\n  found  {found!r}")
     graphs = f"{len(accepted)} graphs" if oracle else f"{len(accepted)} graphs NOT compared"
     print(f"vectors: {len(refusals)} refusals, {graphs}, {len(wrong)} different")
+    other, asks = judge_asks(oracle, paths) if oracle else (0, "no")
+    print(f"questions: {asks} compared, {other} different")
     if not vectors:
         raise SystemExit("no vectors found")
-    return 1 if wrong else 0
+    return 1 if wrong or other else 0
 
 
 def main():
