@@ -34,7 +34,7 @@ pub kept-same : (hs l : List ℕ) (i : ℕ) → i < length l → has (getD l i 0
 unfolding kept
 kept-same hs l i h e =
     let q : length (keep (λ s. has s hs) (take (suc i) l)) ≡ length (keep (λ s. has s hs) (take i l)) + 0
-          = keep-next (λ s. has s hs) l i h ∙ ap (λ (x : Bool). length (keep (λ s. has s hs) (take i l)) + pick x 1 0) e in
+    = keep-next (λ s. has s hs) l i h ∙ ap (λ (x : Bool). length (keep (λ s. has s hs) (take i l)) + pick x 1 0) e in
     omega arith
 
 pub kept-none : (hs l : List ℕ) → _≡_ {A = ℕ} (length (kept hs (take 0 l))) 0

@@ -1,64 +1,11 @@
 -- C1 to C12 of document 01 in one table, and one claim for all of them. Assumes nothing.
-use Prim.Native.Nat.{ℕ, zero, suc}
+use Prim.Native.Nat.{ℕ}
 use Prim.Native.String.{String}
 use mathlib.Core.List.{List, [], _∷_, _++_}
-use mathlib.Core.Option.{Option, none, some}
-use mathlib.Core.Bool.{Bool, true, false, _&&_}
-use lib.Dec.{T, eqb}
-use lib.ListN.{length}
-use Rattle.reader.specs.Bytes.{bytes, same}
-use Rattle.reader.specs.Listing.{Listing}
-use Rattle.reader.specs.Read.{Answer, listing, refusal, read}
-use Rattle.wiring.specs.Lists.{list}
-use Rattle.wiring.specs.Nodes.{nodes, entries, entryOf}
-use Rattle.wiring.specs.Graph.{wire, successors, continuation}
-use Rattle.wiring.specs.Build.{flowlist}
-use Rattle.wiring.specs.Opened.{opened}
-
--- what is claimed of a listing: how many nodes, a line's entry, the lists of nodes 0, 1, .., a node's list, a node's continuation
-data Claim : Type 0 where
-  count-is : ℕ → Claim
-  entry-is : ℕ → Option ℕ → Claim
-  lists-are : List (List ℕ) → Claim
-  list-is : ℕ → List ℕ → Claim
-  continuation-is : ℕ → Option ℕ → Claim
-
-listsFrom : Listing → ℕ → List (List ℕ) → Bool
-listsFrom L i [] = true
-listsFrom L i (l ∷ ls) = same (successors L i) l && listsFrom L (suc i) ls
-
-holds : Listing → Claim → Bool
-holds L (count-is n) = eqb (length (nodes (L .lines))) n
-holds L (entry-is n e) = same (list (entryOf (entries (L .lines)) n)) (list e)
-holds L (lists-are ls) = eqb (length (nodes (L .lines))) (length ls) && listsFrom L 0 ls
-holds L (list-is i l) = same (successors L i) l
-holds L (continuation-is i e) = same (continuation (wire L) i) (list e)
-
-hold : Listing → List Claim → Bool
-hold L [] = true
-hold L (c ∷ cs) = holds L c && hold L cs
-
--- a text that is read holds the claims; a text that is refused holds none
-holdOf : Answer → List Claim → Bool
-holdOf (listing L) cs = hold L cs
-holdOf (refusal n p) cs = false
-
--- a text with claims, or with what `flowlist` writes for it
-data Case : Type 0 where
-  claims : List ℕ → List Claim → Case
-  writes : List ℕ → List ℕ → Case
-
-right : Case → Bool
-right (claims t cs) = holdOf (read t) cs
-right (writes t o) = same (flowlist t) o
-
-allRight : List Case → Bool
-allRight [] = true
-allRight (c ∷ cs) = right c && allRight cs
-
--- a listing of one line, number 10
-one : String → List ℕ
-one s = bytes "(module 0\n(line 10\n" ++ bytes s ++ bytes ")\n)\n"
+use mathlib.Core.Option.{none, some}
+use lib.Dec.{T}
+use Rattle.reader.specs.Bytes.{bytes}
+use Rattle.wiring.specs.CaseTable.{count-is, entry-is, lists-are, list-is, continuation-is, Case, claims, writes, allRight, one, opened}
 
 -- C10, by its handler fact
 c10 : String → List ℕ
@@ -97,10 +44,10 @@ cases =
     ∷ claims (one "(gosub 10)\n") (lists-are ((0 ∷ []) ∷ []) ∷ continuation-is 0 none ∷ [])
     -- C12
     ∷ writes
-      (bytes "(module 0\n(line 10\n(gosub 100)\n(plain)\n)\n(line 20\n(stop)\n)\n(line 100\n(if\n(to 20)\n)\n(return)\n)\n)\n")
-      (bytes "(graph 0 5\n(node 0 10 0 (0) (succ 3) (pred))\n(node 1 10 0 (1) (succ 2) (pred 4))\n(node 2 20 1 (0) (succ) (pred 1 3))\n(node 3 100 2 (0) (succ 2 4) (pred 0))\n(node 4 100 2 (1) (succ 1) (pred 3))\n(entry 10 0)\n(entry 20 2)\n(entry 100 3)\n(returns 1)\n(back 0 1)\n)\n")
+    (bytes "(module 0\n(line 10\n(gosub 100)\n(plain)\n)\n(line 20\n(stop)\n)\n(line 100\n(if\n(to 20)\n)\n(return)\n)\n)\n")
+    (bytes "(graph 0 5\n(node 0 10 0 (0) (succ 3) (pred))\n(node 1 10 0 (1) (succ 2) (pred 4))\n(node 2 20 1 (0) (succ) (pred 1 3))\n(node 3 100 2 (0) (succ 2 4) (pred 0))\n(node 4 100 2 (1) (succ 1) (pred 3))\n(entry 10 0)\n(entry 20 2)\n(entry 100 3)\n(returns 1)\n(back 0 1)\n)\n")
     ∷ []
 
 C1-to-C12 : T (allRight cases)
-unfolding opened listsFrom holds hold holdOf right allRight one c10 cases
+unfolding opened c10 cases
 C1-to-C12 = tt

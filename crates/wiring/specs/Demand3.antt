@@ -75,16 +75,17 @@ module _ (W : Wired) where
   unfolding movesBy skipStepsBy closeCall
   moves-ok (call m ts) n cs e b v g grow {t} mem =
       elim (List·Memᴰ·append-cases (toward (n ∷ cs) (calleesBy (W .entries) (call m ts))) mem) [
-        inl i ↦ let d = toward-mem (n ∷ cs) (calleesBy (W .entries) (call m ts)) i in
-          (subst (λ (s : State). Inv (s .node) (s .calls)) (sym (d .2)) ((d .0, g (d .0) (d .1), here), v), λ x. absurd x)
-      | inr i ↦ let d = toward-mem cs (mayFall m e) i in
-          (subst (λ (s : State). Inv (s .node) (s .calls)) (sym (d .2)) (grow (d .0) (falling m e (d .0) (d .1))), λ x. absurd x)
+        | inl i ↦ let d = toward-mem (n ∷ cs) (calleesBy (W .entries) (call m ts)) i in
+            (subst (λ (s : State). Inv (s .node) (s .calls)) (sym (d .2)) ((d .0, g (d .0) (d .1), here), v), λ x. absurd x)
+        | inr i ↦ let d = toward-mem cs (mayFall m e) i in
+            (subst (λ (s : State). Inv (s .node) (s .calls)) (sym (d .2)) (grow (d .0) (falling m e (d .0) (d .1))), λ x. absurd x)
       ]
   moves-ok returns n [] e b v g grow mem = absurd (List·Memᴰ·not-nil mem)
   moves-ok returns n (c ∷ cs) e b v g grow {t} mem =
-      let d = toward-mem cs (continuation W c) mem in
-      (subst (λ (s : State). Inv (s .node) (s .calls)) (sym (d .2)) (extend c cs (v .1) (d .0) (cont-skip c (d .0) (d .1))),
-      λ x. subst (λ (s : State). Returns W n (s .node)) (sym (d .2)) (record { caller = c; callee = v .0 .0; continues = d .1; exists = v .0 .1; skips = v .0 .2 }))
+      let d = toward-mem cs (continuation W c) mem in (
+        subst (λ (s : State). Inv (s .node) (s .calls)) (sym (d .2)) (extend c cs (v .1) (d .0) (cont-skip c (d .0) (d .1))),
+        λ x. subst (λ (s : State). Returns W n (s .node)) (sym (d .2)) (record { caller = c; callee = v .0 .0; continues = d .1; exists = v .0 .1; skips = v .0 .2 }),
+      )
   moves-ok forgets n cs e b v g grow {t} mem =
       let d = toward-mem [] b mem in
       (subst (λ (s : State). Inv (s .node) (s .calls)) (sym (d .2)) tt, λ x. absurd x)
@@ -130,6 +131,6 @@ unfolding run
 demand3 L h =
     record {
       lands = λ i cs. all-map (λ d c r. return-list L h (d .0 .node) (is-return (role (wire L) (d .0 .node)) r) .exactly (d .1 .node) .1 (c r))
-        (runs-ok (wire L) cs (record { node = i; calls = [] }) tt);
-      lists = λ r b. return-list L h r (is-return (role (wire L) r) b)
+          (runs-ok (wire L) cs (record { node = i; calls = [] }) tt);
+      lists = λ r b. return-list L h r (is-return (role (wire L) r) b);
     }

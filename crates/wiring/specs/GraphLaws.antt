@@ -140,7 +140,7 @@ pred-ascends i j [] = asc[]
 pred-ascends i j (l ∷ ls) = go (has i l) (pred-ascends i (suc j) ls)
   where
     go : (x : Bool) → Ascending (predecessorsIn i (suc j) ls) → Ascending (pick x (j ∷ predecessorsIn i (suc j) ls) (predecessorsIn i (suc j) ls))
-    go true h = asc∷ {a = j} (λ b m. omega (arith, pred-low i (suc j) ls b m)) h
+    go true h = asc∷ {a = j} (λ b (m : List·Memᴰ b (predecessorsIn i (suc j) ls)). omega (arith, pred-low i (suc j) ls b m)) h
     go false h = h
 
 -- list l stands at place k, and has i
@@ -158,9 +158,11 @@ pred-sound i j (l ∷ ls) k m = go (has i l) refl (pred-sound i (suc j) ls) k m
         let q : j + suc k ≡ suc j + k = omega arith in
         let r = f k (subst (λ (z : ℕ). List·Memᴰ z (predecessorsIn i (suc j) ls)) q n) in
         (r .0, next (r .1), r .2)
+
     here : (k : ℕ) → T (has i l) → j + k ≡ j → HasAt i k (l ∷ ls)
     here zero t e = (l, first, t)
     here (suc k) t e = absurd (omega arith)
+
     go : (x : Bool) → has i l ≡ x → ((k : ℕ) → List·Memᴰ (suc j + k) (predecessorsIn i (suc j) ls) → HasAt i k ls)
         → (k : ℕ) → List·Memᴰ (j + k) (pick x (j ∷ predecessorsIn i (suc j) ls) (predecessorsIn i (suc j) ls)) → HasAt i k (l ∷ ls)
     go true e f k n = elim (List·Memᴰ·cases-cons n) [ inl q ↦ here k (rw e tt) q | inr p ↦ rest f k p ]
@@ -237,20 +239,24 @@ module _ (L : Listing) where
     where
       z : 0 + j ≡ j
       z = omega arith
+
       into : List·Memᴰ j (predecessorsIn i 0 (allSuccessors L)) → List·Memᴰ i (successors L j)
       into m =
           let r = pred-sound i 0 (allSuccessors L) j (subst (λ (y : ℕ). List·Memᴰ y (predecessorsIn i 0 (allSuccessors L))) (sym z) m) in
           let lt = at-length (r .1) in
           let e : r .0 ≡ successors L j = at-one (r .1) (at-node j (omega (arith, lt, few-lists))) in
           has→mem i (successors L j) (subst (λ (l : List ℕ). T (has i l)) e (r .2))
+
       inside : (j < nodeCount L) ⊎ (nodeCount L ≤ j) → List·Memᴰ i (successors L j) → List·Memᴰ j (predecessorsIn i 0 (allSuccessors L))
       inside (inl lt) m = subst (λ (y : ℕ). List·Memᴰ y (predecessorsIn i 0 (allSuccessors L))) z (pred-complete i 0 j (at-node j lt) (mem→has m))
       inside (inr le) m = absurd (List·Memᴰ·not-nil (subst (λ (l : List ℕ). List·Memᴰ i l) (no-successors L j le) m))
+
       side : (j n : ℕ) → (j < n) ⊎ (n ≤ j)
       side zero zero = inr (omega arith)
       side zero (suc n) = inl (omega arith)
       side (suc j) zero = inr (omega arith)
       side (suc j) (suc n) = elim (side j n) [ inl h ↦ inl (omega arith) | inr h ↦ inr (omega arith) ]
+
       back : List·Memᴰ i (successors L j) → List·Memᴰ j (predecessorsIn i 0 (allSuccessors L))
       back m = inside (side j (nodeCount L)) m
 
@@ -274,5 +280,5 @@ lists-ok L =
       distinct = successor-distinct L;
       short = λ i. few (nodeCount L) (successor-distinct L i) (successor-ids L i);
       inverse = inverse L;
-      ascends = λ i. pred-ascends i 0 (allSuccessors L)
+      ascends = λ i. pred-ascends i 0 (allSuccessors L);
     }

@@ -55,8 +55,8 @@ module _ {A B : Type 0} (f : A → List B) where
   each-mem [] m = absurd (List·Memᴰ·not-nil m)
   each-mem (x ∷ xs) m =
       elim (List·Memᴰ·append-cases (f x) m) [
-        inl n ↦ (x, List·Memᴰ·head refl, n)
-      | inr n ↦ let r = each-mem xs n in (r .0, List·Memᴰ·tail (r .1), r .2)
+        | inl n ↦ (x, List·Memᴰ·head refl, n)
+        | inr n ↦ let r = each-mem xs n in (r .0, List·Memᴰ·tail (r .1), r .2)
       ]
 
 pub mem-below : (n c : ℕ) → c < n → List·Memᴰ c (below n)
@@ -64,8 +64,8 @@ unfolding below
 mem-below zero c h = absurd (omega arith)
 mem-below (suc n) c h =
     elim (ℕ-discrete c n) [
-      yes e ↦ Memᴰ·append-right (below n) (List·Memᴰ·head e)
-    | no ne ↦ Memᴰ·append-left (n ∷ []) (mem-below n c (omega arith))
+      | yes e ↦ Memᴰ·append-right (below n) (List·Memᴰ·head e)
+      | no ne ↦ Memᴰ·append-left (n ∷ []) (mem-below n c (omega arith))
     ]
 
 -- a test is true, or false
@@ -80,8 +80,8 @@ insertBy-cases true y c a b l r ih m = List·Memᴰ·cases-cons m
 insertBy-cases false true c a b l r ih m = inr m
 insertBy-cases false false c a b l r ih m =
     elim (List·Memᴰ·cases-cons m) [
-      inl e ↦ inr (List·Memᴰ·head e)
-    | inr n ↦ elim (ih n) [ inl e ↦ inl e | inr k ↦ inr (List·Memᴰ·tail k) ]
+      | inl e ↦ inr (List·Memᴰ·head e)
+      | inr n ↦ elim (ih n) [ inl e ↦ inl e | inr k ↦ inr (List·Memᴰ·tail k) ]
     ]
 
 insert-cases : (c a : ℕ) (l : List ℕ) → List·Memᴰ c (insert a l) → (c ≡ a) ⊎ List·Memᴰ c l
@@ -144,8 +144,8 @@ unfolding ascending
 mem-ascending c [] m = m
 mem-ascending c (a ∷ l) m =
     elim (List·Memᴰ·cases-cons m) [
-      inl e ↦ Memᴰ·cast e (insert-new a (ascending l))
-    | inr n ↦ insert-old c a (ascending l) (mem-ascending c l n)
+      | inl e ↦ Memᴰ·cast e (insert-new a (ascending l))
+      | inr n ↦ insert-old c a (ascending l) (mem-ascending c l n)
     ]
 
 heads : (a b : ℕ) → (a ≡ b) ⊎ (b < a) → (b ≡ a) ⊎ (a < b) → a ≡ b
@@ -163,8 +163,8 @@ asc-ext asc[] (asc∷ {a} all al) h = absurd (List·Memᴰ·not-nil (h a .1 (Lis
 asc-ext (asc∷ {a} all al) asc[] h = absurd (List·Memᴰ·not-nil (h a .0 (List·Memᴰ·head refl)))
 asc-ext (asc∷ {a = a} {l = k} lt-k ak) (asc∷ {a = b} {l = l} lt-l al) h =
     let e : a ≡ b = heads a b
-          (elim (List·Memᴰ·cases-cons (h a .0 (List·Memᴰ·head refl))) [ inl f ↦ inl f | inr m ↦ inr (lt-l a m) ])
-          (elim (List·Memᴰ·cases-cons (h b .1 (List·Memᴰ·head refl))) [ inl f ↦ inl f | inr m ↦ inr (lt-k b m) ])
+    (elim (List·Memᴰ·cases-cons (h a .0 (List·Memᴰ·head refl))) [ inl f ↦ inl f | inr m ↦ inr (lt-l a m) ])
+    (elim (List·Memᴰ·cases-cons (h b .1 (List·Memᴰ·head refl))) [ inl f ↦ inl f | inr m ↦ inr (lt-k b m) ])
     in
     let r : k ≡ l = asc-ext ak al (λ c. (tails e lt-k (λ d. h d .0) c, tails (sym e) lt-l (λ d. h d .1) c)) in
     λ i. e i ∷ r i

@@ -69,13 +69,13 @@ module _ (step : ℕ → List ℕ) where
   unfolding reaches
   reaches-sound zero a b t =
       elim (or-cases (eqb a b) (has b (step a)) t) [
-        inl e ↦ subst (Reach step a) (eqb→eq a b e) here
-      | inr u ↦ on here (has→mem b (step a) u)
+        | inl e ↦ subst (Reach step a) (eqb→eq a b e) here
+        | inr u ↦ on here (has→mem b (step a) u)
       ]
   reaches-sound (suc k) a b t =
       elim (split (reaches step k a b) (reaches step k a k) (reaches step k k b) t) [
-        inl u ↦ reaches-sound k a b u
-      | inr u ↦ Reach·join (reaches-sound k a k (u .0)) (reaches-sound k k b (u .1))
+        | inl u ↦ reaches-sound k a b u
+        | inr u ↦ Reach·join (reaches-sound k a k (u .0)) (reaches-sound k k b (u .1))
       ]
 
   reaches-here : (k a : ℕ) → T (reaches step k a a)
@@ -103,22 +103,22 @@ module _ (step : ℕ → List ℕ) where
   reaches-low k c a b ih t u =
       let A : Type 0 = T (reaches step k a b) ⊎ (T (reaches step k a k) × T (reaches step k k b)) in
       let go : T (reaches step k a c) ⊎ (T (reaches step k a k) × T (reaches step k k c)) → T (reaches step k c b) ⊎ (T (reaches step k c k) × T (reaches step k k b)) → A
-          = elim [
-            inl p ↦ elim [ inl q ↦ inl (ih a b p q) | inr q ↦ inr (ih a k p (q .0), q .1) ]
-          | inr p ↦ elim [ inl q ↦ inr (p .0, ih k b (p .1) q) | inr q ↦ inr (p .0, q .1) ]
-          ]
+      = elim [
+        | inl p ↦ elim [ inl q ↦ inl (ih a b p q) | inr q ↦ inr (ih a k p (q .0), q .1) ]
+        | inr p ↦ elim [ inl q ↦ inr (p .0, ih k b (p .1) q) | inr q ↦ inr (p .0, q .1) ]
+      ]
       in
       elim (go (split (reaches step k a c) (reaches step k a k) (reaches step k k c) t) (split (reaches step k c b) (reaches step k c k) (reaches step k k b) u)) [
-        inl p ↦ first (reaches step k a b) (reaches step k a k) (reaches step k k b) p
-      | inr p ↦ second (reaches step k a b) (reaches step k a k) (reaches step k k b) (p .0) (p .1)
+        | inl p ↦ first (reaches step k a b) (reaches step k a k) (reaches step k k b) p
+        | inr p ↦ second (reaches step k a b) (reaches step k a k) (reaches step k k b) (p .0) (p .1)
       ]
 
   reaches-join : (k c a b : ℕ) → c < k → T (reaches step k a c) → T (reaches step k c b) → T (reaches step k a b)
   reaches-join zero c a b h t u = absurd (not-suc-le-zero h)
   reaches-join (suc k) c a b h t u =
       elim (ℕ-discrete c k) [
-        yes e ↦ reaches-top k a b (subst (λ (x : ℕ). T (reaches step (suc k) a x)) e t) (subst (λ (x : ℕ). T (reaches step (suc k) x b)) e u)
-      | no ne ↦ reaches-low k c a b (λ x y. reaches-join k c x y (omega arith)) t u
+        | yes e ↦ reaches-top k a b (subst (λ (x : ℕ). T (reaches step (suc k) a x)) e t) (subst (λ (x : ℕ). T (reaches step (suc k) x b)) e u)
+        | no ne ↦ reaches-low k c a b (λ x y. reaches-join k c x y (omega arith)) t u
       ]
 
   -- where only nodes below n take steps, the test finds every way

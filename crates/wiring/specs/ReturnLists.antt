@@ -52,8 +52,8 @@ unfolding someReaches
 someReaches→ step n [] r t = absurd t
 someReaches→ step n (e ∷ es) r t =
     elim (either (reaches step n e r) (someReaches step n es r) t) [
-      inl u ↦ (e, List·Memᴰ·head refl, u)
-    | inr u ↦ let d = someReaches→ step n es r u in (d .0, List·Memᴰ·tail (d .1), d .2)
+      | inl u ↦ (e, List·Memᴰ·head refl, u)
+      | inr u ↦ let d = someReaches→ step n es r u in (d .0, List·Memᴰ·tail (d .1), d .2)
     ]
 
 →someReaches : (step : ℕ → List ℕ) (n r : ℕ) {e : ℕ} {es : List ℕ} → List·Memᴰ e es → T (reaches step n e r) → T (someReaches step n es r)
@@ -117,5 +117,5 @@ succ-back L h r e = back-list (L .handlers) (wire L) r (role (wire L) r) h e
 pub return-list : (L : Listing) → L .handlers ≡ false → (r : ℕ) → role (wire L) r ≡ returns → ReturnList L r
 return-list L h r e = record {
   ascends = rw (succ-back L h r e) (region-asc (wire L) r);
-  exactly = λ k. rw (succ-back L h r e) (region-sound (wire L) r k, region-complete (wire L) r k)
+  exactly = λ k. rw (succ-back L h r e) (region-sound (wire L) r k, region-complete (wire L) r k);
 }

@@ -50,10 +50,12 @@ loop-less c = search needs
 loop-again : tie.Need-loop-again Inv-loop μ-loop
 loop-again c =
     let l = c .before .before .before .before in
-    let p = l .before .before .before .before .args in
-    (omega arith, l .loop .inv .1,
-    rw add-one (sym (same-next (getD words (p .i) []) (p .w .now) (l .loop .j) (omega (arith, l .before .before .length-of .ensures .0)) (omega arith) (sym (c .if2 .left ∙ c .before .letter .ensures)))
-    ∙ l .loop .inv .2))
+    let p = l .before .before .before .before .args in (
+      omega arith,
+      l .loop .inv .1,
+      rw add-one (sym (same-next (getD words (p .i) []) (p .w .now) (l .loop .j) (omega (arith, l .before .before .length-of .ensures .0)) (omega arith) (sym (c .if2 .left ∙ c .before .letter .ensures)))
+          ∙ l .loop .inv .2),
+    )
 
 returns-3 : tie.Need-returns-3 Inv-loop μ-loop
 returns-3 c =

@@ -38,9 +38,10 @@ loop-less c = search needs
 loop-again : tie.Need-loop-again Inv-loop μ-loop
 unfolding words openingWords bytes
 loop-again c =
-    let l = c .before .before .before in
-    (omega arith,
-    rw add-one (omega (arith, l .loop .inv .1, first-more words (l .before .before .args .w .now) (l .loop .i) (omega arith) (sym (c .before .is-word .ensures) ∙ c .if1 .left))))
+    let l = c .before .before .before in (
+      omega arith,
+      rw add-one (omega (arith, l .loop .inv .1, first-more words (l .before .before .args .w .now) (l .loop .i) (omega arith) (sym (c .before .is-word .ensures) ∙ c .if1 .left))),
+    )
 
 returns-2 : tie.Need-returns-2 Inv-loop μ-loop
 unfolding words openingWords bytes first wordIndex

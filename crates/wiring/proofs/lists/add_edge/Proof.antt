@@ -39,10 +39,12 @@ same-length-2 c = search needs
 
 returns-2 : tie.Need-returns-2
 returns-2 c =
-    let p = c .before .before .before .before in
-    (search needs, search needs,
-    rw add-one (take-suc-set _ _ _ (p .pre) ∙ sym (add-new _ _ (sym (c .before .holds .ensures) ∙ c .if1 .left))),
-    drop-set-lt (p .args .n + 1) (p .args .l .now) (p .args .n) (p .args .a) (omega arith))
+    let p = c .before .before .before .before in (
+      search needs,
+      search needs,
+      rw add-one (take-suc-set _ _ _ (p .pre) ∙ sym (add-new _ _ (sym (c .before .holds .ensures) ∙ c .if1 .left))),
+      drop-set-lt (p .args .n + 1) (p .args .l .now) (p .args .n) (p .args .a) (omega arith),
+    )
 
 pub add-edge-spec : {M : Type 1} → statement M
 add-edge-spec =
