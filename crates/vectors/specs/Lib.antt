@@ -1,4 +1,5 @@
 pub mod Vector
+pub mod Limits
 pub mod Damaged1
 pub mod Damaged2
 pub mod Damaged3

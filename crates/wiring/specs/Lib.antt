@@ -11,6 +11,7 @@ pub mod Opened
 pub mod CaseTable
 pub mod Cases
 pub mod Traps
+pub mod RunCases
 pub mod ListLaws
 pub mod Members
 pub mod Distinct
