@@ -5,9 +5,10 @@ use mathlib.Core.Option.{Option, none, some}
 use mathlib.Core.Bool.{Bool, true, false, _&&_}
 use lib.Dec.{eqb, ltb, leb}
 use lib.ListN.{length, getElem?}
-use Rattle.reader.specs.Bytes.{bytes, same, pick}
-use Rattle.reader.specs.Listing.{Name, Simple, goto, gosub, return, run, runto, ongoto, ongosub, for, next, repeat, loop, until, endloop, exit, exitif, doif, else, done, clr, stop, any, CondWord, if, ifelse, rcomp, Listing}
+use Rattle.reader.specs.Bytes.{same, pick}
+use Rattle.reader.specs.Listing.{Name, Simple, Listing}
 use Rattle.reader.specs.Rows.{isName}
+use Rattle.reader.specs.ListingText.{simpleWord, condWord}
 use Rattle.wiring.specs.Lists.{has, keep}
 use Rattle.wiring.specs.Nodes.{NodeStmt, simple, cond, Node, nodes, entries, entryOf}
 use Rattle.wiring.specs.Targets.{onFor, onNext, onSimple}
@@ -46,35 +47,6 @@ frameList L h i v flag = frameOf L h i v flag (getElem? (nodes (L .lines)) i)
 -- ---- statements
 
 -- "a statement is answered by its node id and opening word"
-unfoldable pub simpleWord : Simple → List ℕ
-simpleWord (goto n) = bytes "goto"
-simpleWord (gosub n) = bytes "gosub"
-simpleWord return = bytes "return"
-simpleWord run = bytes "run"
-simpleWord (runto n) = bytes "run"
-simpleWord (ongoto ns) = bytes "ongoto"
-simpleWord (ongosub ns) = bytes "ongosub"
-simpleWord (for v t) = bytes "for"
-simpleWord (next m ss) = bytes "next"
-simpleWord repeat = bytes "repeat"
-simpleWord loop = bytes "loop"
-simpleWord until = bytes "until"
-simpleWord endloop = bytes "endloop"
-simpleWord exit = bytes "exit"
-simpleWord exitif = bytes "exitif"
-simpleWord doif = bytes "doif"
-simpleWord else = bytes "else"
-simpleWord done = bytes "done"
-simpleWord clr = bytes "clr"
-simpleWord stop = bytes "stop"
-simpleWord any = bytes "any"
-simpleWord Simple.plain = bytes "plain"
-
-unfoldable pub condWord : CondWord → List ℕ
-condWord if = bytes "if"
-condWord ifelse = bytes "ifelse"
-condWord rcomp = bytes "rcomp"
-
 unfoldable pub stmtWord : NodeStmt → List ℕ
 stmtWord (simple o) = simpleWord o
 stmtWord (cond w a b) = condWord w

@@ -40,34 +40,65 @@ unfoldable pub slotWord : Slot → List ℕ
 slotWord none = 42 ∷ []
 slotWord (some v) = v
 
+-- the opening word of a statement, and its other words
+unfoldable pub simpleWord : Simple → List ℕ
+simpleWord (goto n) = bytes "goto"
+simpleWord (gosub n) = bytes "gosub"
+simpleWord return = bytes "return"
+simpleWord run = bytes "run"
+simpleWord (runto n) = bytes "run"
+simpleWord (ongoto ns) = bytes "ongoto"
+simpleWord (ongosub ns) = bytes "ongosub"
+simpleWord (for v t) = bytes "for"
+simpleWord (next m ss) = bytes "next"
+simpleWord repeat = bytes "repeat"
+simpleWord loop = bytes "loop"
+simpleWord until = bytes "until"
+simpleWord endloop = bytes "endloop"
+simpleWord exit = bytes "exit"
+simpleWord exitif = bytes "exitif"
+simpleWord doif = bytes "doif"
+simpleWord else = bytes "else"
+simpleWord done = bytes "done"
+simpleWord clr = bytes "clr"
+simpleWord stop = bytes "stop"
+simpleWord any = bytes "any"
+simpleWord Simple.plain = bytes "plain"
+
+unfoldable pub simpleArgs : Simple → List (List ℕ)
+simpleArgs (goto n) = decimal n ∷ []
+simpleArgs (gosub n) = decimal n ∷ []
+simpleArgs return = []
+simpleArgs run = []
+simpleArgs (runto n) = decimal n ∷ []
+simpleArgs (ongoto ns) = map decimal ns
+simpleArgs (ongosub ns) = map decimal ns
+simpleArgs (for v t) = v ∷ tierWord t ∷ []
+simpleArgs (next m ss) = markWord m ∷ map slotWord ss
+simpleArgs repeat = []
+simpleArgs loop = []
+simpleArgs until = []
+simpleArgs endloop = []
+simpleArgs exit = []
+simpleArgs exitif = []
+simpleArgs doif = []
+simpleArgs else = []
+simpleArgs done = []
+simpleArgs clr = []
+simpleArgs stop = []
+simpleArgs any = []
+simpleArgs Simple.plain = []
+
 unfoldable pub simpleText : Simple → List ℕ
-simpleText (goto n) = closedForm (bytes "goto") (decimal n ∷ [])
-simpleText (gosub n) = closedForm (bytes "gosub") (decimal n ∷ [])
-simpleText return = closedForm (bytes "return") []
-simpleText run = closedForm (bytes "run") []
-simpleText (runto n) = closedForm (bytes "run") (decimal n ∷ [])
-simpleText (ongoto ns) = closedForm (bytes "ongoto") (map decimal ns)
-simpleText (ongosub ns) = closedForm (bytes "ongosub") (map decimal ns)
-simpleText (for v t) = closedForm (bytes "for") (v ∷ tierWord t ∷ [])
-simpleText (next m ss) = closedForm (bytes "next") (markWord m ∷ map slotWord ss)
-simpleText repeat = closedForm (bytes "repeat") []
-simpleText loop = closedForm (bytes "loop") []
-simpleText until = closedForm (bytes "until") []
-simpleText endloop = closedForm (bytes "endloop") []
-simpleText exit = closedForm (bytes "exit") []
-simpleText exitif = closedForm (bytes "exitif") []
-simpleText doif = closedForm (bytes "doif") []
-simpleText else = closedForm (bytes "else") []
-simpleText done = closedForm (bytes "done") []
-simpleText clr = closedForm (bytes "clr") []
-simpleText stop = closedForm (bytes "stop") []
-simpleText any = closedForm (bytes "any") []
-simpleText Simple.plain = closedForm (bytes "plain") []
+simpleText o = closedForm (simpleWord o) (simpleArgs o)
+
+unfoldable pub condWord : CondWord → List ℕ
+condWord if = bytes "if"
+condWord ifelse = bytes "ifelse"
+condWord rcomp = bytes "rcomp"
 
 unfoldable pub condText : CondWord → List ℕ
-condText if = openForm (bytes "if") []
-condText ifelse = openForm (bytes "ifelse") []
-condText rcomp = openForm (bytes "rcomp") []
+condText w = openForm (condWord w) []
 
 abbrev pub stmtsText : List ℕ
 stmtsText = openForm (bytes "stmts") []

@@ -9,7 +9,7 @@ use Rattle.reader.specs.Bytes.{bytes, same, decimal}
 use Rattle.reader.specs.Listing.{Simple, goto, gosub, return, run, runto, ongoto, ongosub, for, next, repeat, loop, until, endloop, exit, exitif, doif, else, done, clr, stop, any, CondWord, if, ifelse, rcomp}
 use Rattle.reader.specs.Rows.{isWord, areWords, stripClose, all, Row, close, bad, form, rowOf, Form, moduleForm, lineForm, toForm, stmtsForm, runForm, forForm, nextForm, condForm, bareForm, numberForm, numbersForm, openingWords, lookup, parsed, mapParse, withParse, parseNumber, parseNumbers, parseName, parseTier, parseMark, parseSlots, Counted, Content, noForm, endRow, stmtsRow, moduleRow, lineRow, toRow, simpleRow, condRow, bareStmt, single, runStmt, forStmt, nextStmt, ifNoWords, handlerFacts, moduleBy, moduleContent, formContent, wordContent, contentOf}
 use Rattle.reader.specs.Every.{noNewline}
-use Rattle.reader.specs.ListingText.{closedForm, openForm, endForm, tierWord, markWord, slotWord, simpleText, condText, handlerWord, NumbersOk, NameOk, listed, SimpleOk}
+use Rattle.reader.specs.ListingText.{closedForm, openForm, endForm, tierWord, markWord, slotWord, simpleText, condText, handlerWord, NumbersOk, NameOk, listed, SimpleOk, simpleWord, simpleArgs, condWord}
 use Rattle.reader.specs.NumberText.{both-true, IfParsed, if-same, if-map, if-with, number-text, number-of-text, numbers-text, AreNumbers, numbers-of-text}
 use Rattle.reader.specs.WordText.{inWord, isToken, areTokens, decimal-token, decimals-tokens, name-token, name-text, name-of-text, slots-text, slots-tokens, AreSlots, slots-of-text, IfFound, Entries, lookup-entry, tier-text, tier-token, tier-of-text, mark-text, mark-token, mark-of-text, handler-text, handler-token, handler-of-text}
 use Rattle.reader.specs.RowForms.{formText, form-row, form-newline, RowText, row-text}
@@ -29,7 +29,7 @@ form-says : (c : Bool) (w : List ℕ) (ws : List (List ℕ)) (d : Content) → a
 form-says c w ws d h e = (ap contentOf (form-row c w ws h) ∙ e, form-newline c w ws h)
 
 simple-says : (o : Simple) → SimpleOk o → Says (simpleText o) (simpleRow (parsed (o, listed o)))
-unfolding opened simpleText SimpleOk listed bareStmt runStmt forStmt nextStmt mapParse withParse
+unfolding opened simpleText simpleWord simpleArgs SimpleOk listed bareStmt runStmt forStmt nextStmt mapParse withParse
 simple-says (goto n) h = form-says true (bytes "goto") (decimal n ∷ []) _ (rw (decimal-token n)) (rw (number-text n h))
 simple-says (gosub n) h = form-says true (bytes "gosub") (decimal n ∷ []) _ (rw (decimal-token n)) (rw (number-text n h))
 simple-says return h = form-says true (bytes "return") [] _ refl refl
@@ -61,7 +61,7 @@ pub simple-newline : (o : Simple) → SimpleOk o → noNewline (simpleText o) �
 simple-newline o h = simple-says o h .1
 
 cond-says : (k : CondWord) → Says (condText k) (condRow k)
-unfolding opened condText ifNoWords
+unfolding opened condText condWord ifNoWords
 cond-says if = form-says false (bytes "if") [] _ refl refl
 cond-says ifelse = form-says false (bytes "ifelse") [] _ refl refl
 cond-says rcomp = form-says false (bytes "rcomp") [] _ refl refl
@@ -162,7 +162,7 @@ a and b = (a, b)
 
 -- the table: module .. stmts; goto, gosub, return, run; ongoto, ongosub, for, next; repeat .. doif; else .. plain
 opening : Entries Opens openingWords
-unfolding openingWords condText simpleText SimpleOk listed
+unfolding openingWords condText condWord simpleText simpleWord simpleArgs SimpleOk listed
 opening =
     refl and refl and refl and refl and refl and refl and refl
     and (λ n h. (refl, h, refl)) and (λ n h. (refl, h, refl)) and (refl, tt, refl) and refl
@@ -193,12 +193,12 @@ numbers-simple f w ws e h =
     (parseNumbers ws) (numbers-of-text ws h)
 
 run-simple : (ws : List (List ℕ)) → areWords ws ≡ true → IfParsed (IsSimple (closedForm (bytes "run") ws)) (runStmt ws)
-unfolding runStmt IfParsed simpleText SimpleOk listed
+unfolding runStmt IfParsed simpleText simpleWord simpleArgs SimpleOk listed
 run-simple [] h = (refl, tt, refl)
 run-simple (w ∷ ws) h = number-simple runto (bytes "run") (w ∷ ws) (λ n p. (refl, p, refl)) h
 
 for-simple : (ws : List (List ℕ)) → IfParsed (IsSimple (closedForm (bytes "for") ws)) (forStmt ws)
-unfolding forStmt IfParsed simpleText SimpleOk listed
+unfolding forStmt IfParsed simpleText simpleWord simpleArgs SimpleOk listed
 for-simple [] = tt
 for-simple (w ∷ []) = tt
 for-simple (w ∷ v ∷ []) =
@@ -207,7 +207,7 @@ for-simple (w ∷ v ∷ []) =
 for-simple (w ∷ v ∷ u ∷ ws) = tt
 
 next-simple : (ws : List (List ℕ)) → IfParsed (IsSimple (closedForm (bytes "next") ws)) (nextStmt ws)
-unfolding nextStmt IfParsed simpleText SimpleOk listed
+unfolding nextStmt IfParsed simpleText simpleWord simpleArgs SimpleOk listed
 next-simple [] = tt
 next-simple (w ∷ ws) =
     if-with (λ m. w ≡ markWord m) (AreSlots ws) (IsSimple (closedForm (bytes "next") (w ∷ ws))) (λ m ss. (next m ss, length ws))

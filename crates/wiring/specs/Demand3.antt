@@ -8,7 +8,8 @@ use mathlib.Core.Option.{Option, none, some}
 use native.Mathlib.Omega.{arith}
 use lib.ListN.{length, getElem?}
 use Rattle.wiring.specs.Lists.{list}
-use Rattle.wiring.specs.Members.{All, all[], all∷, all-map}
+use Rattle.reader.specs.Every.{All, all[], all∷}
+use Rattle.wiring.specs.Members.{all-map}
 use Rattle.reader.specs.Listing.{Listing}
 use Rattle.wiring.specs.Nodes.{Entries}
 use Rattle.wiring.specs.Reach.{Reach, here, on}

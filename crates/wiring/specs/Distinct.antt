@@ -9,7 +9,8 @@ use lib.Dec.{T, eqb}
 use lib.ListN.{length}
 use Rattle.reader.specs.Bytes.{pick}
 use Rattle.wiring.specs.Lists.{has, add, addAll}
-use Rattle.wiring.specs.Members.{All, all[], all∷, Ascending, asc[], asc∷}
+use Rattle.reader.specs.Every.{All, all[], all∷}
+use Rattle.wiring.specs.Members.{Ascending, asc[], asc∷}
 use Rattle.wiring.specs.Reach.{has→mem}
 
 pub data Distinct : List ℕ → Type 0 where

@@ -8,7 +8,8 @@ use lib.Dec.{eqb}
 use Rattle.reader.specs.Bytes.{same, pick}
 use Rattle.reader.specs.Listing.{Name, Tier, static, framed, dispatched, Mark, orphan, Slot, Simple, goto, gosub, return, run, runto, ongoto, ongosub, for, next, repeat, loop, until, endloop, exit, exitif, doif, else, done, clr, stop, any}
 use Rattle.wiring.specs.Lists.{has, add, addAll, each, list}
-use Rattle.wiring.specs.Members.{All, all[], all∷, all-append, all-each}
+use Rattle.reader.specs.Every.{All, all[], all∷, all-append}
+use Rattle.wiring.specs.Members.{all-each}
 use Rattle.wiring.specs.Nodes.{BranchTarget, toLine, toNode, falls, NodeStmt, simple, cond, Node, Entries, entryOf}
 use Rattle.wiring.specs.NodeLaws.{Below, BelowTarget, BelowStmt, NodeFits, EntryFits, entry-fits}
 use Rattle.wiring.specs.Targets.{targetEntries, firstEntry, allEntries, branchEdges, onFor, onNext, onSimple, dispatchTarget, dispatchTargets, selectable, orphanTargets, orphanEdges}

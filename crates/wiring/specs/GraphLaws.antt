@@ -12,7 +12,8 @@ use lib.ListN.{length, getElem?, length-append}
 use Rattle.reader.specs.Bytes.{pick}
 use Rattle.reader.specs.Listing.{Listing, total}
 use Rattle.wiring.specs.Lists.{has, addAll, each, list, below, ascending}
-use Rattle.wiring.specs.Members.{All, all[], all∷, all-append, all-mem, all-each, all-at, Ascending, asc[], asc∷, ascending-asc, ascending-mem, past}
+use Rattle.reader.specs.Every.{All, all[], all∷, all-append}
+use Rattle.wiring.specs.Members.{all-mem, all-each, all-at, Ascending, asc[], asc∷, ascending-asc, ascending-mem, past}
 use Rattle.wiring.specs.Nodes.{Node, Entries, entries, nodes, entriesBefore, nodesBefore}
 use Rattle.wiring.specs.NodeLaws.{Below, NodeFits, EntryFits, length-nodes, nodes-fit, entries-fit}
 use Rattle.wiring.specs.EdgeBounds.{Ids, list-ids, edges-to, ends-ids, addAll-ids}

@@ -9,6 +9,7 @@ use native.Mathlib.Omega.{arith}
 use native.Mathlib.Decide.{ℕ-discrete}
 use lib.Dec.{T, T-not, eqb, ltb, eqb→eq, eqb-refl, ltb→lt, nltb→le}
 use lib.ListN.{length, getElem?}
+use Rattle.reader.specs.Every.{All, all[], all∷, all-append}
 use Rattle.wiring.specs.Lists.{each, list, below, insertBy, insert, ascending}
 
 -- each element is below all after it
@@ -16,18 +17,9 @@ pub data Ascending : List ℕ → Type 0 where
   asc[] : Ascending []
   asc∷ : {a : ℕ} {l : List ℕ} → ((b : ℕ) → List·Memᴰ b l → a < b) → Ascending l → Ascending (a ∷ l)
 
--- every element has the property
-pub data All {A : Type 0} (P : A → Type 0) : List A → Type 0 where
-  all[] : All P []
-  all∷ : {a : A} {l : List A} → P a → All P l → All P (a ∷ l)
-
 pub all-map : {A : Type 0} {P Q : A → Type 0} → ((a : A) → P a → Q a) → {l : List A} → All P l → All Q l
 all-map f all[] = all[]
 all-map f (all∷ {a} p ps) = all∷ (f a p) (all-map f ps)
-
-pub all-append : {A : Type 0} {P : A → Type 0} {k l : List A} → All P k → All P l → All P (k ++ l)
-all-append all[] q = q
-all-append (all∷ p ps) q = all∷ p (all-append ps q)
 
 pub all-mem : {A : Type 0} {P : A → Type 0} {l : List A} → All P l → (a : A) → List·Memᴰ a l → P a
 all-mem {P = P} (all∷ p ps) a (List·Memᴰ·head e) = subst P (sym e) p

@@ -12,7 +12,7 @@ use Rattle.reader.specs.Listing.{Name, Simple, goto, gosub, return, run, runto,
 use Rattle.wiring.specs.Lists.{each, list}
 use Rattle.wiring.specs.Nodes.{NodeStmt, simple, cond, Node, Entries}
 use Rattle.wiring.specs.Targets.{dispatchTargets, orphanEdges}
-use Rattle.wiring.specs.Members.{All, all[], all∷}
+use Rattle.reader.specs.Every.{All, all[], all∷}
 use Rattle.wiring.specs.Edges.{Frame, Stacks, emptyStacks, Move, stays, opens, closes, joins, Moves, onFors, onLoops, onDos, noMoves, movesOf, nodeMoves, framesAfter, stacksAfter, poppedBodies, closedBody, own, Stack, loopStack, doStack, sent, Edge, fromNode, toFall, wired, orphans, edges, ends}
 use Rattle.wiring.specs.PerNode.{Openers, noOpeners, openersAfter, after, meets, pops, Fact, factOf, facts, moveOn, metOn, fallOf, fallAt, bodyMet, perNode}
 use Rattle.wiring.specs.EdgeLaws.{Outside, out-head, out-tail, ends-append, ends-own, ends-other}

@@ -12,7 +12,8 @@ use lib.ListN.{length, getElem?}
 use borrow.Author.Tests.{ne-eqb, eq-eqb, eqb-false}
 use Rattle.reader.specs.Bytes.{pick}
 use Rattle.wiring.specs.Lists.{list}
-use Rattle.wiring.specs.Members.{All, all[], all∷, all-map, all-at}
+use Rattle.reader.specs.Every.{All, all[], all∷}
+use Rattle.wiring.specs.Members.{all-map, all-at}
 use Rattle.wiring.specs.Edges.{Frame, Move, stays, opens, closes, joins, nodeMoves, framesAfter, Stack, loopStack, doStack, jumpsOr, sent, Edge, toFall, ends}
 use Rattle.wiring.specs.PerNode.{Met, nothing, closing, joining, meets, openersAfter, Fact, moveOn, metOn, isClosing, isJoining, fallsWhere, someWhere, closerFall, doifFalls, late}
 use Rattle.wiring.specs.EdgeLaws.{ends-append, Outside, out-head, out-tail, Never, Once, never[], never-one, once-one, never-snoc, once-snoc, once-new, never-or, once-or, turn-never, turn-once}
