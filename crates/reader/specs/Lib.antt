@@ -13,3 +13,4 @@ pub mod Accepted
 pub mod Shown
 pub mod ShownLaws
 pub mod RoundTrip
+pub mod Records
