@@ -8,9 +8,9 @@ use lib.ListN.{length, getElem?}
 use Rattle.reader.specs.Bytes.{same, pick}
 use Rattle.reader.specs.Listing.{Name, Simple, Listing}
 use Rattle.reader.specs.Rows.{isName}
-use Rattle.reader.specs.ListingText.{simpleWord, condWord}
 use Rattle.wiring.specs.Lists.{has, keep}
 use Rattle.wiring.specs.Nodes.{NodeStmt, simple, cond, Node, nodes, entries, entryOf}
+use Rattle.wiring.specs.NodeRecords.{stmtWord}
 use Rattle.wiring.specs.Targets.{onFor, onNext, onSimple}
 use Rattle.wiring.specs.Graph.{Role, call, returns, forgets, steps, noNode, wire, role, continuation, successors}
 
@@ -46,10 +46,7 @@ frameList L h i v flag = frameOf L h i v flag (getElem? (nodes (L .lines)) i)
 
 -- ---- statements
 
--- "a statement is answered by its node id and opening word"
-unfoldable pub stmtWord : NodeStmt → List ℕ
-stmtWord (simple o) = simpleWord o
-stmtWord (cond w a b) = condWord w
+-- "a statement is answered by its node id and opening word" (`stmtWord`)
 
 -- "A path is a line index and numbers": the node at a path, counted from i
 unfoldable pub nodeFrom : ℕ → ℕ → List ℕ → List Node → Option (ℕ × List ℕ)

@@ -14,3 +14,4 @@ pub mod Shown
 pub mod ShownLaws
 pub mod RoundTrip
 pub mod Records
+pub mod RecordLaws

@@ -13,9 +13,11 @@ pub mod Cases
 pub mod Traps
 pub mod RunCases
 pub mod ListLaws
+pub mod Adding
 pub mod Members
 pub mod Distinct
 pub mod NodeLaws
+pub mod NodeRecords
 pub mod TargetLaws
 pub mod EdgeBounds
 pub mod GraphLaws

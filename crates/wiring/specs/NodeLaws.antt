@@ -12,7 +12,7 @@ use Rattle.reader.specs.Listing.{BranchForm, to, stmts, absent, Stmts, ∅, _�
 use Rattle.reader.specs.Every.{All, all[], all∷, all-append}
 use Rattle.wiring.specs.Nodes.{BranchTarget, toLine, toNode, falls, NodeStmt, simple, cond, Node, branchTarget, allocate, lineEntry, nodesBefore, Entries, entriesBefore, entryOf}
 
-length-allocate : (li n : ℕ) (p : List ℕ) (i k : ℕ) (e : Option ℕ) (s : Stmts) → length (allocate li n p i k e s) ≡ size s
+pub length-allocate : (li n : ℕ) (p : List ℕ) (i k : ℕ) (e : Option ℕ) (s : Stmts) → length (allocate li n p i k e s) ≡ size s
 unfolding allocate size
 length-allocate li n p i k e ∅ = refl
 length-allocate li n p i k e (s ▸ o) = simp length-append (omega (arith, length-allocate li n p i k (some (i + size s)) s))
