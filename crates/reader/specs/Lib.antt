@@ -13,3 +13,6 @@ pub mod Accepted
 pub mod Shown
 pub mod ShownLaws
 pub mod RoundTrip
+pub mod Scan
+pub mod Numbers
+pub mod Names
