@@ -16,3 +16,5 @@ pub mod RoundTrip
 pub mod Scan
 pub mod Numbers
 pub mod Names
+pub mod Arguments
+pub mod CodedRows

@@ -3,3 +3,5 @@ mod scan;
 pub mod words;
 pub mod numbers;
 pub mod names;
+mod arguments;
+pub mod rows;
