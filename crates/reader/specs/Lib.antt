@@ -18,3 +18,6 @@ pub mod Numbers
 pub mod Names
 pub mod Arguments
 pub mod CodedRows
+pub mod Machine
+pub mod MachineLaws
+pub mod Judge

@@ -5,3 +5,5 @@ pub mod numbers;
 pub mod names;
 mod arguments;
 pub mod rows;
+mod machine;
+pub mod judge;
