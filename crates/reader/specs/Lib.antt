@@ -17,3 +17,6 @@ pub mod Records
 pub mod Sizes
 pub mod ReadingRecords
 pub mod Tables
+pub mod Scan
+pub mod Numbers
+pub mod Names

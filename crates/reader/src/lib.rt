@@ -1,3 +1,6 @@
 // The reader: a text in bracket form to the records of its listing.
+mod scan;
 pub mod words;
 pub mod tables;
+pub mod numbers;
+pub mod names;
