@@ -166,7 +166,3 @@ pub sets-row : (p : List ℕ) (a b c d e f g h i j k l : ℕ) → 12 ≤ length 
     ≡ (a ∷ b ∷ c ∷ d ∷ e ∷ f ∷ g ∷ h ∷ i ∷ j ∷ k ∷ l ∷ []) ++ drop 12 p
 unfolding sets
 sets-row p a b c d e f g h i j k l x = sets-from [] p (a ∷ b ∷ c ∷ d ∷ e ∷ f ∷ g ∷ h ∷ i ∷ j ∷ k ∷ l ∷ []) x
-
-pub sets-counts : (p : List ℕ) (a b c : ℕ) → length p ≡ 5 → set (set (set (set (set p 0 a) 1 b) 2 c) 3 0) 4 0 ≡ a ∷ b ∷ c ∷ 0 ∷ 0 ∷ []
-unfolding sets
-sets-counts p a b c x = sets-from [] p (a ∷ b ∷ c ∷ 0 ∷ 0 ∷ []) (omega arith) ∙ ap (λ (l : List ℕ). a ∷ b ∷ c ∷ 0 ∷ 0 ∷ l) (let h : length p ≤ 5 = omega arith in drop-of-length-le p h)

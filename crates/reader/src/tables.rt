@@ -40,11 +40,7 @@ pub fn zero64(t: &mut [u64])
 pub fn put_counts(counts: &mut [u32; 5], lines: u32, stmts: u32, handlers: u32)
     ensures { λ _. ⌜ now (counts .exit) ≡ lines ∷ stmts ∷ handlers ∷ 0 ∷ 0 ∷ [] ⌝ }
 {
-    counts[0] = lines;
-    counts[1] = stmts;
-    counts[2] = handlers;
-    counts[3] = 0;
-    counts[4] = 0;
+    *counts = [lines, stmts, handlers, 0, 0];
 }
 
 fn put_row(part: &mut [u16], e: Entry)
