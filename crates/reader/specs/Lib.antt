@@ -20,3 +20,4 @@ pub mod Tables
 pub mod Scan
 pub mod Numbers
 pub mod Names
+pub mod Operands

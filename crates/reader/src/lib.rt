@@ -4,3 +4,4 @@ pub mod words;
 pub mod tables;
 pub mod numbers;
 pub mod names;
+pub mod operands;

@@ -6,7 +6,7 @@ use mathlib.Core.Path.{_≡_, refl, sym, ap, _∙_, subst}
 use mathlib.Core.List.{List, [], _∷_, _++_, append-nil}
 use Prim.Native.Nat.{ℕ, zero, suc, _+_, _*_, _-_, _≤_, _<_}
 use lib.ListN.{length, take, drop, set, getD, replicate, length-set, length-drop, length-append, length-replicate, drop-of-length-le}
-use Rattle.reader.specs.Tables.{zero-next, sets-row, sets-counts, whole, entryRow, appendRow}
+use Rattle.reader.specs.Tables.{zero-next, sets-row, whole, entryRow, appendRow}
 use Rattle.reader.proofs.tables.put_row.Statement.{statement}
 use Rattle.reader.proofs.tables.put_row.Tie as tie
 use Rattle.reader.proofs.tables.put_row.Reads as reads
