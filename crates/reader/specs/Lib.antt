@@ -21,3 +21,8 @@ pub mod Scan
 pub mod Numbers
 pub mod Names
 pub mod Operands
+pub mod Arguments
+pub mod CodedRows
+pub mod Machine
+pub mod MachineLaws
+pub mod Judge

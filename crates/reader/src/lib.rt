@@ -5,3 +5,7 @@ pub mod tables;
 pub mod numbers;
 pub mod names;
 pub mod operands;
+mod arguments;
+pub mod rows;
+mod machine;
+pub mod judge;
