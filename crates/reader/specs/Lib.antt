@@ -14,7 +14,6 @@ pub mod Shown
 pub mod ShownLaws
 pub mod RoundTrip
 pub mod Records
-pub mod Sizes
 pub mod ReadingRecords
 pub mod Tables
 pub mod Scan

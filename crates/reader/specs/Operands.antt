@@ -127,8 +127,8 @@ module _ (f : List ℕ → ℕ) (s t₀ t : List ℕ) (at n : ℕ) (w : List ℕ
   pub filling-room : length (split 32 s) ≤ length t₀ → n < length t
   filling-room h = omega (arith, g .sum, g .long, split-some 32 (drop at s))
 
-  pub filling-next : (at′ : ℕ) → n < length t → split 32 (drop at s) ≡ w ∷ split 32 (drop at′ s) → Filling f s t₀ (set t n (f w)) at′ (n + 1)
-  filling-next at′ h e =
+  filling-entry : (at′ : ℕ) → n < length t → split 32 (drop at s) ≡ w ∷ split 32 (drop at′ s) → Filling f s t₀ (set t n (f w)) at′ (n + 1)
+  filling-entry at′ h e =
       let q : map f (split 32 (drop at s)) ≡ f w ∷ map f (split 32 (drop at′ s)) = ap (map f) e in
       record {
         wrote = ap (λ (k : ℕ). take k (set t n (f w)) ++ map f (split 32 (drop at′ s))) (add-one n)
@@ -139,13 +139,23 @@ module _ (f : List ℕ → ℕ) (s t₀ t : List ℕ) (at n : ℕ) (w : List ℕ
         sum = omega (arith, ap length e, g .sum)
       }
 
-  pub filling-last : n < length t → split 32 (drop at s) ≡ w ∷ [] → (n + 1 ≡ length (split 32 s)) × (set t n (f w) ≡ map f (split 32 s) ++ drop (length (split 32 s)) t₀)
-  filling-last h e =
+  filling-end : n < length t → split 32 (drop at s) ≡ w ∷ [] → (n + 1 ≡ length (split 32 s)) × (set t n (f w) ≡ map f (split 32 s) ++ drop (length (split 32 s)) t₀)
+  filling-end h e =
       let m : n + 1 ≡ length (split 32 s) = omega (arith, ap length e, g .sum) in
       let a : take (n + 1) (set t n (f w)) ≡ map f (split 32 s) =
             ap (λ (k : ℕ). take k (set t n (f w))) (add-one n) ∙ take-suc-set t n (f w) h ∙ ap (λ (l : List (List ℕ)). take n t ++ map f l) (sym e) ∙ g .wrote in
       let b : drop (n + 1) (set t n (f w)) ≡ drop (n + 1) t₀ = drop-set-lt (n + 1) t n (f w) (omega arith) ∙ sym (drop-drop 1 n t) ∙ ap (drop 1) (g .left) ∙ drop-drop 1 n t₀ in
       (m, sym (take-append-drop (n + 1) (set t n (f w))) ∙ ap (λ (l : List ℕ). l ++ drop (n + 1) (set t n (f w))) a ∙ ap (λ (l : List ℕ). map f (split 32 s) ++ l) b ∙ ap (λ (k : ℕ). map f (split 32 s) ++ drop k t₀) m)
+
+  -- one word more, of which v is the entry
+  pub filling-next : (at′ v : ℕ) → v ≡ f w → n < length t → split 32 (drop at s) ≡ w ∷ split 32 (drop at′ s) → Filling f s t₀ (set t n v) at′ (n + 1)
+  filling-next at′ v p h e = subst (λ (z : ℕ). Filling f s t₀ (set t n z) at′ (n + 1)) (sym p) (filling-entry at′ h e)
+
+  pub filling-last : (v : ℕ) → v ≡ f w → n < length t → split 32 (drop at s) ≡ w ∷ [] → Put (map f (split 32 s)) 0 t₀ (set t n v) (record { count = n + 1; detail = 0 })
+  filling-last v p h e =
+      let q = filling-end h e in
+      let m = length-map (split 32 s) f in
+      record { count = q .0 ∙ sym m; detail = refl; table = ap (set t n) p ∙ q .1 ∙ ap (λ (k : ℕ). map f (split 32 s) ++ drop k t₀) (sym m) }
 
 -- ---- FOR's words, NEXT's, a row's
 
@@ -224,6 +234,10 @@ module _ (s : List ℕ) (e : ℕ) (found : e ≡ indexOf 32 s) where
         omega (arith, ap length q)
 
 -- by the kind
+first-one : (f : List ℕ → ℕ) (ws : List (List ℕ)) → 0 < length ws → length (map f (take 1 ws)) ≡ 1
+first-one f [] h = absurd (not-suc-le-zero h)
+first-one f (w ∷ ws) h = refl
+
 pub entries-for : (ws : List (List ℕ)) (k : ℕ) → k ≡ 9 → (map (entryBy true) (take 1 ws) ≡ entriesOf k ws) × (tierEntry (join 32 (drop 1 ws)) ≡ detailsOf k ws)
 unfolding entriesOf detailsOf
 entries-for ws k e = (rw e, rw e)
@@ -235,6 +249,16 @@ entries-next ws k e = (rw e, rw e)
 pub entries-numbers : (ws : List (List ℕ)) (k : ℕ) → (k ≡ 9 → ⊥) → (k ≡ 10 → ⊥) → (map (entryBy false) ws ≡ entriesOf k ws) × (0 ≡ detailsOf k ws)
 unfolding entriesOf detailsOf
 entries-numbers ws k p q = (rw (ne-eqb k 9 p, ne-eqb k 10 q), rw (ne-eqb k 9 p, ne-eqb k 10 q))
+
+-- the room for what is written
+pub for-room : (l : List ℕ) (k n : ℕ) → k ≡ 9 → length (entriesOf k (split 32 l)) ≤ n → 1 ≤ n
+for-room l k n e h = omega (arith, ap length (entries-for (split 32 l) k e .0), first-one (entryBy true) (split 32 l) (split-some 32 l))
+
+pub slots-room : (l : List ℕ) (k n : ℕ) → k ≡ 10 → length (entriesOf k (split 32 l)) ≤ n → length (drop 1 (split 32 l)) ≤ n
+slots-room l k n e h = omega (arith, ap length (entries-next (split 32 l) k e .0), length-map (drop 1 (split 32 l)) (entryBy true))
+
+pub numbers-room : (l : List ℕ) (k n : ℕ) → (k ≡ 9 → ⊥) → (k ≡ 10 → ⊥) → length (entriesOf k (split 32 l)) ≤ n → length (split 32 l) ≤ n
+numbers-room l k n p q h = omega (arith, ap length (entries-numbers (split 32 l) k p q .0), length-map (split 32 l) (entryBy false))
 
 pub put-by : {es fs : List ℕ} {d b : ℕ} (t t′ : List ℕ) (r : Given) → es ≡ fs → d ≡ b → Put es d t t′ r → Put fs b t t′ r
 put-by t t′ r e q g = record { count = g .count ∙ ap length e; detail = g .detail ∙ q; table = g .table ∙ ap (λ (l : List ℕ). l ++ drop (length l) t) e }

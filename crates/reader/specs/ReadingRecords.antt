@@ -7,7 +7,7 @@ use native.Mathlib.Omega.{arith}
 use lib.ListN.{length, length-append}
 use Rattle.reader.specs.Listing.{Simple, CondWord, BranchForm, to, stmts, absent, Stmts, ∅, _▸_, branching, Lines, nolines, line, size, len, total, count}
 use Rattle.reader.specs.Read.{OpenCond, Branches, noBranch, oneBranch, twoBranches, Position, begin, inModule, ended, inStmts, inCond, Reading, branched, numberOf}
-use Rattle.reader.specs.Sizes.{firstSize, branchSize, openSize, positionSize, within}
+use Rattle.reader.specs.Shown.{firstSize, branchesSize, openSize, positionSize, openLines}
 use Rattle.reader.specs.Records.{Rec, branchNumber, branchLine, simpleRec, condRec, stmtRecs, lineRecs, lineNumbers}
 
 -- ---- the list in which the next statement stands: its first node, its holder, its first number
@@ -139,15 +139,15 @@ unfolding lineRecs total
 lines-length nolines = refl
 lines-length (line ls n s) = length-append (lineRecs ls) _ ∙ omega (arith, lines-length ls, stmts-length (count ls) 0 0 (total ls) s)
 
-branches-length : (li j : ℕ) (bs : Branches) → length (branchRecs li j bs) ≡ branchSize bs
-unfolding branchRecs branchSize
+branches-length : (li j : ℕ) (bs : Branches) → length (branchRecs li j bs) ≡ branchesSize bs
+unfolding branchRecs branchesSize
 branches-length li j noBranch = refl
 branches-length li j (oneBranch a) = stmts-length li (suc j) 0 (suc j) (a .1)
 branches-length li j (twoBranches a b) =
     length-append (stmtRecs li (suc j) 0 (suc j) (a .1)) _ ∙ omega (arith, stmts-length li (suc j) 0 (suc j) (a .1), stmts-length li (suc j) (len (a .1)) (suc j + size (a .1)) (b .1))
 
-branches-size : (o : Option (BranchForm × Stmts)) → branchSize (branchesOf o) ≡ firstSize o
-unfolding branchSize branchesOf firstSize
+branches-size : (o : Option (BranchForm × Stmts)) → branchesSize (branchesOf o) ≡ firstSize o
+unfolding branchesSize branchesOf firstSize
 branches-size none = refl
 branches-size (some a) = refl
 
@@ -190,15 +190,15 @@ unfolding lineNumbers count
 numbers-count nolines = refl
 numbers-count (line ls n s) = length-append (lineNumbers ls) (n ∷ []) ∙ omega (arith, numbers-count ls)
 
-open-count : (n : ℕ) (p : Position) → length (openNumbers n p) ≡ within p
-unfolding openNumbers within
+open-count : (n : ℕ) (p : Position) → length (openNumbers n p) ≡ openLines p
+unfolding openNumbers openLines
 open-count n begin = refl
 open-count n inModule = refl
 open-count n ended = refl
 open-count n (inStmts s fs) = refl
 open-count n (inCond s k bs fs) = refl
 
-pub numbers-length : (r : Reading) (p : Position) → length (numbersOf r p) ≡ count (r .lines) + within p
+pub numbers-length : (r : Reading) (p : Position) → length (numbersOf r p) ≡ count (r .lines) + openLines p
 unfolding numbersOf
 numbers-length r p = length-append (lineNumbers (r .lines)) (openNumbers (numberOf (r .last)) p) ∙ omega (arith, numbers-count (r .lines), open-count (numberOf (r .last)) p)
 

@@ -8,14 +8,16 @@ ghost use Rattle.reader.specs.Rows.{split, parseNumber, parseName};
 ghost use Rattle.reader.specs.RowForms.{join};
 ghost use Rattle.reader.specs.Operands.{numberEntry, keyEntry, numberAnswer, keyAnswer, entryBy, tierEntry, markEntry, headMark, rowEntries, rowDetail, Put};
 
-use crate::names::key_of;
-use crate::names::NameKey;
-use crate::numbers::number;
-use crate::numbers::ParsedNumber;
-use crate::scan::equal;
-use crate::scan::find;
-use crate::words::kind_of;
-use crate::words::word_of;
+use super::names::key_of;
+use super::names::NameKey;
+use super::numbers::number;
+use super::numbers::ParsedNumber;
+use super::scan::equal;
+use super::scan::find;
+use super::words::kind_of;
+use super::words::word_of;
+use super::words::FOR;
+use super::words::NEXT;
 
 // How many arguments a statement has, and FOR's tier or NEXT's mark.
 pub struct Given {
@@ -156,10 +158,10 @@ pub(crate) fn put_operands(s: &[u8], part: &mut [u64]) -> Given
     }
     let k = kind_of(word_of(&s[0..e]));
     let from = e + 1;
-    if k == 9 {
+    if k == FOR {
         return put_for(&s[from..], part);
     }
-    if k == 10 {
+    if k == NEXT {
         return put_next(&s[from..], part);
     }
     put_words(&s[from..], false, part)

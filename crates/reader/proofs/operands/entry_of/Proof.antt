@@ -1,4 +1,16 @@
+-- By what is asked for. Assumes nothing.
 use borrow.Author.Needs.{needs}
+use native.Mathlib.Omega.{arith}
+use mathlib.Core.Path.{_≡_, refl, sym, ap, _∙_, subst}
+use mathlib.Core.Bool.{Bool, true, false}
+use mathlib.Core.List.{List, _∷_, _++_, map}
+use Prim.Native.Nat.{ℕ, suc, _+_, _*_, _-_, _≤_, _<_}
+use lib.ListN.{length, take, drop, set}
+use borrow.Author.Tests.{not-true, not-false}
+use Rattle.reader.specs.Bytes.{bytes, same}
+use Rattle.reader.specs.Rows.{split, parseName, parseNumber}
+use Rattle.reader.specs.Scan.{pieceAt, next-last, next-more}
+use Rattle.reader.specs.Operands.{entryBy, tierEntry, markEntry, numberAnswer, keyAnswer, number-answer, key-answer, Filling, filling-start, filling-room, filling-next, filling-last, for-alone, for-pair}
 use Rattle.reader.proofs.operands.entry_of.Statement.{statement}
 use Rattle.reader.proofs.operands.entry_of.Tie as tie
 use Rattle.reader.proofs.operands.entry_of.Reads as reads
@@ -18,7 +30,10 @@ key-answer-requires c κs = search needs
 
 -- src/arguments.rt:56:9
 returns : tie.Need-returns
-returns c = ?
+unfolding entryBy
+returns c =
+    let w = c .before .before .before .before .args .w .now in
+    c .key-answer .ensures ∙ ap keyAnswer (c .before .key-of .ensures) ∙ key-answer (parseName w) ∙ ap (λ (b : Bool). entryBy b w) (sym (c .before .before .if1 .taken))
 
 -- src/arguments.rt:58:19
 number-requires : tie.Need-number-requires
@@ -30,7 +45,10 @@ number-answer-requires c κs = search needs
 
 -- src/arguments.rt:52:1
 returns-2 : tie.Need-returns-2
-returns-2 c = ?
+unfolding entryBy
+returns-2 c =
+    let w = c .before .before .before .before .args .w .now in
+    c .number-answer .ensures ∙ ap numberAnswer (c .before .number .ensures) ∙ number-answer (parseNumber w) ∙ ap (λ (b : Bool). entryBy b w) (sym (c .before .before .if1 .left))
 
 pub entry-of-spec : {M : Type 1} → statement M
 entry-of-spec =

@@ -1,4 +1,16 @@
+-- The name is the first word, the tier the text after it. Assumes nothing.
 use borrow.Author.Needs.{needs}
+use native.Mathlib.Omega.{arith}
+use mathlib.Core.Path.{_≡_, refl, sym, ap, _∙_, subst}
+use mathlib.Core.Bool.{true, false}
+use mathlib.Core.List.{List, _∷_, _++_, map}
+use Prim.Native.Nat.{ℕ, suc, _+_, _*_, _-_, _≤_, _<_}
+use lib.ListN.{length, take, drop, set}
+use borrow.Author.Tests.{not-true, not-false}
+use Rattle.reader.specs.Bytes.{bytes, same}
+use Rattle.reader.specs.Rows.{split, parseName, parseNumber}
+use Rattle.reader.specs.Scan.{pieceAt, next-last, next-more}
+use Rattle.reader.specs.Operands.{entryBy, tierEntry, markEntry, numberAnswer, keyAnswer, number-answer, key-answer, Filling, filling-start, filling-room, filling-next, filling-last, for-alone, for-pair}
 use Rattle.reader.proofs.operands.put_for.Statement.{statement}
 use Rattle.reader.proofs.operands.put_for.Tie as tie
 use Rattle.reader.proofs.operands.put_for.Reads as reads
@@ -37,7 +49,9 @@ same-length c = search needs
 
 -- src/arguments.rt:112:9
 returns : tie.Need-returns
-returns c = ?
+returns c =
+    let a = c .before .before .before .before .before .before .args in
+    for-alone (a .s .now) (c .before .before .before .find .result) (c .before .before .before .find .ensures .0) (a .part .now) (c .before .entry-of .result) (c .before .before .before .before .before .before .pre) (c .if1 .taken) (c .before .entry-of .ensures)
 
 -- src/arguments.rt:117:16
 add-from : tie.Need-add-from
@@ -65,7 +79,10 @@ same-length-2 c = search needs
 
 -- src/arguments.rt:105:1
 returns-2 : tie.Need-returns-2
-returns-2 c = ?
+returns-2 c =
+    let d = c .before .before in
+    let a = d .before .before .before .before .before .before .args in
+    for-pair (a .s .now) (d .before .before .before .find .result) (d .before .before .before .find .ensures .0) (a .part .now) (d .before .entry-of .result) (c .tier-of .result) (d .before .before .before .before .before .before .pre) (omega arith) (d .before .entry-of .ensures) (c .tier-of .ensures)
 
 pub put-for-spec : {M : Type 1} → statement M
 put-for-spec =
