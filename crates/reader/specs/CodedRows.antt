@@ -16,7 +16,7 @@ use Rattle.reader.specs.Rows.{split, areWords, stripClose, Row as FormRo
 use Rattle.reader.specs.WordTable.{forms, wordIndex, kind, kindOf, kindAt, content-at}
 use Rattle.reader.specs.Scan.{indexOf, split-last, split-some, after, split-alone, split-first}
 use Rattle.reader.specs.Numbers.{asNumber}
-use Rattle.reader.specs.Arguments.{severityOf, severityBy, worst, worstOf, argCheck, checkFor, checkNext, checkKind, severity-with, numbers-severity, slots-severity}
+use Rattle.reader.specs.Arguments.{severityOf, worst, argCheck, checkFor, checkNext, checkKind, severity-with, numbers-severity, slots-severity}
 use Rattle.reader.specs.declared.numbers.ParsedNumber.{ParsedNumber}
 use Rattle.reader.specs.declared.numbers.ParsedNumber.the-variants.{Malformed, Invalid, Value}
 use Rattle.reader.specs.declared.arguments.ArgCheck.{ArgCheck}

@@ -2,7 +2,6 @@
 use Prim.Native.Nat.{ℕ, suc, _+_, _-_, _≤_, _<_}
 use mathlib.Core.Path.{_≡_, refl, sym, ap, _∙_, subst}
 use mathlib.Core.List.{List, [], _∷_}
-use mathlib.Core.Bool.{true, false}
 use native.Mathlib.Nat.{not-suc-le-zero}
 use native.Mathlib.Numerals.{add-one}
 use native.Mathlib.Omega.{arith}
@@ -15,7 +14,7 @@ use Rattle.reader.specs.Rows.{split, rowOf, contentOf}
 use Rattle.reader.specs.Read.{OpenCond, Position, begin, inModule, ended, inStmts, inCond, Reading, start, Outcome, taken, refused, readRow, Answer, listing, refusal, finish, readRows, read}
 use Rattle.reader.specs.ListingText.{LinesOk}
 use Rattle.reader.specs.RowText.{content-text}
-use Rattle.reader.specs.Shown.{shown, openLines, positionSize, OpenOk, PositionOk, Good, Next}
+use Rattle.reader.specs.Shown.{openLines, positionSize, OpenOk, PositionOk, Good, Next}
 use Rattle.reader.specs.ShownLaws.{row-next}
 use Rattle.reader.specs.Scan.{indexOf, split-some, pieceAt, next-last, next-more}
 use Rattle.reader.specs.CodedRows.{asRow}
@@ -163,5 +162,5 @@ module _ (text : List ℕ) (s : State) (i at e : ℕ) (short : length text ≤ 6
           reading = q .0;
           state = q .2;
           good = good-row r (q .0) (pieceAt text at e) (f .good) (q .1);
-          rest = rw (add-one i) (sym p ∙ sym (ap (readRows r i) pieces) ∙ f .rest)
+          rest = rw (add-one i) (sym p ∙ sym (ap (readRows r i) pieces) ∙ f .rest);
         }

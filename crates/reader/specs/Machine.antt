@@ -73,8 +73,16 @@ branchCode (inCond s k bs fs) = branchCount bs
 
 unfoldable pub stateAt : Reading → Position → State
 stateAt r p = record {
-    position = positionCode p; handlers = r .handlers; last = lastCode (r .last); lines = r .lineCount; stmts = r .stmtCount;
-    depth = length (openConds p); open_conds = packed (openConds p); word = wordCode p; branches = branchCode p }
+  position = positionCode p;
+  handlers = r .handlers;
+  last = lastCode (r .last);
+  lines = r .lineCount;
+  stmts = r .stmtCount;
+  depth = length (openConds p);
+  open_conds = packed (openConds p);
+  word = wordCode p;
+  branches = branchCode p;
+}
 
 unfoldable pub asState : Reading → State
 asState r = stateAt r (r .position)
@@ -84,6 +92,18 @@ asStep (taken r) = Taken (asState r)
 asStep (refused n) = Refused n
 
 -- ---- the steps
+
+-- outside of all lines
+abbrev pub outside : State → ℕ → State
+outside s p = record { position = p; handlers = s .handlers; last = s .last; lines = s .lines; stmts = s .stmts; depth = 0; open_conds = 0; word = 0; branches = 0 }
+
+-- at another position, as deep as before
+abbrev pub moved : State → ℕ → ℕ → ℕ → State
+moved s p w b = record { position = p; handlers = s .handlers; last = s .last; lines = s .lines; stmts = s .stmts; depth = s .depth; open_conds = s .open_conds; word = w; branches = b }
+
+-- with one statement more
+abbrev pub oneMore : State → ℕ → ℕ → State
+oneMore s p w = record { position = p; handlers = s .handlers; last = s .last; lines = s .lines; stmts = s .stmts + 1; depth = s .depth; open_conds = s .open_conds; word = w; branches = 0 }
 
 abbrev pub stepModule : State → Bool → Step
 stepModule s h = pick (eqb (s .position) 0) (Taken (record { position = 1; handlers = h; last = s .last; lines = s .lines; stmts = s .stmts; depth = 0; open_conds = 0; word = 0; branches = 0 })) (Refused 2)
@@ -104,7 +124,7 @@ stepSimple s n =
     (pick (ltb (s .stmts) 4096)
     (pick (leb (s .depth) 16)
     (pick (leb n 64)
-    (Taken (record { position = 3; handlers = s .handlers; last = s .last; lines = s .lines; stmts = s .stmts + 1; depth = s .depth; open_conds = s .open_conds; word = 0; branches = 0 }))
+    (Taken (oneMore s 3 0))
     (Refused 8))
     (Refused 7))
     (Refused 6))
@@ -115,7 +135,7 @@ stepCond s k =
     pick (eqb (s .position) 3)
     (pick (ltb (s .stmts) 4096)
     (pick (leb (s .depth) 16)
-    (Taken (record { position = 4; handlers = s .handlers; last = s .last; lines = s .lines; stmts = s .stmts + 1; depth = s .depth; open_conds = s .open_conds; word = k; branches = 0 }))
+    (Taken (oneMore s 4 k))
     (Refused 7))
     (Refused 6))
     (Refused 2)
@@ -140,7 +160,7 @@ abbrev pub stepTo : State → Step
 stepTo s =
     pick (eqb (s .position) 4)
     (pick (mayBranch (s .word) (s .branches))
-    (Taken (record { position = 4; handlers = s .handlers; last = s .last; lines = s .lines; stmts = s .stmts; depth = s .depth; open_conds = s .open_conds; word = s .word; branches = s .branches + 1 }))
+    (Taken (moved s 4 (s .word) (s .branches + 1)))
     (Refused 2))
     (Refused 2)
 
@@ -155,7 +175,7 @@ invalidAt s p = pick (eqb (s .position) p) (Refused 3) (Refused 2)
 abbrev pub endOfStmts : State → Step
 endOfStmts s =
     pick (eqb (s .depth) 0)
-    (Taken (record { position = 1; handlers = s .handlers; last = s .last; lines = s .lines; stmts = s .stmts; depth = 0; open_conds = 0; word = 0; branches = 0 }))
+    (Taken (outside s 1))
     (Taken (record { position = 4; handlers = s .handlers; last = s .last; lines = s .lines; stmts = s .stmts; depth = s .depth - 1; open_conds = s .open_conds / 8; word = (s .open_conds % 8) / 2; branches = (s .open_conds % 8) % 2 + 1 }))
 
 abbrev pub stepEnd : State → Step
@@ -163,10 +183,10 @@ stepEnd s =
     pick (eqb (s .position) 3) (endOfStmts s)
     (pick (eqb (s .position) 4)
     (pick (isComplete (s .word) (s .branches))
-    (Taken (record { position = 3; handlers = s .handlers; last = s .last; lines = s .lines; stmts = s .stmts; depth = s .depth; open_conds = s .open_conds; word = 0; branches = 0 }))
+    (Taken (moved s 3 0 0))
     (Refused 2))
     (pick (eqb (s .position) 1)
-    (Taken (record { position = 2; handlers = s .handlers; last = s .last; lines = s .lines; stmts = s .stmts; depth = 0; open_conds = 0; word = 0; branches = 0 }))
+    (Taken (outside s 2))
     (Refused 2)))
 
 abbrev pub stepRow : State → Row → Step

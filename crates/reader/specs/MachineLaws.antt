@@ -308,5 +308,5 @@ state-bounded r d =
       openConds = omega (arith, packed-below (openConds (r .position)), power-le (length (openConds (r .position))) 17 d);
       word = word-le (r .position);
       branches = branch-le (r .position);
-      depth = d
+      depth = d;
     }

@@ -1,6 +1,6 @@
 -- Names, their keys, and that a key is that of one name. Assumes nothing.
 use Prim.Native.Nat.{ℕ, zero, suc, _+_, _*_, _-_, _≤_, _<_}
-use mathlib.Core.Path.{_≡_, refl, sym, ap, _∙_}
+use mathlib.Core.Path.{_≡_, refl, sym, ap}
 use mathlib.Core.List.{List, [], _∷_}
 use mathlib.Core.Bool.{Bool, true, false, _&&_, _||_}
 use mathlib.Core.Logic.{⊎-elim}
@@ -114,8 +114,8 @@ suffix-ends k b l h =
     let p = both-true (eqb b 37 || eqb b 36) (same l []) h in
     let e : l ≡ [] = same-empty l (p .1) in
     let g : inKey b ≡ true =
-        ⊎-elim (λ x. in-key b (omega (arith, eqb-true b 37 x)) (omega (arith, eqb-true b 37 x))) (λ x. in-key b (omega (arith, eqb-true b 36 x)) (omega (arith, eqb-true b 36 x)))
-        (either-true (eqb b 37) (eqb b 36) (p .0)) in
+    ⊎-elim (λ x. in-key b (omega (arith, eqb-true b 37 x)) (omega (arith, eqb-true b 37 x))) (λ x. in-key b (omega (arith, eqb-true b 36 x)) (omega (arith, eqb-true b 36 x)))
+    (either-true (eqb b 37) (eqb b 36) (p .0)) in
     record { short = omega (arith, ap length e); bytes = rw (e, g) }
 
 ending : (k : ℕ) (l : List ℕ) → nameEnd k l ≡ true → Ending k l
@@ -129,8 +129,8 @@ ending (suc k) (b ∷ l) h = go (isCapital b || isDigit b) refl (λ x. ending k 
     go true e f h =
         let r = f h in
         let g : inKey b ≡ true =
-            ⊎-elim (λ x. let q = capital-range b x in in-key b (omega arith) (omega arith)) (λ x. let q = digit-range b x in in-key b (omega arith) (omega arith))
-            (either-true (isCapital b) (isDigit b) e) in
+        ⊎-elim (λ x. let q = capital-range b x in in-key b (omega arith) (omega arith)) (λ x. let q = digit-range b x in in-key b (omega arith) (omega arith))
+        (either-true (isCapital b) (isDigit b) e) in
         record { short = omega (arith, r .short); bytes = rw g (r .bytes) }
 
 name-short : (w : List ℕ) → isName w ≡ true → length w ≤ 9

@@ -1,7 +1,7 @@
 // The words after a form's opening word: the worst that is wrong with them, and how many there are.
 use super::names::is_name;
-use super::numbers::number;
 use super::numbers::ParsedNumber;
+use super::numbers::number;
 use super::scan::equal;
 use super::scan::find;
 use super::words::FOR;
@@ -142,7 +142,10 @@ fn check_all(s: &[u8], slots: bool) -> ArgCheck
         g = worse(g, argument_severity(slots, &s[at..to]));
         n += 1;
         if to == s.len() {
-            return ArgCheck { severity: g, count: n };
+            return ArgCheck {
+                severity: g,
+                count: n,
+            };
         }
         at = to + 1;
     }
@@ -164,13 +167,22 @@ fn check_for(s: &[u8]) -> ArgCheck
 {
     let e = find(s, 32);
     if e == s.len() {
-        return ArgCheck { severity: 2, count: 0 };
+        return ArgCheck {
+            severity: 2,
+            count: 0,
+        };
     }
     let from = e + 1;
     if find(&s[from..], 32) < s.len() - from {
-        return ArgCheck { severity: 2, count: 0 };
+        return ArgCheck {
+            severity: 2,
+            count: 0,
+        };
     }
-    ArgCheck { severity: worse(name_severity(&s[0..e]), tier_severity(&s[from..])), count: 0 }
+    ArgCheck {
+        severity: worse(name_severity(&s[0..e]), tier_severity(&s[from..])),
+        count: 0,
+    }
 }
 
 // A mark and slots.
@@ -180,11 +192,17 @@ fn check_next(s: &[u8]) -> ArgCheck
     let e = find(s, 32);
     let m = mark_severity(&s[0..e]);
     if e == s.len() {
-        return ArgCheck { severity: m, count: 0 };
+        return ArgCheck {
+            severity: m,
+            count: 0,
+        };
     }
     let from = e + 1;
     let t = check_all(&s[from..], true);
-    ArgCheck { severity: worse(m, t.severity), count: t.count }
+    ArgCheck {
+        severity: worse(m, t.severity),
+        count: t.count,
+    }
 }
 
 // The words of s, one or more, after an opening word of this kind.
@@ -192,10 +210,16 @@ pub(crate) fn check_kind(kind: u8, s: &[u8]) -> ArgCheck
     ensures { λ r. ⌜ r ≡ checkKind kind (split 32 (now (s .entry))) ⌝ }
 {
     if kind == NUMBER {
-        return ArgCheck { severity: number_severity(single_number(s)), count: 0 };
+        return ArgCheck {
+            severity: number_severity(single_number(s)),
+            count: 0,
+        };
     }
     if kind == RUN {
-        return ArgCheck { severity: number_severity(single_number(s)), count: 0 };
+        return ArgCheck {
+            severity: number_severity(single_number(s)),
+            count: 0,
+        };
     }
     if kind == NUMBERS {
         return check_all(s, false);
@@ -206,5 +230,8 @@ pub(crate) fn check_kind(kind: u8, s: &[u8]) -> ArgCheck
     if kind == NEXT {
         return check_next(s);
     }
-    ArgCheck { severity: 2, count: 0 }
+    ArgCheck {
+        severity: 2,
+        count: 0,
+    }
 }

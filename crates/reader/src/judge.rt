@@ -1,9 +1,9 @@
 // The judge: a whole text, accepted or refused.
-use super::machine::start_state;
-use super::machine::step_row;
+use super::machine::ENDED;
 use super::machine::State;
 use super::machine::Step;
-use super::machine::ENDED;
+use super::machine::start_state;
+use super::machine::step_row;
 use super::rows::row_of;
 use super::scan::find;
 ghost use mathlib.Core.Path.{_≡_};
@@ -12,8 +12,15 @@ ghost use Rattle.reader.specs.Judge.{finishState, verdictOf};
 
 // The listing's handlers, lines and statements, or the refusal's number and place.
 pub enum Verdict {
-    Accepted { handlers: bool, lines: usize, stmts: usize },
-    Refused { number: u8, place: usize },
+    Accepted {
+        handlers: bool,
+        lines: usize,
+        stmts: usize,
+    },
+    Refused {
+        number: u8,
+        place: usize,
+    },
 }
 
 const MAX_BYTES: usize = 65536;
@@ -24,11 +31,21 @@ fn finish(s: State, i: usize, e: usize) -> Verdict
 {
     if s.position == ENDED {
         if e == 0 {
-            return Verdict::Accepted { handlers: s.handlers, lines: s.lines, stmts: s.stmts };
+            return Verdict::Accepted {
+                handlers: s.handlers,
+                lines: s.lines,
+                stmts: s.stmts,
+            };
         }
-        return Verdict::Refused { number: 2, place: i };
+        return Verdict::Refused {
+            number: 2,
+            place: i,
+        };
     }
-    Verdict::Refused { number: 2, place: i }
+    Verdict::Refused {
+        number: 2,
+        place: i,
+    }
 }
 
 // "The first bad row decides": the rows one after the other.
@@ -36,7 +53,10 @@ pub fn judge(text: &[u8]) -> Verdict
     ensures { λ r. ⌜ r ≡ verdictOf (read (now (text .entry))) ⌝ }
 {
     if MAX_BYTES < text.len() {
-        return Verdict::Refused { number: 1, place: 0 };
+        return Verdict::Refused {
+            number: 1,
+            place: 0,
+        };
     }
     let mut s = start_state();
     let mut at: usize = 0;
@@ -49,7 +69,10 @@ pub fn judge(text: &[u8]) -> Verdict
         }
         match step_row(s, row_of(&text[at..to])) {
             Step::Refused(n) => {
-                return Verdict::Refused { number: n, place: i };
+                return Verdict::Refused {
+                    number: n,
+                    place: i,
+                };
             }
             Step::Taken(t) => {
                 s = t;

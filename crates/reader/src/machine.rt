@@ -3,18 +3,25 @@ use super::rows::Row;
 ghost use mathlib.Core.Path.{_≡_};
 ghost use Prim.Native.Nat.{_≤_, _<_};
 ghost use Rattle.reader.specs.Read.{start};
-ghost use Rattle.reader.specs.Machine.{asState, stepModule, stepLine, stepSimple, stepCond, mayBranch, isComplete, stepStmts, stepTo, stepBadTo, invalidAt, endOfStmts, stepEnd, stepRow};
+ghost use Rattle.reader.specs.Machine.{asState, outside, moved, oneMore, stepModule, stepLine, stepSimple, stepCond, mayBranch, isComplete, stepStmts, stepTo, stepBadTo, invalidAt, endOfStmts, stepEnd, stepRow};
 
 // Where the next row stands.
 pub(crate) const BEGIN: u8 = 0;
+
 pub(crate) const IN_MODULE: u8 = 1;
+
 pub(crate) const ENDED: u8 = 2;
+
 pub(crate) const IN_STMTS: u8 = 3;
+
 pub(crate) const IN_COND: u8 = 4;
 
 const MAX_LINES: usize = 1024;
+
 const MAX_STMTS: usize = 4096;
+
 const MAX_DEPTH: usize = 16;
+
 const MAX_ARGS: usize = 64;
 
 // last: 0, or one more than the last line's number. lines, stmts: how many were begun.
@@ -40,7 +47,69 @@ pub(crate) enum Step {
 pub(crate) fn start_state() -> State
     ensures { λ r. ⌜ r ≡ asState start ⌝ }
 {
-    State { position: BEGIN, handlers: false, last: 0, lines: 0, stmts: 0, depth: 0, open_conds: 0, word: 0, branches: 0 }
+    State {
+        position: BEGIN,
+        handlers: false,
+        last: 0,
+        lines: 0,
+        stmts: 0,
+        depth: 0,
+        open_conds: 0,
+        word: 0,
+        branches: 0,
+    }
+}
+
+// Outside of all lines.
+fn outside(s: State, position: u8) -> State
+    ensures { λ r. ⌜ r ≡ outside s position ⌝ }
+{
+    State {
+        position,
+        handlers: s.handlers,
+        last: s.last,
+        lines: s.lines,
+        stmts: s.stmts,
+        depth: 0,
+        open_conds: 0,
+        word: 0,
+        branches: 0,
+    }
+}
+
+// At another position, as deep as before.
+fn moved(s: State, position: u8, word: u64, branches: u64) -> State
+    ensures { λ r. ⌜ r ≡ moved s position word branches ⌝ }
+{
+    State {
+        position,
+        handlers: s.handlers,
+        last: s.last,
+        lines: s.lines,
+        stmts: s.stmts,
+        depth: s.depth,
+        open_conds: s.open_conds,
+        word,
+        branches,
+    }
+}
+
+// With one statement more.
+fn one_more(s: State, position: u8, word: u64) -> State
+    requires { ⌜ s .stmts < 4096 ⌝ }
+    ensures { λ r. ⌜ r ≡ oneMore s position word ⌝ }
+{
+    State {
+        position,
+        handlers: s.handlers,
+        last: s.last,
+        lines: s.lines,
+        stmts: s.stmts + 1,
+        depth: s.depth,
+        open_conds: s.open_conds,
+        word,
+        branches: 0,
+    }
 }
 
 fn step_module(s: State, h: bool) -> Step
@@ -107,17 +176,7 @@ fn step_simple(s: State, count: usize) -> Step
         if MAX_ARGS < count {
             return Step::Refused(8);
         }
-        return Step::Taken(State {
-            position: IN_STMTS,
-            handlers: s.handlers,
-            last: s.last,
-            lines: s.lines,
-            stmts: s.stmts + 1,
-            depth: s.depth,
-            open_conds: s.open_conds,
-            word: 0,
-            branches: 0,
-        });
+        return Step::Taken(one_more(s, IN_STMTS, 0));
     }
     Step::Refused(2)
 }
@@ -138,17 +197,7 @@ fn step_cond(s: State, k: usize) -> Step
         if MAX_DEPTH < s.depth {
             return Step::Refused(7);
         }
-        return Step::Taken(State {
-            position: IN_COND,
-            handlers: s.handlers,
-            last: s.last,
-            lines: s.lines,
-            stmts: s.stmts + 1,
-            depth: s.depth,
-            open_conds: s.open_conds,
-            word: wide_word(k),
-            branches: 0,
-        });
+        return Step::Taken(one_more(s, IN_COND, wide_word(k)));
     }
     Step::Refused(2)
 }
@@ -208,17 +257,7 @@ fn step_to(s: State) -> Step
 {
     if s.position == IN_COND {
         if may_branch(s.word, s.branches) {
-            return Step::Taken(State {
-                position: IN_COND,
-                handlers: s.handlers,
-                last: s.last,
-                lines: s.lines,
-                stmts: s.stmts,
-                depth: s.depth,
-                open_conds: s.open_conds,
-                word: s.word,
-                branches: s.branches + 1,
-            });
+            return Step::Taken(moved(s, IN_COND, s.word, s.branches + 1));
         }
         return Step::Refused(2);
     }
@@ -253,17 +292,7 @@ fn end_of_stmts(s: State) -> Step
     ensures { λ r. ⌜ r ≡ endOfStmts s ⌝ }
 {
     if s.depth == 0 {
-        return Step::Taken(State {
-            position: IN_MODULE,
-            handlers: s.handlers,
-            last: s.last,
-            lines: s.lines,
-            stmts: s.stmts,
-            depth: 0,
-            open_conds: 0,
-            word: 0,
-            branches: 0,
-        });
+        return Step::Taken(outside(s, IN_MODULE));
     }
     let top = s.open_conds % 8;
     Step::Taken(State {
@@ -287,32 +316,12 @@ fn step_end(s: State) -> Step
     }
     if s.position == IN_COND {
         if is_complete(s.word, s.branches) {
-            return Step::Taken(State {
-                position: IN_STMTS,
-                handlers: s.handlers,
-                last: s.last,
-                lines: s.lines,
-                stmts: s.stmts,
-                depth: s.depth,
-                open_conds: s.open_conds,
-                word: 0,
-                branches: 0,
-            });
+            return Step::Taken(moved(s, IN_STMTS, 0, 0));
         }
         return Step::Refused(2);
     }
     if s.position == IN_MODULE {
-        return Step::Taken(State {
-            position: ENDED,
-            handlers: s.handlers,
-            last: s.last,
-            lines: s.lines,
-            stmts: s.stmts,
-            depth: 0,
-            open_conds: 0,
-            word: 0,
-            branches: 0,
-        });
+        return Step::Taken(outside(s, ENDED));
     }
     Step::Refused(2)
 }

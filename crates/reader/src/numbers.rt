@@ -73,9 +73,9 @@ pub fn number(w: &[u8]) -> ParsedNumber
     if !no_leading_zero(w) {
         return ParsedNumber::Invalid;
     }
-    let v = value_of(w);
-    if 65535 < v {
+    let n = value_of(w);
+    if 65535 < n {
         return ParsedNumber::Invalid;
     }
-    ParsedNumber::Value(v as u16)
+    ParsedNumber::Value(n as u16)
 }

@@ -1,13 +1,11 @@
 // What a row says, wherever it stands.
+use super::arguments::ArgCheck;
 use super::arguments::are_words;
 use super::arguments::check_kind;
 use super::arguments::single_number;
-use super::arguments::ArgCheck;
 use super::numbers::ParsedNumber;
 use super::scan::equal;
 use super::scan::find;
-use super::words::kind_of;
-use super::words::word_of;
 use super::words::BARE;
 use super::words::COND;
 use super::words::LINE;
@@ -16,6 +14,8 @@ use super::words::NUMBERS;
 use super::words::RUN;
 use super::words::STMTS;
 use super::words::TO;
+use super::words::kind_of;
+use super::words::word_of;
 ghost use mathlib.Core.Path.{_≡_};
 ghost use Prim.Native.Nat.{_-_};
 ghost use Rattle.reader.specs.Rows.{split, moduleContent, formRow, rowOf, contentOf};
@@ -42,7 +42,10 @@ fn simple_row(k: usize, t: ArgCheck) -> Row
     ensures { λ r. ⌜ r ≡ simpleBy k t ⌝ }
 {
     if t.severity == 0 {
-        return Row::Simple { word: k, count: t.count };
+        return Row::Simple {
+            word: k,
+            count: t.count,
+        };
     }
     if t.severity == 1 {
         return Row::InvalidSimple;

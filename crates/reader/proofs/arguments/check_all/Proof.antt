@@ -4,9 +4,9 @@ use native.Mathlib.Omega.{arith}
 use mathlib.Core.Path.{_∙_, _≡_, ap, sym}
 use mathlib.Core.List.{List}
 use Prim.Native.Nat.{_+_, _-_, _≤_, suc, ℕ}
-use lib.ListN.{drop, length, take}
+use lib.ListN.{drop, length}
 use Rattle.reader.specs.Rows.{parseSlots, split}
-use Rattle.reader.specs.Scan.{next-last, next-more}
+use Rattle.reader.specs.Scan.{next-last, next-more, pieceAt}
 use Rattle.reader.specs.Arguments.{argCheck, check-is, severityBy, worst, worst-last, worst-next, worst-zero, worstOf}
 use Rattle.reader.proofs.arguments.check_all.Statement.{statement}
 use Rattle.reader.proofs.arguments.check_all.Tie as tie
@@ -60,14 +60,16 @@ returns c =
     let at-loop = at-find .before .before in
     let at-start = at-loop .before .before in
     let s = at-start .args .s .now in
-    let at = at-loop .loop .at in
+    let l = at-loop .loop in
+    let at = l .at in
     let e = at-find .find .result in
-    let w = take (at + e - at) (drop at s) in
+    let w = pieceAt s at e in
     let f = severityBy (at-start .args .slots) in
-    let x : c .before .worse .result ≡ worst (at-loop .loop .g) (f w) = c .before .worse .ensures ∙ ap (worst (at-loop .loop .g)) (c .before .before .argument-severity .ensures) in
+    let x : c .before .worse .result ≡ worst (l .g) (f w) = c .before .worse .ensures ∙ ap (worst (l .g)) (c .before .before .argument-severity .ensures) in
     let p = next-last 32 s at e (omega arith) (at-find .find .ensures .0) (c .if1 .taken) in
-    let g : c .before .worse .result ≡ worstOf f (split 32 s) = x ∙ sym (worst-last f (at-loop .loop .g) w) ∙ ap (λ (z : List (List ℕ)). worst (at-loop .loop .g) (worstOf f z)) (sym p) ∙ at-loop .loop .inv .2 in
-    let n : at-loop .loop .n + 1 ≡ length (split 32 s) = omega (arith, ap length p, at-loop .loop .inv .3) in
+    let g : c .before .worse .result ≡ worstOf f (split 32 s) =
+    x ∙ sym (worst-last f (l .g) w) ∙ ap (λ (z : List (List ℕ)). worst (l .g) (worstOf f z)) (sym p) ∙ l .inv .2 in
+    let n : l .n + 1 ≡ length (split 32 s) = omega (arith, ap length p, l .inv .3) in
     check-is g n
 
 add-at : tie.Need-add-at Inv-loop μ-loop
@@ -82,14 +84,19 @@ loop-again c =
     let at-loop = at-find .before .before in
     let at-start = at-loop .before .before in
     let s = at-start .args .s .now in
-    let at = at-loop .loop .at in
+    let l = at-loop .loop in
+    let at = l .at in
     let e = at-find .find .result in
-    let w = take (at + e - at) (drop at s) in
+    let w = pieceAt s at e in
     let f = severityBy (at-start .args .slots) in
-    let x : c .before .worse .result ≡ worst (at-loop .loop .g) (f w) = c .before .worse .ensures ∙ ap (worst (at-loop .loop .g)) (c .before .before .argument-severity .ensures) in
+    let x : c .before .worse .result ≡ worst (l .g) (f w) = c .before .worse .ensures ∙ ap (worst (l .g)) (c .before .before .argument-severity .ensures) in
     let p = next-more 32 s at e (omega arith) (at-find .find .ensures .0) (c .if1 .left) (at-find .find .ensures .1) in
-    let ws = split 32 (drop (at + e + 1) s) in
-    (omega arith, omega arith, ap (λ (z : ℕ). worst z (worstOf f ws)) x ∙ worst-next f (at-loop .loop .g) w ws ∙ ap (λ (z : List (List ℕ)). worst (at-loop .loop .g) (worstOf f z)) (sym (p .1)) ∙ at-loop .loop .inv .2, omega (arith, ap length (p .1), at-loop .loop .inv .3))
+    let ws = split 32 (drop (at + e + 1) s) in (
+      omega arith,
+      omega arith,
+      ap (λ (z : ℕ). worst z (worstOf f ws)) x ∙ worst-next f (l .g) w ws ∙ ap (λ (z : List (List ℕ)). worst (l .g) (worstOf f z)) (sym (p .1)) ∙ l .inv .2,
+      omega (arith, ap length (p .1), l .inv .3),
+    )
 
 pub check-all-spec : {M : Type 1} → statement M
 check-all-spec =

@@ -47,7 +47,10 @@ returns-2 : tie.Need-returns-2 Inv-loop μ-loop
 returns-2 c =
     let at-loop = c .before .before .before .before in
     let at-start = at-loop .before .before .before .before in
-    c .finish .ensures ∙ follows-last (at-start .args .text .now) (at-loop .loop .s) (at-loop .loop .i) (at-loop .loop .at) (c .before .before .find .result) (omega arith) (at-loop .loop .inv .2) (omega arith) (c .before .before .find .ensures .0) (c .before .if2 .taken)
+    let l = at-loop .loop in
+    let found = c .before .before .find in
+    c .finish .ensures
+    ∙ follows-last (at-start .args .text .now) (l .s) (l .i) (l .at) (found .result) (omega arith) (l .inv .2) (omega arith) (found .ensures .0) (c .before .if2 .taken)
 
 sub-row-of : tie.Need-sub-row-of Inv-loop μ-loop
 sub-row-of c = search needs
@@ -75,7 +78,11 @@ returns-3 c =
     let at-find = at-if2 .before in
     let at-loop = at-find .before .before in
     let at-start = at-loop .before .before .before .before in
-    follows-refused (at-start .args .text .now) (at-loop .loop .s) (at-loop .loop .i) (at-loop .loop .at) (at-find .find .result) (omega arith) (at-loop .loop .inv .2) (omega arith) (at-find .find .ensures .0) (at-if2 .if2 .left) (at-find .find .ensures .1) (at-step-row .step-row .result) (at-step-row .step-row .ensures ∙ ap (stepRow (at-loop .loop .s)) (at-row-of .row-of .ensures)) (c .before .n .given .0 .0) (c .before .n .given .1)
+    let l = at-loop .loop in
+    let found = at-find .find in
+    follows-refused (at-start .args .text .now) (l .s) (l .i) (l .at) (found .result) (omega arith) (l .inv .2) (omega arith) (found .ensures .0)
+    (at-if2 .if2 .left) (found .ensures .1) (at-step-row .step-row .result) (at-step-row .step-row .ensures ∙ ap (stepRow (l .s)) (at-row-of .row-of .ensures))
+    (c .before .n .given .0 .0) (c .before .n .given .1)
 
 enum-known-t : tie.Need-enum-known-t Inv-loop μ-loop
 enum-known-t c = search needs
@@ -97,7 +104,14 @@ loop-again c =
     let at-find = at-if2 .before in
     let at-loop = at-find .before .before in
     let at-start = at-loop .before .before .before .before in
-    (omega (arith, at-find .find .ensures .1), omega arith, follows-taken (at-start .args .text .now) (at-loop .loop .s) (at-loop .loop .i) (at-loop .loop .at) (at-find .find .result) (omega arith) (at-loop .loop .inv .2) (omega arith) (at-find .find .ensures .0) (at-if2 .if2 .left) (at-find .find .ensures .1) (at-step-row .step-row .result) (at-step-row .step-row .ensures ∙ ap (stepRow (at-loop .loop .s)) (at-row-of .row-of .ensures)) (c .before .t .given .0 .0) (c .before .t .given .1))
+    let l = at-loop .loop in
+    let found = at-find .find in (
+      omega (arith, found .ensures .1),
+      omega arith,
+      follows-taken (at-start .args .text .now) (l .s) (l .i) (l .at) (found .result) (omega arith) (l .inv .2) (omega arith) (found .ensures .0)
+          (at-if2 .if2 .left) (found .ensures .1) (at-step-row .step-row .result) (at-step-row .step-row .ensures ∙ ap (stepRow (l .s)) (at-row-of .row-of .ensures))
+          (c .before .t .given .0 .0) (c .before .t .given .1),
+    )
 
 pub judge-spec : {M : Type 1} → statement M
 judge-spec =

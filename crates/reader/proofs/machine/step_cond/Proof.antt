@@ -1,7 +1,10 @@
 -- `step_cond`: position, then 6, 7. Assumes nothing.
 use borrow.Author.Needs.{needs}
 use native.Mathlib.Omega.{arith}
+use mathlib.Core.Path.{_∙_, ap}
 use borrow.Author.Tests.{eq-eqb, le-leb, le-ltb, lt-leb, lt-ltb, ne-eqb}
+use Rattle.reader.specs.declared.machine.Step.the-variants.{Taken}
+use Rattle.reader.specs.Machine.{oneMore}
 use Rattle.reader.proofs.machine.step_cond.Statement.{statement}
 use Rattle.reader.proofs.machine.step_cond.Tie as tie
 
@@ -16,21 +19,22 @@ returns-2 c =
     let at-start = at-if1 .before .before in
     rw (eq-eqb _ _ (at-if1 .if1 .taken), lt-ltb (at-start .args .s .stmts) 4096 (omega arith), lt-leb (at-start .args .s .depth) 16 (omega arith))
 
-add-t5 : tie.Need-add-t5
-add-t5 c = search needs
-
 wide-word-requires : tie.Need-wide-word-requires
 wide-word-requires c κs = search needs
+
+one-more-requires : tie.Need-one-more-requires
+one-more-requires c κs = search needs
 
 returns-3 : tie.Need-returns-3
 returns-3 c =
     let at-if1 = c .before .before .before .before .before .before in
     let at-start = at-if1 .before .before in
-    rw (eq-eqb _ _ (at-if1 .if1 .taken), lt-ltb (at-start .args .s .stmts) 4096 (omega arith), le-leb (at-start .args .s .depth) 16 (omega arith), c .wide-word .ensures)
+    rw (eq-eqb _ _ (at-if1 .if1 .taken), lt-ltb (at-start .args .s .stmts) 4096 (omega arith), le-leb (at-start .args .s .depth) 16 (omega arith))
+    (ap Taken (c .one-more .ensures ∙ ap (oneMore (at-start .args .s) 4) (c .before .wide-word .ensures)))
 
 returns-4 : tie.Need-returns-4
 returns-4 c = rw (ne-eqb _ _ (c .if1 .left))
 
 pub step-cond-spec : {M : Type 1} → statement M
 step-cond-spec =
-    tie.close (tie.spec returns returns-2 add-t5 wide-word-requires returns-3 returns-4)
+    tie.close (tie.spec returns returns-2 wide-word-requires one-more-requires returns-3 returns-4)

@@ -1,7 +1,9 @@
 -- `step_simple`: position, then 6, 7, 8. Assumes nothing.
 use borrow.Author.Needs.{needs}
 use native.Mathlib.Omega.{arith}
+use mathlib.Core.Path.{ap}
 use borrow.Author.Tests.{eq-eqb, le-leb, le-ltb, lt-leb, lt-ltb, ne-eqb}
+use Rattle.reader.specs.declared.machine.Step.the-variants.{Taken}
 use Rattle.reader.proofs.machine.step_simple.Statement.{statement}
 use Rattle.reader.proofs.machine.step_simple.Tie as tie
 
@@ -22,17 +24,19 @@ returns-3 c =
     let at-start = at-if1 .before .before in
     rw (eq-eqb _ _ (at-if1 .if1 .taken), lt-ltb (at-start .args .s .stmts) 4096 (omega arith), le-leb (at-start .args .s .depth) 16 (omega arith), lt-leb (at-start .args .count) 64 (omega arith))
 
-add-t5 : tie.Need-add-t5
-add-t5 c = search needs
+one-more-requires : tie.Need-one-more-requires
+one-more-requires c κs = search needs
 
 returns-4 : tie.Need-returns-4
 returns-4 c =
     let at-if1 = c .before .before .before .before .before .before in
     let at-start = at-if1 .before .before in
     rw (eq-eqb _ _ (at-if1 .if1 .taken), lt-ltb (at-start .args .s .stmts) 4096 (omega arith), le-leb (at-start .args .s .depth) 16 (omega arith), le-leb (at-start .args .count) 64 (omega arith))
+    (ap Taken (c .one-more .ensures))
 
 returns-5 : tie.Need-returns-5
 returns-5 c = rw (ne-eqb _ _ (c .if1 .left))
 
 pub step-simple-spec : {M : Type 1} → statement M
-step-simple-spec = tie.close (tie.spec returns returns-2 returns-3 add-t5 returns-4 returns-5)
+step-simple-spec =
+    tie.close (tie.spec returns returns-2 returns-3 one-more-requires returns-4 returns-5)

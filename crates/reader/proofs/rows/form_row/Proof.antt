@@ -1,12 +1,13 @@
 -- `form_row`: the opening word, alone or with others. Assumes nothing.
 use borrow.Author.Needs.{needs}
 use native.Mathlib.Omega.{arith}
-use mathlib.Core.Path.{_∙_, ap, sym}
-use Prim.Native.Nat.{_+_, _-_, ℕ}
-use lib.ListN.{drop, length, take}
+use mathlib.Core.Path.{_∙_, _≡_, ap, sym}
+use mathlib.Core.Bool.{true}
+use Prim.Native.Nat.{ℕ}
 use borrow.Author.Tests.{not-false, not-true}
-use Rattle.reader.specs.Rows.{split}
+use Rattle.reader.specs.Rows.{areWords, split}
 use Rattle.reader.specs.WordTable.{kindAt}
+use Rattle.reader.specs.Scan.{after}
 use Rattle.reader.specs.CodedRows.{argsRow, bareRow, form-bad, form-more, form-one}
 use Rattle.reader.proofs.rows.form_row.Statement.{statement}
 use Rattle.reader.proofs.rows.form_row.Tie as tie
@@ -43,7 +44,11 @@ returns-2 c =
     let at-if1 = at-find .before in
     let at-are-words = at-if1 .before in
     let at-start = at-are-words .before .before in
-    c .bare-row .ensures ∙ ap (λ (k : ℕ). bareRow (kindAt k) k (at-start .args .closed)) (c .before .before .word-of .ensures) ∙ sym (form-one (at-start .args .closed) (at-start .args .s .now) (at-find .find .result) (at-find .find .ensures .0) (sym (at-are-words .are-words .ensures) ∙ not-false _ (at-if1 .if1 .left)) (c .before .if2 .taken))
+    let closed = at-start .args .closed in
+    let words : areWords (split 32 (at-start .args .s .now)) ≡ true = sym (at-are-words .are-words .ensures) ∙ not-false _ (at-if1 .if1 .left) in
+    c .bare-row .ensures
+    ∙ ap (λ (k : ℕ). bareRow (kindAt k) k closed) (c .before .before .word-of .ensures)
+    ∙ sym (form-one closed (at-start .args .s .now) (at-find .find .result) (at-find .find .ensures .0) words (c .before .if2 .taken))
 
 add-from : tie.Need-add-from
 add-from c = search needs
@@ -67,8 +72,13 @@ returns-3 c =
     let at-if1 = at-find .before in
     let at-are-words = at-if1 .before in
     let at-start = at-are-words .before .before in
-    let t = split 32 (take (length (at-start .args .s .now) - (at-find .find .result + 1)) (drop (at-find .find .result + 1) (at-start .args .s .now))) in
-    c .args-row .ensures ∙ ap (λ (k : ℕ). argsRow (kindAt k) k (at-start .args .closed) t) (at-word-of .word-of .ensures) ∙ sym (form-more (at-start .args .closed) (at-start .args .s .now) (at-find .find .result) (at-find .find .ensures .0) (sym (at-are-words .are-words .ensures) ∙ not-false _ (at-if1 .if1 .left)) (omega (arith, at-find .find .ensures .1)))
+    let closed = at-start .args .closed in
+    let s = at-start .args .s .now in
+    let e = at-find .find .result in
+    let words : areWords (split 32 s) ≡ true = sym (at-are-words .are-words .ensures) ∙ not-false _ (at-if1 .if1 .left) in
+    c .args-row .ensures
+    ∙ ap (λ (k : ℕ). argsRow (kindAt k) k closed (split 32 (after s e))) (at-word-of .word-of .ensures)
+    ∙ sym (form-more closed s e (at-find .find .ensures .0) words (omega (arith, at-find .find .ensures .1)))
 
 pub form-row-spec : {M : Type 1} → statement M
 form-row-spec =
