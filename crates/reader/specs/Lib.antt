@@ -25,3 +25,4 @@ pub mod CodedRows
 pub mod Machine
 pub mod MachineLaws
 pub mod Judge
+pub mod Fill
