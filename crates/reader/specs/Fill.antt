@@ -182,3 +182,7 @@ walk-is {w} {a} {b} p q = ap {B = Walk} (λ (x : ℕ). record { holder = x; inde
 
 pub given-is : {g : Given} {a b : ℕ} → g .count ≡ a → g .detail ≡ b → g ≡ record { count = a; detail = b }
 given-is {g} {a} {b} p q = ap {B = Given} (λ (x : ℕ). record { count = x; detail = g .detail }) p ∙ ap {B = Given} (λ (x : ℕ). record { count = a; detail = x }) q
+
+-- by which row it is
+pub wrote-as : {n t a : List ℕ} {s : State} {w : Walk} {l : List ℕ} {d e : Row} {n′ t′ a′ : List ℕ} {r : Walk} → d ≡ e → Wrote n t a s w l e n′ t′ a′ r → Wrote n t a s w l d n′ t′ a′ r
+wrote-as {n} {t} {a} {s} {w} {l} {d} {e} {n′} {t′} {a′} {r} p = subst (λ (x : Row). Wrote n t a s w l x n′ t′ a′ r) (sym p)

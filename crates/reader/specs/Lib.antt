@@ -26,3 +26,5 @@ pub mod Machine
 pub mod MachineLaws
 pub mod Judge
 pub mod Fill
+pub mod Holds
+pub mod FillLaws
