@@ -28,3 +28,5 @@ pub mod Judge
 pub mod Fill
 pub mod Holds
 pub mod FillLaws
+pub mod FillReady
+pub mod FillLoop
