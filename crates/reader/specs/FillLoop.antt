@@ -232,9 +232,6 @@ module _ (text : List ℕ) (nl ns na : ℕ) (g : Accepts text nl ns na) (s : Sta
         holds-as nl ns na n t a (q .1) (q .0) (f .holds)
 
     module _ (more : at + e ≡ length text → ⊥) (le : e ≤ length (take (length text - at) (drop at text))) (x : Step) (steps : x ≡ stepRow s (asRow (contentOf (rowOf (pieceAt text at e))))) where
-      abbrev l : List ℕ
-      l = pieceAt text at e
-
       outcome : Outcome Reading
       outcome = readRow (f .reading) (f .reading .position) (contentOf (rowOf (pieceAt text at e)))
 
@@ -301,3 +298,28 @@ module _ (text : List ℕ) (nl ns na : ℕ) (g : Accepts text nl ns na) (s : Sta
               wide = y .0 .wide
             }
           }
+
+-- ---- the routine
+
+-- zeroed tables, and a text that is accepted with room for its listing
+pub record Zeroed (text n t a : List ℕ) : Type 0 where
+  pub accepts : Accepts text (length n) (length t) (length a)
+  pub lines : n ≡ replicate (length n) 0
+  pub stmts : t ≡ replicate (length t) 0
+  pub args : a ≡ replicate (length a) 0
+
+-- the tables hold the listing
+abbrev pub Filled : (text n t a n′ t′ a′ : List ℕ) → Type 0
+Filled text n t a n′ t′ a′ = (L : Listing) → read text ≡ listing L → Holds (lineNumbers (L .lines)) (lineRecs (L .lines)) (length n) (length t) (length a) n′ t′ a′
+
+pub zeroed-start : (text n t a : List ℕ) (z : Zeroed text n t a) (s : State) → s ≡ asState start → Fills text (length n) (length t) (length a) (z .accepts .tree) s outsideWalk n t a 0
+zeroed-start text n t a z s e =
+    let g = z .accepts in
+    subst (λ (x : List ℕ). Fills text (length n) (length t) (length a) (g .tree) s outsideWalk x t a 0) (sym (z .lines))
+    (subst (λ (x : List ℕ). Fills text (length n) (length t) (length a) (g .tree) s outsideWalk (replicate (length n) 0) x a 0) (sym (z .stmts))
+    (subst (λ (x : List ℕ). Fills text (length n) (length t) (length a) (g .tree) s outsideWalk (replicate (length n) 0) (replicate (length t) 0) x 0) (sym (z .args))
+    (fills-start text (length n) (length t) (length a) g s e)))
+
+pub filled : (text : List ℕ) (nl ns na : ℕ) (n t a : List ℕ) (g : Accepts text nl ns na) → Holds (lineNumbers (g .tree .lines)) (lineRecs (g .tree .lines)) nl ns na n t a
+    → (L : Listing) → read text ≡ listing L → Holds (lineNumbers (L .lines)) (lineRecs (L .lines)) nl ns na n t a
+filled text nl ns na n t a g h L e = let z : g .tree .lines ≡ L .lines = lines-is (sym (g .reads) ∙ e) in holds-as nl ns na n t a (ap lineNumbers z) (ap lineRecs z) h

@@ -30,6 +30,7 @@ ghost use mathlib.Core.List.{List};
 ghost use Prim.Native.Nat.{_+_, _*_, _-_, _≤_, _<_};
 ghost use lib.ListN.{length, set};
 ghost use lib.Dec.{eqb};
+ghost use Rattle.reader.specs.FillLoop.{Zeroed, Filled};
 ghost use Rattle.reader.specs.Fill.{entryOf, branchStmts, endTable, endWalk, outsideWalk, insideWalk, addCond, OperandsPut, Added, Wrote, Ready, EndReady, ToReady, AddReady, RowReady};
 
 // In which IF the next statement stands (one more than its node, or 0), and the number it gets there.
@@ -197,5 +198,36 @@ fn write_row(text: &[u8], lines: &mut [u16], stmts: &mut [u16], args: &mut [u64]
         Row::InvalidSimple => w,
         Row::Simple { word, count: _ } => add_simple(text, stmts, args, s, w, word),
         Row::Cond(k) => add_cond(stmts, s, w, k),
+    }
+}
+
+// The rows again, each of which was taken before.
+pub(crate) fn fill(text: &[u8], lines: &mut [u16], stmts: &mut [u16], args: &mut [u64])
+    requires { ⌜ Zeroed (now text) (now lines) (now stmts) (now args) ⌝ }
+    ensures { λ _. ⌜ Filled (now (text .entry)) (now (lines .entry)) (now (stmts .entry)) (now (args .entry)) (now (lines .exit)) (now (stmts .exit)) (now (args .exit)) ⌝ }
+{
+    let mut s = start_state();
+    let mut w = Walk {
+        holder: 0,
+        index: 0,
+    };
+    let mut at: usize = 0;
+    loop {
+        let e = find(&text[at..], 10);
+        let to = at + e;
+        if to == text.len() {
+            return;
+        }
+        let row = row_of(&text[at..to]);
+        match step_row(s, row) {
+            Step::Refused(_) => {
+                return;
+            }
+            Step::Taken(n) => {
+                w = write_row(&text[at..to], lines, stmts, args, s, w, row);
+                s = n;
+            }
+        }
+        at = to + 1;
     }
 }
