@@ -30,3 +30,4 @@ pub mod Holds
 pub mod FillLaws
 pub mod FillReady
 pub mod FillLoop
+pub mod Listed

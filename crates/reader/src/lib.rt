@@ -10,3 +10,4 @@ pub mod words;
 pub mod tables;
 pub mod operands;
 mod fill;
+pub mod listing;
