@@ -165,13 +165,19 @@ unfoldable pub recRow : Rec → List ℕ
 recRow r =
     r .word ∷ r .line ∷ r .holder ∷ r .index ∷ r .end ∷ r .second ∷ r .form1 ∷ r .number1 ∷ r .form2 ∷ r .number2 ∷ length (r .args) ∷ r .detail ∷ []
 
-unfoldable pub recRows : List Rec → List ℕ
-recRows [] = []
-recRows (r ∷ rs) = recRow r ++ recRows rs
+-- the rows of some records, one after the other
+unfoldable pub joined : (Rec → List ℕ) → List Rec → List ℕ
+joined f [] = []
+joined f (r ∷ rs) = f r ++ joined f rs
 
-unfoldable pub argRows : List Rec → List ℕ
-argRows [] = []
-argRows (r ∷ rs) = padded 64 (r .args) ++ argRows rs
+abbrev pub recRows : List Rec → List ℕ
+recRows rs = joined recRow rs
+
+unfoldable pub argRow : Rec → List ℕ
+argRow r = padded 64 (r .args)
+
+abbrev pub argRows : List Rec → List ℕ
+argRows rs = joined argRow rs
 
 unfoldable pub handlerNumber : Bool → ℕ
 handlerNumber true = 1

@@ -7,3 +7,7 @@ pub mod numbers;
 pub mod rows;
 mod scan;
 pub mod words;
+pub mod tables;
+pub mod operands;
+mod fill;
+pub mod listing;

@@ -1,0 +1,208 @@
+-- By the kind of the opening word. Assumes nothing.
+use borrow.Author.Needs.{needs}
+use native.Mathlib.Omega.{arith}
+use mathlib.Core.Path.{_≡_, refl, sym, ap, _∙_}
+use mathlib.Core.Bool.{true, false}
+use mathlib.Core.List.{List, [], map}
+use Prim.Native.Nat.{ℕ, _+_, _-_, _≤_, _<_}
+use lib.ListN.{length, take, drop}
+use Rattle.reader.specs.Rows.{split}
+use Rattle.reader.specs.WordTable.{kindAt}
+use Rattle.reader.specs.Scan.{after}
+use Rattle.reader.specs.Operands.{next-alone, next-room, next-slots, row-alone, row-words, row-room, entries-for, entries-next, entries-numbers, for-room, slots-room, numbers-room, put-by}
+use Rattle.reader.proofs.operands.put_operands.Statement.{statement}
+use Rattle.reader.proofs.operands.put_operands.Tie as tie
+use Rattle.reader.proofs.operands.put_operands.Reads as reads
+use Rattle.reader.proofs.operands.put_operands.Lts as lts
+use Rattle.reader.proofs.operands.put_for.Reads as put-for-reads
+use Rattle.reader.proofs.operands.put_next.Reads as put-next-reads
+use Rattle.reader.proofs.operands.put_words.Reads as put-words-reads
+use Rattle.reader.proofs.scan.find.Reads as find-reads
+use Rattle.reader.proofs.words.kind_of.Reads as kind-of-reads
+use Rattle.reader.proofs.words.word_of.Reads as word-of-reads
+
+-- src/operands.rt:152:9
+find-requires : tie.Need-find-requires
+find-requires c κs = search needs
+
+-- src/operands.rt:154:9
+returns : tie.Need-returns
+returns c =
+    let f = c .before in
+    let a = f .before .before .before in
+    row-alone (a .args .s .now) (f .find .result) (f .find .ensures .0) (a .args .part .now) (c .if1 .taken)
+
+-- src/operands.rt:159:29
+sub-word-of : tie.Need-sub-word-of
+sub-word-of c = search needs
+
+-- src/operands.rt:159:29
+part-word-of-start : tie.Need-part-word-of-start
+part-word-of-start c = search needs
+
+-- src/operands.rt:159:29
+part-word-of-end : tie.Need-part-word-of-end
+part-word-of-end c = search needs
+
+-- src/operands.rt:159:21
+word-of-requires : tie.Need-word-of-requires
+word-of-requires c κs = search needs
+
+-- src/operands.rt:159:9
+kind-of-requires : tie.Need-kind-of-requires
+kind-of-requires c κs = search needs
+
+-- src/operands.rt:160:16
+add-from : tie.Need-add-from
+add-from c = search needs
+
+-- src/operands.rt:162:24
+sub-put-for : tie.Need-sub-put-for
+sub-put-for c = search needs
+
+-- src/operands.rt:162:24
+part-put-for-start : tie.Need-part-put-for-start
+part-put-for-start c = search needs
+
+-- src/operands.rt:162:24
+part-put-for-end : tie.Need-part-put-for-end
+part-put-for-end c = search needs
+
+-- src/operands.rt:162:9
+put-for-requires : tie.Need-put-for-requires
+put-for-requires c κs =
+    let k = c .before .before .before in
+    let f = k .before .before .before .before in
+    let a = f .before .before .before in
+    let s = a .args .s .now in
+    let e = f .find .result in
+    for-room (after s e) (k .kind-of .result) (length (a .args .part .now)) (c .before .before .if2 .taken)
+    (row-room s e (f .find .ensures .0) [] [] (record { count = 0; detail = 0 }) (k .kind-of .result) (omega arith) (k .kind-of .ensures ∙ ap kindAt (k .before .word-of .ensures)) (length (a .args .part .now)) (a .pre))
+
+-- src/operands.rt:162:9
+same-length : tie.Need-same-length
+same-length c = search needs
+
+-- src/operands.rt:162:9
+returns-2 : tie.Need-returns-2
+returns-2 c =
+    let w = c .before .before in
+    let k = w .before .before .before .before in
+    let f = k .before .before .before .before in
+    let a = f .before .before .before in
+    let s = a .args .s .now in
+    let e = f .find .result in
+    let q = entries-for (split 32 (after s e)) (k .kind-of .result) (w .before .before .before .if2 .taken) in
+    row-words s e (f .find .ensures .0) (a .args .part .now) (w .put-for .last .1 .0) (w .put-for .result) (k .kind-of .result) (omega arith) (k .kind-of .ensures ∙ ap kindAt (k .before .word-of .ensures))
+    (put-by (a .args .part .now) (w .put-for .last .1 .0) (w .put-for .result) (q .0) (q .1) (w .put-for .ensures))
+
+-- src/operands.rt:165:25
+sub-put-next : tie.Need-sub-put-next
+sub-put-next c = search needs
+
+-- src/operands.rt:165:25
+part-put-next-start : tie.Need-part-put-next-start
+part-put-next-start c = search needs
+
+-- src/operands.rt:165:25
+part-put-next-end : tie.Need-part-put-next-end
+part-put-next-end c = search needs
+
+-- src/operands.rt:165:9
+put-next-requires : tie.Need-put-next-requires
+put-next-requires c κs =
+    let k = c .before .before .before .before in
+    let f = k .before .before .before .before in
+    let a = f .before .before .before in
+    let s = a .args .s .now in
+    let e = f .find .result in
+    slots-room (after s e) (k .kind-of .result) (length (a .args .part .now)) (c .before .before .if3 .taken)
+    (row-room s e (f .find .ensures .0) [] [] (record { count = 0; detail = 0 }) (k .kind-of .result) (omega arith) (k .kind-of .ensures ∙ ap kindAt (k .before .word-of .ensures)) (length (a .args .part .now)) (a .pre))
+
+-- src/operands.rt:165:9
+same-length-2 : tie.Need-same-length-2
+same-length-2 c = search needs
+
+-- src/operands.rt:165:9
+returns-3 : tie.Need-returns-3
+returns-3 c =
+    let w = c .before .before in
+    let k = w .before .before .before .before .before in
+    let f = k .before .before .before .before in
+    let a = f .before .before .before in
+    let s = a .args .s .now in
+    let e = f .find .result in
+    let q = entries-next (split 32 (after s e)) (k .kind-of .result) (w .before .before .before .if3 .taken) in
+    row-words s e (f .find .ensures .0) (a .args .part .now) (w .put-next .last .1 .0) (w .put-next .result) (k .kind-of .result) (omega arith) (k .kind-of .ensures ∙ ap kindAt (k .before .word-of .ensures))
+    (put-by (a .args .part .now) (w .put-next .last .1 .0) (w .put-next .result) (q .0) (q .1) (w .put-next .ensures))
+
+-- src/operands.rt:167:15
+sub-put-words : tie.Need-sub-put-words
+sub-put-words c = search needs
+
+-- src/operands.rt:167:15
+part-put-words-start : tie.Need-part-put-words-start
+part-put-words-start c = search needs
+
+-- src/operands.rt:167:15
+part-put-words-end : tie.Need-part-put-words-end
+part-put-words-end c = search needs
+
+-- src/operands.rt:167:5
+put-words-requires : tie.Need-put-words-requires
+put-words-requires c κs =
+    let k = c .before .before .before .before in
+    let f = k .before .before .before .before in
+    let a = f .before .before .before in
+    let s = a .args .s .now in
+    let e = f .find .result in
+    numbers-room (after s e) (k .kind-of .result) (length (a .args .part .now)) (c .before .before .before .if2 .left) (c .before .before .if3 .left)
+    (row-room s e (f .find .ensures .0) [] [] (record { count = 0; detail = 0 }) (k .kind-of .result) (omega arith) (k .kind-of .ensures ∙ ap kindAt (k .before .word-of .ensures)) (length (a .args .part .now)) (a .pre))
+
+-- src/operands.rt:148:1
+same-length-3 : tie.Need-same-length-3
+same-length-3 c = search needs
+
+-- src/operands.rt:148:1
+returns-4 : tie.Need-returns-4
+returns-4 c =
+    let w = c .before .before in
+    let k = w .before .before .before .before .before in
+    let f = k .before .before .before .before in
+    let a = f .before .before .before in
+    let s = a .args .s .now in
+    let e = f .find .result in
+    let q = entries-numbers (split 32 (after s e)) (k .kind-of .result) (w .before .before .before .before .if2 .left) (w .before .before .before .if3 .left) in
+    row-words s e (f .find .ensures .0) (a .args .part .now) (w .put-words .last .1 .1 .0) (w .put-words .result) (k .kind-of .result) (omega arith) (k .kind-of .ensures ∙ ap kindAt (k .before .word-of .ensures))
+    (put-by (a .args .part .now) (w .put-words .last .1 .1 .0) (w .put-words .result) (q .0) (q .1) (w .put-words .ensures))
+
+pub put-operands-spec : {M : Type 1} → statement M
+put-operands-spec =
+    tie.close
+    (tie.spec
+    find-requires
+    returns
+    sub-word-of
+    part-word-of-start
+    part-word-of-end
+    word-of-requires
+    kind-of-requires
+    add-from
+    sub-put-for
+    part-put-for-start
+    part-put-for-end
+    put-for-requires
+    same-length
+    returns-2
+    sub-put-next
+    part-put-next-start
+    part-put-next-end
+    put-next-requires
+    same-length-2
+    returns-3
+    sub-put-words
+    part-put-words-start
+    part-put-words-end
+    put-words-requires
+    same-length-3
+    returns-4)

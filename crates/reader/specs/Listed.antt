@@ -1,0 +1,194 @@
+-- What reading a listing answers and writes: the contract of the exported routine. Assumes nothing.
+use mathlib.Core.Path.{_≡_, refl, sym, ap, _∙_, subst}
+use mathlib.Core.Bool.{Bool, true, false}
+use mathlib.Core.List.{List, [], _∷_, _++_}
+use Prim.Native.Nat.{ℕ, zero, suc, _+_, _*_, _-_, _/_, _≤_, _<_}
+use native.Mathlib.Omega.{arith}
+use lib.Dec.{leb, ltb}
+use lib.ListN.{length, replicate, length-replicate}
+use borrow.Author.Tests.{le-leb, lt-leb, ltb-true, ltb-false}
+use Rattle.reader.specs.Bytes.{pick}
+use Rattle.reader.specs.Listing.{Lines, Listing, total, count}
+use Rattle.reader.specs.Read.{Answer, listing, refusal, read}
+use Rattle.reader.specs.ListingText.{InForm}
+use Rattle.reader.specs.RoundTrip.{accepted-in-form}
+use Rattle.reader.specs.Judge.{verdictOf, read-long}
+use Rattle.reader.specs.Records.{Rec, lineRecs, lineNumbers, recRows, argRows, handlerNumber, countsOf, padded, ReadAnswer, accepted, refused, fitted, answerOf, tableOf}
+use Rattle.reader.specs.Holds.{Holds}
+use Rattle.reader.specs.FillLoop.{Accepts, Zeroed, Filled}
+use Rattle.reader.specs.declared.listing.Listed.{Listed}
+use Rattle.reader.specs.declared.listing.Listed.the-variants as listed
+use Rattle.reader.specs.declared.judge.Verdict.{Verdict}
+use Rattle.reader.specs.declared.judge.Verdict.the-variants as verdict
+
+-- ---- the contract
+
+-- document 01's number and place for each refusal, the handlers and the counts of a listing
+unfoldable pub listedOf : ReadAnswer → Listed
+listedOf (accepted L) = listed.Accepted (L .handlers) (count (L .lines)) (total (L .lines))
+listedOf (refused n p) = listed.Refused n p
+
+-- the used part of each table
+unfoldable pub lineEntries : Listing → List ℕ
+lineEntries L = lineNumbers (L .lines)
+
+unfoldable pub stmtEntries : Listing → List ℕ
+stmtEntries L = recRows (lineRecs (L .lines))
+
+unfoldable pub argEntries : Listing → List ℕ
+argEntries L = argRows (lineRecs (L .lines))
+
+-- the answer and every entry, of tables with nl, ns and na entries
+pub record Written (text : List ℕ) (nl ns na : ℕ) (c l t a : List ℕ) (r : Listed) : Type 0 where
+  pub answer : r ≡ listedOf (answerOf nl ns na (read text))
+  pub counts : c ≡ tableOf countsOf (answerOf nl ns na (read text)) 5
+  pub lines : l ≡ tableOf lineEntries (answerOf nl ns na (read text)) nl
+  pub stmts : t ≡ tableOf stmtEntries (answerOf nl ns na (read text)) ns
+  pub args : a ≡ tableOf argEntries (answerOf nl ns na (read text)) na
+
+-- ---- an accepted text, before its tables are tested
+
+pub record Judged (text counts lines stmts args : List ℕ) (h : Bool) (nl ns : ℕ) : Type 0 where
+  pub tree : Listing
+  pub reads : read text ≡ listing tree
+  pub handlers : h ≡ tree .handlers
+  pub lineCount : nl ≡ count (tree .lines)
+  pub stmtCount : ns ≡ total (tree .lines)
+  pub zeroCounts : counts ≡ replicate 5 0
+  pub zeroLines : lines ≡ replicate (length lines) 0
+  pub zeroStmts : stmts ≡ replicate (length stmts) 0
+  pub zeroArgs : args ≡ replicate (length args) 0
+
+short : (text : List ℕ) (L : Listing) → read text ≡ listing L → length text ≤ 65536
+short text L e = go (ltb 65536 (length text)) refl
+  where
+    go : (b : Bool) → ltb 65536 (length text) ≡ b → length text ≤ 65536
+    go true q = absurd (let p = read-long text (ltb-true 65536 (length text) q) in let z : _≡_ {A = ℕ} 0 1 = cc in omega arith)
+    go false q = ltb-false 65536 (length text) q
+
+module _ (text counts lines stmts args : List ℕ) (h : Bool) (nl ns : ℕ) (j : Judged text counts lines stmts args h nl ns) where
+  pub judged-small : (nl ≤ 1024) × (ns ≤ 4096)
+  judged-small = let f = accepted-in-form text (j .tree) (j .reads) .0 in (omega (arith, f .lineCount, j .lineCount), omega (arith, f .stmtCount, j .stmtCount))
+
+  -- a table is too short
+  refuses : (n p : ℕ) → fitted (length lines) (length stmts) (length args) (j .tree) ≡ refused n p → Written text (length lines) (length stmts) (length args) counts lines stmts args (listed.Refused n p)
+  unfolding answerOf tableOf listedOf
+  refuses n p e =
+      let a : answerOf (length lines) (length stmts) (length args) (read text) ≡ refused n p = ap (answerOf (length lines) (length stmts) (length args)) (j .reads) ∙ e in
+      record {
+        answer = sym (ap listedOf a);
+        counts = j .zeroCounts ∙ sym (ap (λ (z : ReadAnswer). tableOf countsOf z 5) a);
+        lines = j .zeroLines ∙ sym (ap (λ (z : ReadAnswer). tableOf lineEntries z (length lines)) a);
+        stmts = j .zeroStmts ∙ sym (ap (λ (z : ReadAnswer). tableOf stmtEntries z (length stmts)) a);
+        args = j .zeroArgs ∙ sym (ap (λ (z : ReadAnswer). tableOf argEntries z (length args)) a)
+      }
+
+  pub short-lines : length lines < nl → Written text (length lines) (length stmts) (length args) counts lines stmts args (listed.Refused 21 nl)
+  unfolding fitted
+  short-lines b =
+      let c = count (j .tree .lines) in
+      let p : length lines < c = omega (arith, j .lineCount) in
+      rw (j .lineCount) (refuses 21 c (rw (lt-leb c (length lines) p)))
+
+  pub short-stmts : nl ≤ length lines → length stmts / 12 < ns → Written text (length lines) (length stmts) (length args) counts lines stmts args (listed.Refused 22 ns)
+  unfolding fitted
+  short-stmts b c =
+      let k = count (j .tree .lines) in
+      let m = total (j .tree .lines) in
+      let p : k ≤ length lines = omega (arith, j .lineCount) in
+      let q : length stmts / 12 < m = omega (arith, j .stmtCount) in
+      rw (j .stmtCount) (refuses 22 m (rw (le-leb k (length lines) p, lt-leb m (length stmts / 12) q)))
+
+  pub short-args : nl ≤ length lines → ns ≤ length stmts / 12 → length args / 64 < ns → Written text (length lines) (length stmts) (length args) counts lines stmts args (listed.Refused 22 ns)
+  unfolding fitted
+  short-args b c d =
+      let k = count (j .tree .lines) in
+      let m = total (j .tree .lines) in
+      let p : k ≤ length lines = omega (arith, j .lineCount) in
+      let q : m ≤ length stmts / 12 = omega (arith, j .stmtCount) in
+      let s : length args / 64 < m = omega (arith, j .stmtCount) in
+      rw (j .stmtCount) (refuses 22 m (rw (le-leb k (length lines) p, le-leb m (length stmts / 12) q, lt-leb m (length args / 64) s)))
+
+  module _ (b : nl ≤ length lines) (c : ns ≤ length stmts / 12) (d : ns ≤ length args / 64) where
+    pub judged-zeroed : Zeroed text lines stmts args
+    judged-zeroed =
+        record {
+          accepts = record {
+            tree = j .tree; reads = j .reads; short = short text (j .tree) (j .reads);
+            lines = omega (arith, j .lineCount); stmts = omega (arith, j .stmtCount); args = omega (arith, j .stmtCount)
+          };
+          lines = j .zeroLines; stmts = j .zeroStmts; args = j .zeroArgs
+        }
+
+    fits : answerOf (length lines) (length stmts) (length args) (read text) ≡ accepted (j .tree)
+    unfolding answerOf fitted
+    fits =
+        let k = count (j .tree .lines) in
+        let m = total (j .tree .lines) in
+        let p : k ≤ length lines = omega (arith, j .lineCount) in
+        let q : m ≤ length stmts / 12 = omega (arith, j .stmtCount) in
+        let s : m ≤ length args / 64 = omega (arith, j .stmtCount) in
+        ap (answerOf (length lines) (length stmts) (length args)) (j .reads) ∙ rw (le-leb k (length lines) p, le-leb m (length stmts / 12) q, le-leb m (length args / 64) s)
+
+    pub judged-written : (x y z : ℕ) (k n t a : List ℕ) → x ≡ nl → y ≡ ns → z ≡ handlerNumber h → k ≡ x ∷ y ∷ z ∷ 0 ∷ 0 ∷ [] → Filled text lines stmts args n t a
+        → Written text (length lines) (length stmts) (length args) k n t a (listed.Accepted h nl ns)
+    unfolding tableOf listedOf lineEntries stmtEntries argEntries padded countsOf
+    judged-written x y z k n t a p q s i f =
+        let g = f (j .tree) (j .reads) in
+        record {
+          answer = answers (j .handlers) (j .lineCount) (j .stmtCount) ∙ sym (ap listedOf fits);
+          counts = i ∙ counted x y z (j .tree) (p ∙ j .lineCount) (q ∙ j .stmtCount) (s ∙ ap handlerNumber (j .handlers)) ∙ sym (ap (λ (o : ReadAnswer). tableOf countsOf o 5) fits);
+          lines = g .lines ∙ sym (ap (λ (o : ReadAnswer). tableOf lineEntries o (length lines)) fits);
+          stmts = g .stmts ∙ sym (ap (λ (o : ReadAnswer). tableOf stmtEntries o (length stmts)) fits);
+          args = g .args ∙ sym (ap (λ (o : ReadAnswer). tableOf argEntries o (length args)) fits)
+        }
+      where
+        answers : {v u : Bool} {a b c d : ℕ} → v ≡ u → a ≡ b → c ≡ d → listed.Accepted v a c ≡ listed.Accepted u b d
+        answers p q r = cc
+
+        counted : (x y z : ℕ) (L : Listing) → x ≡ count (L .lines) → y ≡ total (L .lines) → z ≡ handlerNumber (L .handlers) → x ∷ y ∷ z ∷ 0 ∷ 0 ∷ [] ≡ padded 5 (countsOf L)
+        counted x y z L p q s = cc
+
+-- ---- by the verdict
+
+pub answer-refused : (a : Answer) (n i : ℕ) → verdictOf a ≡ verdict.Refused n i → a ≡ refusal n i
+unfolding verdictOf
+answer-refused (listing L) n i e = absurd (let z : _≡_ {A = ℕ} 0 1 = cc in omega arith)
+answer-refused (refusal m j) n i e = let p : m ≡ n = cc in let q : j ≡ i = cc in cc
+
+pub answer-listing : (a : Answer) (h : Bool) (l s : ℕ) → verdictOf a ≡ verdict.Accepted h l s → (L : Listing) × (a ≡ listing L) × (h ≡ L .handlers) × (l ≡ count (L .lines)) × (s ≡ total (L .lines))
+unfolding verdictOf
+answer-listing (listing L) h l s e = (L, refl, let p : h ≡ L .handlers = cc in p, let p : l ≡ count (L .lines) = cc in p, let p : s ≡ total (L .lines) = cc in p)
+answer-listing (refusal m j) h l s e = absurd (let z : _≡_ {A = ℕ} 0 1 = cc in omega arith)
+
+-- ---- zeroed tables of nl, ns and na entries
+
+module _ (text c n t a : List ℕ) (nl ns na : ℕ) (zc : c ≡ 0 ∷ 0 ∷ 0 ∷ 0 ∷ 0 ∷ []) (zn : n ≡ replicate nl 0) (zt : t ≡ replicate ns 0) (za : a ≡ replicate na 0) (v : Verdict) (is : v ≡ verdictOf (read text)) where
+  long : (m : ℕ) (l : List ℕ) → l ≡ replicate m 0 → length l ≡ m
+  long m l e = ap length e ∙ length-replicate m 0
+
+  zeros : (m : ℕ) (l : List ℕ) → l ≡ replicate m 0 → l ≡ replicate (length l) 0
+  zeros m l e = e ∙ ap (λ (k : ℕ). replicate k 0) (sym (long m l e))
+
+  pub zeroed-judged : (h : Bool) (l s : ℕ) → v ≡ verdict.Accepted h l s → Judged text c n t a h l s
+  zeroed-judged h l s e =
+      let q = answer-listing (read text) h l s (sym is ∙ e) in
+      record { tree = q .0; reads = q .1; handlers = q .2; lineCount = q .3; stmtCount = q .4; zeroCounts = zc; zeroLines = zeros nl n zn; zeroStmts = zeros ns t zt; zeroArgs = zeros na a za }
+
+  pub zeroed-refused : (m p : ℕ) → v ≡ verdict.Refused m p → Written text nl ns na c n t a (listed.Refused m p)
+  unfolding answerOf tableOf listedOf
+  zeroed-refused m p e =
+      let q : answerOf nl ns na (read text) ≡ refused m p = ap (answerOf nl ns na) (answer-refused (read text) m p (sym is ∙ e)) in
+      record {
+        answer = sym (ap listedOf q);
+        counts = zc ∙ sym (ap (λ (z : ReadAnswer). tableOf countsOf z 5) q);
+        lines = zn ∙ sym (ap (λ (z : ReadAnswer). tableOf lineEntries z nl) q);
+        stmts = zt ∙ sym (ap (λ (z : ReadAnswer). tableOf stmtEntries z ns) q);
+        args = za ∙ sym (ap (λ (z : ReadAnswer). tableOf argEntries z na) q)
+      }
+
+  -- by the lengths of the zeroed tables
+  pub zeroed-written : (c′ n′ t′ a′ : List ℕ) (r : Listed) → Written text (length n) (length t) (length a) c′ n′ t′ a′ r → Written text nl ns na c′ n′ t′ a′ r
+  zeroed-written c′ n′ t′ a′ r w =
+      subst (λ (k : ℕ). Written text k ns na c′ n′ t′ a′ r) (long nl n zn)
+      (subst (λ (k : ℕ). Written text (length n) k na c′ n′ t′ a′ r) (long ns t zt) (subst (λ (k : ℕ). Written text (length n) (length t) k c′ n′ t′ a′ r) (long na a za) w))

@@ -1,0 +1,233 @@
+// Writes the records of a text that is accepted: row by row, into zeroed tables that can hold them.
+use super::machine::start_state;
+use super::machine::step_row;
+use super::machine::State;
+use super::machine::Step;
+use super::machine::IN_COND;
+use super::machine::IN_STMTS;
+use super::operands::put_operands;
+use super::operands::Given;
+use super::rows::row_of;
+use super::rows::Row;
+use super::scan::find;
+use super::tables::append;
+use super::tables::fetch;
+use super::tables::narrow;
+use super::tables::store;
+use super::tables::wide;
+use super::tables::Entry;
+use super::tables::END;
+use super::tables::FORM1;
+use super::tables::FORM2;
+use super::tables::HOLDER;
+use super::tables::INDEX;
+use super::tables::NUMBER1;
+use super::tables::NUMBER2;
+use super::tables::SECOND;
+ghost use mathlib.Core.Path.{_≡_};
+ghost use mathlib.Core.Bool.{Bool};
+ghost use mathlib.Core.List.{List};
+ghost use Prim.Native.Nat.{_+_, _*_, _-_, _≤_, _<_};
+ghost use lib.ListN.{length, set};
+ghost use lib.Dec.{eqb};
+ghost use Rattle.reader.specs.FillLoop.{Zeroed, Filled};
+ghost use Rattle.reader.specs.Fill.{entryOf, branchStmts, endTable, endWalk, outsideWalk, insideWalk, addCond, OperandsPut, Added, Wrote, Ready, EndReady, ToReady, AddReady, RowReady};
+
+// In which IF the next statement stands (one more than its node, or 0), and the number it gets there.
+pub(crate) struct Walk {
+    pub(crate) holder: u16,
+    pub(crate) index: u16,
+}
+
+// A branch's form in a record.
+const STMTS_BRANCH: u16 = 1;
+const TO_BRANCH: u16 = 2;
+
+const STRIDE: usize = 64;
+
+fn node_of(holder: u16) -> usize
+    requires { ⌜ 0 < holder ⌝ }
+    ensures { λ r. ⌜ r ≡ holder - 1 ⌝ }
+{
+    wide(holder) - 1
+}
+
+fn next_index(k: u16) -> u16
+    requires { ⌜ k ≤ 4096 ⌝ }
+    ensures { λ r. ⌜ r ≡ k + 1 ⌝ }
+{
+    k + 1
+}
+
+// A branch of IF i ends before node n.
+fn end_branch(t: &mut [u16], i: usize, second: bool, form: u16, number: u16, n: usize)
+    requires { ⌜ (i * 12 + 12 ≤ length (now t)) × (i ≤ 4096) × (n ≤ 4096) ⌝ }
+    ensures { λ _. ⌜ now (t .exit) ≡ branchStmts (now (t .entry)) i second form number n ⌝ }
+{
+    if second {
+        store(t, i, FORM2, form);
+        store(t, i, NUMBER2, number);
+        return;
+    }
+    store(t, i, SECOND, narrow(n));
+    store(t, i, FORM1, form);
+    store(t, i, NUMBER1, number);
+}
+
+// `)`: the way back from an IF is in its own record.
+fn end_row(t: &mut [u16], s: State, w: Walk) -> Walk
+    requires { ⌜ EndReady (now t) s w ⌝ }
+    ensures { λ r. ⌜ (r ≡ endWalk (now (t .entry)) s w) × (now (t .exit) ≡ endTable (now (t .entry)) s w) ⌝ }
+{
+    if s.position == IN_STMTS {
+        if s.depth == 0 {
+            return Walk {
+                holder: 0,
+                index: 0,
+            };
+        }
+        end_branch(t, node_of(w.holder), s.open_conds % 2 == 1, STMTS_BRANCH, 0, s.stmts);
+        return w;
+    }
+    if s.position == IN_COND {
+        let i = node_of(w.holder);
+        let h = fetch(t, i, HOLDER);
+        let k = fetch(t, i, INDEX);
+        store(t, i, END, narrow(s.stmts));
+        return Walk {
+            holder: h,
+            index: next_index(k),
+        };
+    }
+    Walk {
+        holder: 0,
+        index: 0,
+    }
+}
+
+// `(to N)`
+fn to_row(t: &mut [u16], s: State, w: Walk, n: u16) -> Walk
+    requires { ⌜ ToReady (now t) s w ⌝ }
+    ensures { λ r. ⌜ (r ≡ w) × (now (t .exit) ≡ branchStmts (now (t .entry)) (w .holder - 1) (eqb (s .branches) 1) 2 n (s .stmts)) ⌝ }
+{
+    end_branch(t, node_of(w.holder), s.branches == 1, TO_BRANCH, n, s.stmts);
+    w
+}
+
+// The arguments of statement n, whose row is given, into its own 64 entries.
+fn put_row_operands(row: &[u8], args: &mut [u64], n: usize) -> Given
+    requires { ⌜ RowReady (now row) (now args) n ⌝ }
+    ensures { λ r. ⌜ OperandsPut (now (row .entry)) (now (args .entry)) n (now (args .exit)) r ⌝ }
+{
+    let from = n * STRIDE;
+    let last = row.len() - 1;
+    put_operands(&row[1..last], &mut args[from..])
+}
+
+fn entry_of(s: State, w: Walk, word: usize, end: usize, g: Given) -> Entry
+    requires { ⌜ (0 < s .lines) × (s .lines ≤ 1024) × (word ≤ 28) × (end ≤ 4096) × (g .count ≤ 64) ⌝ }
+    ensures { λ r. ⌜ r ≡ entryOf s w word end g ⌝ }
+{
+    Entry {
+        word: narrow(word),
+        line: narrow(s.lines - 1),
+        holder: w.holder,
+        index: w.index,
+        end: narrow(end),
+        count: narrow(g.count),
+        detail: g.detail,
+    }
+}
+
+fn add_simple(row: &[u8], stmts: &mut [u16], args: &mut [u64], s: State, w: Walk, word: usize) -> Walk
+    requires { ⌜ AddReady (now stmts) s w word × RowReady (now row) (now args) (s .stmts) ⌝ }
+    ensures { λ r. ⌜ Added (now (stmts .entry)) (now (args .entry)) s w (now (row .entry)) word (now (stmts .exit)) (now (args .exit)) r ⌝ }
+{
+    let g = put_row_operands(row, args, s.stmts);
+    append(stmts, s.stmts, entry_of(s, w, word, s.stmts + 1, g));
+    Walk {
+        holder: w.holder,
+        index: next_index(w.index),
+    }
+}
+
+fn add_cond(stmts: &mut [u16], s: State, w: Walk, k: usize) -> Walk
+    requires { ⌜ AddReady (now stmts) s w (k + 2) ⌝ }
+    ensures { λ r. ⌜ (r ≡ insideWalk s) × (now (stmts .exit) ≡ addCond (now (stmts .entry)) s w k) ⌝ }
+{
+    let none = Given {
+        count: 0,
+        detail: 0,
+    };
+    append(stmts, s.stmts, entry_of(s, w, k + 2, 0, none));
+    Walk {
+        holder: narrow(s.stmts + 1),
+        index: 0,
+    }
+}
+
+// `(line N`
+fn add_line(lines: &mut [u16], at: usize, n: u16) -> Walk
+    requires { ⌜ at < length (now lines) ⌝ }
+    ensures { λ r. ⌜ (r ≡ outsideWalk) × (now (lines .exit) ≡ set (now (lines .entry)) at n) ⌝ }
+{
+    lines[at] = n;
+    Walk {
+        holder: 0,
+        index: 0,
+    }
+}
+
+// What a row that is taken appends or amends.
+fn write_row(text: &[u8], lines: &mut [u16], stmts: &mut [u16], args: &mut [u64], s: State, w: Walk, row: Row) -> Walk
+    requires { ⌜ Ready (now lines) (now stmts) (now args) s w (now text) row ⌝ }
+    ensures { λ r. ⌜ Wrote (now (lines .entry)) (now (stmts .entry)) (now (args .entry)) s w (now (text .entry)) row (now (lines .exit)) (now (stmts .exit)) (now (args .exit)) r ⌝ }
+{
+    match row {
+        Row::NoForm => w,
+        Row::End => end_row(stmts, s, w),
+        Row::Stmts => w,
+        Row::Module(_) => Walk {
+            holder: 0,
+            index: 0,
+        },
+        Row::InvalidLine => w,
+        Row::Line(n) => add_line(lines, s.lines, n),
+        Row::InvalidTo => w,
+        Row::To(n) => to_row(stmts, s, w, n),
+        Row::InvalidSimple => w,
+        Row::Simple { word, count: _ } => add_simple(text, stmts, args, s, w, word),
+        Row::Cond(k) => add_cond(stmts, s, w, k),
+    }
+}
+
+// The rows again, each of which was taken before.
+pub(crate) fn fill(text: &[u8], lines: &mut [u16], stmts: &mut [u16], args: &mut [u64])
+    requires { ⌜ Zeroed (now text) (now lines) (now stmts) (now args) ⌝ }
+    ensures { λ _. ⌜ Filled (now (text .entry)) (now (lines .entry)) (now (stmts .entry)) (now (args .entry)) (now (lines .exit)) (now (stmts .exit)) (now (args .exit)) ⌝ }
+{
+    let mut s = start_state();
+    let mut w = Walk {
+        holder: 0,
+        index: 0,
+    };
+    let mut at: usize = 0;
+    loop {
+        let e = find(&text[at..], 10);
+        let to = at + e;
+        if to == text.len() {
+            return;
+        }
+        let row = row_of(&text[at..to]);
+        match step_row(s, row) {
+            Step::Refused(_) => {
+                return;
+            }
+            Step::Taken(n) => {
+                w = write_row(&text[at..to], lines, stmts, args, s, w, row);
+                s = n;
+            }
+        }
+        at = to + 1;
+    }
+}

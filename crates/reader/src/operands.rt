@@ -1,0 +1,168 @@
+// The arguments of a statement's row: targets, FOR's name, NEXT's slots, each one number.
+ghost use mathlib.Core.Path.{_≡_};
+ghost use mathlib.Core.Bool.{Bool, true};
+ghost use mathlib.Core.List.{_++_, map};
+ghost use Prim.Native.Nat.{_+_, _*_, _≤_, _<_};
+ghost use lib.ListN.{length, take, drop};
+ghost use Rattle.reader.specs.Rows.{split, parseNumber, parseName};
+ghost use Rattle.reader.specs.RowForms.{join};
+ghost use Rattle.reader.specs.Operands.{numberEntry, keyEntry, numberAnswer, keyAnswer, entryBy, tierEntry, markEntry, headMark, rowEntries, rowDetail, Put};
+
+use super::names::key_of;
+use super::names::NameKey;
+use super::numbers::number;
+use super::numbers::ParsedNumber;
+use super::scan::equal;
+use super::scan::find;
+use super::words::kind_of;
+use super::words::word_of;
+use super::words::FOR;
+use super::words::NEXT;
+
+// How many arguments a statement has, and FOR's tier or NEXT's mark.
+pub struct Given {
+    pub count: usize,
+    pub detail: u16,
+}
+
+fn wide(x: u16) -> u64
+    ensures { λ r. ⌜ r ≡ x ⌝ }
+{
+    x as u64
+}
+
+fn number_answer(p: ParsedNumber) -> u64
+    ensures { λ r. ⌜ r ≡ numberAnswer p ⌝ }
+{
+    match p {
+        ParsedNumber::Malformed => 0,
+        ParsedNumber::Invalid => 0,
+        ParsedNumber::Value(v) => wide(v),
+    }
+}
+
+// 0 for `*`: no name has that key.
+fn key_answer(k: NameKey) -> u64
+    ensures { λ r. ⌜ r ≡ keyAnswer k ⌝ }
+{
+    match k {
+        NameKey::NoName => 0,
+        NameKey::Key(v) => v,
+    }
+}
+
+fn entry_of(slots: bool, w: &[u8]) -> u64
+    ensures { λ r. ⌜ r ≡ entryBy slots (now (w .entry)) ⌝ }
+{
+    if slots {
+        return key_answer(key_of(w));
+    }
+    number_answer(number(w))
+}
+
+fn tier_of(w: &[u8]) -> u16
+    ensures { λ r. ⌜ r ≡ tierEntry (now (w .entry)) ⌝ }
+{
+    if equal(b"framed", w) {
+        return 1;
+    }
+    if equal(b"dispatched", w) {
+        return 2;
+    }
+    0
+}
+
+fn mark_of(w: &[u8]) -> u16
+    ensures { λ r. ⌜ r ≡ markEntry (now (w .entry)) ⌝ }
+{
+    if equal(b"orphan", w) {
+        return 1;
+    }
+    0
+}
+
+// The words of s, each as one entry.
+fn put_words(s: &[u8], slots: bool, part: &mut [u64]) -> Given
+    requires { ⌜ length (split 32 (now s)) ≤ length (now part) ⌝ }
+    ensures { λ r. ⌜ Put (map (entryBy slots) (split 32 (now (s .entry)))) 0 (now (part .entry)) (now (part .exit)) r ⌝ }
+{
+    let mut at: usize = 0;
+    let mut n: usize = 0;
+    loop {
+        let e = find(&s[at..], 32);
+        let to = at + e;
+        part[n] = entry_of(slots, &s[at..to]);
+        n += 1;
+        if to == s.len() {
+            return Given {
+                count: n,
+                detail: 0,
+            };
+        }
+        at = to + 1;
+    }
+}
+
+// V T
+fn put_for(s: &[u8], part: &mut [u64]) -> Given
+    requires { ⌜ 1 ≤ length (now part) ⌝ }
+    ensures { λ r. ⌜ Put (map (entryBy true) (take 1 (split 32 (now (s .entry))))) (tierEntry (join 32 (drop 1 (split 32 (now (s .entry)))))) (now (part .entry)) (now (part .exit)) r ⌝ }
+{
+    let e = find(s, 32);
+    part[0] = entry_of(true, &s[0..e]);
+    if e == s.len() {
+        return Given {
+            count: 1,
+            detail: 0,
+        };
+    }
+    let from = e + 1;
+    Given {
+        count: 1,
+        detail: tier_of(&s[from..]),
+    }
+}
+
+// M S ..
+fn put_next(s: &[u8], part: &mut [u64]) -> Given
+    requires { ⌜ length (drop 1 (split 32 (now s))) ≤ length (now part) ⌝ }
+    ensures { λ r. ⌜ Put (map (entryBy true) (drop 1 (split 32 (now (s .entry))))) (headMark (split 32 (now (s .entry)))) (now (part .entry)) (now (part .exit)) r ⌝ }
+{
+    let e = find(s, 32);
+    let m = mark_of(&s[0..e]);
+    if e == s.len() {
+        return Given {
+            count: 0,
+            detail: m,
+        };
+    }
+    let from = e + 1;
+    let g = put_words(&s[from..], true, part);
+    Given {
+        count: g.count,
+        detail: m,
+    }
+}
+
+// The arguments among the words of s, a row without its brackets.
+pub(crate) fn put_operands(s: &[u8], part: &mut [u64]) -> Given
+    requires { ⌜ length (rowEntries (split 32 (now s))) ≤ length (now part) ⌝ }
+    ensures { λ r. ⌜ Put (rowEntries (split 32 (now (s .entry)))) (rowDetail (split 32 (now (s .entry)))) (now (part .entry)) (now (part .exit)) r ⌝ }
+{
+    let e = find(s, 32);
+    if e == s.len() {
+        return Given {
+            count: 0,
+            detail: 0,
+        };
+    }
+    let k = kind_of(word_of(&s[0..e]));
+    let from = e + 1;
+    if k == FOR {
+        return put_for(&s[from..], part);
+    }
+    if k == NEXT {
+        return put_next(&s[from..], part);
+    }
+    put_words(&s[from..], false, part)
+}

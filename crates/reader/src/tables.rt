@@ -1,0 +1,119 @@
+// The lent tables: zeroed, and statement records of 12 entries one after the other.
+ghost use mathlib.Core.Path.{_≡_};
+ghost use mathlib.Core.List.{[], _∷_, _++_};
+ghost use Prim.Native.Nat.{_+_, _*_, _≤_, _<_};
+ghost use lib.ListN.{length, drop, set, getD, replicate};
+ghost use Rattle.reader.specs.Tables.{entryRow, appendRow};
+
+// The entries of a statement's record.
+pub const WORD: usize = 0;
+pub const LINE: usize = 1;
+pub const HOLDER: usize = 2;
+pub const INDEX: usize = 3;
+pub const END: usize = 4;
+pub const SECOND: usize = 5;
+pub const FORM1: usize = 6;
+pub const NUMBER1: usize = 7;
+pub const FORM2: usize = 8;
+pub const NUMBER2: usize = 9;
+pub const COUNT: usize = 10;
+pub const DETAIL: usize = 11;
+
+// What is known of a statement when its row is read; the entries between end and count are its branches, not read yet.
+pub struct Entry {
+    pub word: u16,
+    pub line: u16,
+    pub holder: u16,
+    pub index: u16,
+    pub end: u16,
+    pub count: u16,
+    pub detail: u16,
+}
+
+pub fn zero16(t: &mut [u16])
+    ensures { λ _. ⌜ now (t .exit) ≡ replicate (length (now (t .entry))) 0 ⌝ }
+{
+    let mut i: usize = 0;
+    while i < t.len() {
+        t[i] = 0;
+        i += 1;
+    }
+}
+
+pub fn zero64(t: &mut [u64])
+    ensures { λ _. ⌜ now (t .exit) ≡ replicate (length (now (t .entry))) 0 ⌝ }
+{
+    let mut i: usize = 0;
+    while i < t.len() {
+        t[i] = 0;
+        i += 1;
+    }
+}
+
+// The used counts; those of the edges and of the return targets are not the reader's.
+pub fn put_counts(counts: &mut [u32; 5], lines: u32, stmts: u32, handlers: u32)
+    ensures { λ _. ⌜ now (counts .exit) ≡ lines ∷ stmts ∷ handlers ∷ 0 ∷ 0 ∷ [] ⌝ }
+{
+    *counts = [lines, stmts, handlers, 0, 0];
+}
+
+fn put_row(part: &mut [u16], e: Entry)
+    requires { ⌜ 12 ≤ length (now part) ⌝ }
+    ensures { λ _. ⌜ now (part .exit) ≡ entryRow e ++ drop 12 (now (part .entry)) ⌝ }
+{
+    part[0] = e.word;
+    part[1] = e.line;
+    part[2] = e.holder;
+    part[3] = e.index;
+    part[4] = e.end;
+    part[5] = 0;
+    part[6] = 0;
+    part[7] = 0;
+    part[8] = 0;
+    part[9] = 0;
+    part[10] = e.count;
+    part[11] = e.detail;
+}
+
+// The record of statement n, which is the next one.
+pub(crate) fn append(t: &mut [u16], n: usize, e: Entry)
+    requires { ⌜ (n * 12 + 12 ≤ length (now t)) × (n ≤ 4096) ⌝ }
+    ensures { λ _. ⌜ now (t .exit) ≡ appendRow (now (t .entry)) n e ⌝ }
+{
+    let at = n * 12;
+    put_row(&mut t[at..], e);
+}
+
+pub(crate) fn store(t: &mut [u16], i: usize, c: usize, v: u16)
+    requires { ⌜ (i * 12 + 12 ≤ length (now t)) × (i ≤ 4096) × (c < 12) ⌝ }
+    ensures { λ _. ⌜ now (t .exit) ≡ set (now (t .entry)) (i * 12 + c) v ⌝ }
+{
+    t[i * 12 + c] = v;
+}
+
+pub(crate) fn fetch(t: &[u16], i: usize, c: usize) -> u16
+    requires { ⌜ (i * 12 + 12 ≤ length (now t)) × (i ≤ 4096) × (c < 12) ⌝ }
+    ensures { λ r. ⌜ r ≡ getD (now (t .entry)) (i * 12 + c) 0 ⌝ }
+{
+    t[i * 12 + c]
+}
+
+pub(crate) fn wide(x: u16) -> usize
+    ensures { λ r. ⌜ r ≡ x ⌝ }
+{
+    x as usize
+}
+
+pub(crate) fn narrow(x: usize) -> u16
+    requires { ⌜ x < 65536 ⌝ }
+    ensures { λ r. ⌜ r ≡ x ⌝ }
+{
+    x as u16
+}
+
+pub(crate) fn narrow32(x: usize) -> u32
+    requires { ⌜ x < 65536 ⌝ }
+    ensures { λ r. ⌜ r ≡ x ⌝ }
+{
+    x as u32
+}
