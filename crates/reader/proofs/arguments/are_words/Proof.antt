@@ -2,12 +2,13 @@
 use borrow.Author.Needs.{needs}
 use native.Mathlib.Omega.{arith}
 use mathlib.Core.Path.{_∙_, _≡_, ap, sym}
+use mathlib.Core.Bool.{true}
 use mathlib.Core.List.{[]}
 use Prim.Native.Nat.{_+_, _-_, _≤_, suc}
-use lib.ListN.{drop, length, take}
+use lib.ListN.{drop, length}
 use borrow.Author.Tests.{not-false, not-true}
-use Rattle.reader.specs.Rows.{areWords, split}
-use Rattle.reader.specs.Scan.{next-any, next-last, next-more}
+use Rattle.reader.specs.Rows.{areWords, isWord, split}
+use Rattle.reader.specs.Scan.{next-any, next-last, next-more, pieceAt}
 use Rattle.reader.specs.Arguments.{words-more, words-stop}
 use Rattle.reader.proofs.arguments.are_words.Statement.{statement}
 use Rattle.reader.proofs.arguments.are_words.Tie as tie
@@ -57,7 +58,7 @@ returns c =
     let at = at-loop .loop .at in
     let e = at-find .find .result in
     let p = next-any 32 s at e (omega arith) (at-find .find .ensures .0) (at-find .find .ensures .1) in
-    sym (ap areWords (p .1) ∙ words-stop (take (at + e - at) (drop at s)) (p .0) (sym (c .before .is-word .ensures) ∙ not-true _ (c .if1 .taken))) ∙ at-loop .loop .inv .1
+    sym (ap areWords (p .1) ∙ words-stop (pieceAt s at e) (p .0) (sym (c .before .is-word .ensures) ∙ not-true _ (c .if1 .taken))) ∙ at-loop .loop .inv .1
 
 returns-2 : tie.Need-returns-2 Inv-loop μ-loop
 unfolding areWords
@@ -69,7 +70,7 @@ returns-2 c =
     let at = at-loop .loop .at in
     let e = at-find .find .result in
     let p = next-last 32 s at e (omega arith) (at-find .find .ensures .0) (c .if2 .taken) in
-    sym (ap areWords p ∙ words-more (take (at + e - at) (drop at s)) [] (sym (c .before .before .is-word .ensures) ∙ not-false _ (c .before .if1 .left))) ∙ at-loop .loop .inv .1
+    sym (ap areWords p ∙ words-more (pieceAt s at e) [] (sym (c .before .before .is-word .ensures) ∙ not-false _ (c .before .if1 .left))) ∙ at-loop .loop .inv .1
 
 add-at : tie.Need-add-at Inv-loop μ-loop
 add-at c = search needs
@@ -86,7 +87,8 @@ loop-again c =
     let at = at-loop .loop .at in
     let e = at-find .find .result in
     let p = next-more 32 s at e (omega arith) (at-find .find .ensures .0) (c .if2 .left) (at-find .find .ensures .1) in
-    (omega arith, sym (ap areWords (p .1) ∙ words-more (take (at + e - at) (drop at s)) (split 32 (drop (at + e + 1) s)) (sym (c .before .before .is-word .ensures) ∙ not-false _ (c .before .if1 .left))) ∙ at-loop .loop .inv .1)
+    let word : isWord (pieceAt s at e) ≡ true = sym (c .before .before .is-word .ensures) ∙ not-false _ (c .before .if1 .left) in
+    (omega arith, sym (ap areWords (p .1) ∙ words-more (pieceAt s at e) (split 32 (drop (at + e + 1) s)) word) ∙ at-loop .loop .inv .1)
 
 pub are-words-spec : {M : Type 1} → statement M
 are-words-spec =

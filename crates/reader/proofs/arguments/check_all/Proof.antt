@@ -5,17 +5,20 @@ use mathlib.Core.Path.{_∙_, _≡_, ap, sym}
 use mathlib.Core.List.{List}
 use Prim.Native.Nat.{_+_, _-_, _≤_, suc, ℕ}
 use lib.ListN.{drop, length}
-use Rattle.reader.specs.Rows.{parseSlots, split}
+use Rattle.reader.specs.Rows.{split}
 use Rattle.reader.specs.Scan.{next-last, next-more, pieceAt}
 use Rattle.reader.specs.Arguments.{argCheck, check-is, severityBy, worst, worst-last, worst-next, worst-zero, worstOf}
 use Rattle.reader.proofs.arguments.check_all.Statement.{statement}
 use Rattle.reader.proofs.arguments.check_all.Tie as tie
 
 abbrev Inv-loop : tie.InvT-loop
-Inv-loop s parseSlots at₀ n₀ g₀ at n g = (at ≤ length s) × (n ≤ at) × (worst g (worstOf (severityBy parseSlots) (split 32 (drop at s))) ≡ worstOf (severityBy parseSlots) (split 32 s)) × (n + length (split 32 (drop at s)) ≡ length (split 32 s))
+Inv-loop s slots at₀ n₀ g₀ at n g =
+    (at ≤ length s) × (n ≤ at)
+    × (worst g (worstOf (severityBy slots) (split 32 (drop at s))) ≡ worstOf (severityBy slots) (split 32 s))
+    × (n + length (split 32 (drop at s)) ≡ length (split 32 s))
 
 abbrev μ-loop : tie.MeasureT-loop
-μ-loop s parseSlots at₀ n₀ g₀ at n g = suc (length s) - at
+μ-loop s slots at₀ n₀ g₀ at n g = suc (length s) - at
 
 loop-holds : tie.Need-loop-holds Inv-loop μ-loop
 loop-holds c = (omega arith, omega arith, worst-zero _, omega arith)

@@ -80,7 +80,8 @@ returns-3 c =
     let e = at-find .find .result in
     let lt : e < length s = omega (arith, at-find .find .ensures .1) in
     let d : at-find2 .find2 .result ≡ length s - (e + 1) = omega (arith, at-find2 .find2 .ensures .1, ap length (rest-all s (e + 1)), length-drop (e + 1) s) in
-    check-is (c .worse .ensures ∙ ap (λ (g : ℕ). worst g (c .before .tier-severity .result)) (at-name-severity .name-severity .ensures) ∙ ap (worst (severityOf (parseName (take (e - 0) (drop 0 s))))) (c .before .tier-severity .ensures)) refl
+    let tier = c .before .tier-severity in
+    check-is (c .worse .ensures ∙ ap (λ (g : ℕ). worst g (tier .result)) (at-name-severity .name-severity .ensures) ∙ ap (worst (severityOf (parseName (take (e - 0) (drop 0 s))))) (tier .ensures)) refl
     ∙ sym (for-right s e (at-find2 .find2 .result) (at-find .find .ensures .0) lt (at-find2 .find2 .ensures .0) d)
 
 pub check-for-spec : {M : Type 1} → statement M

@@ -60,7 +60,8 @@ returns-4 c =
     let at-if1 = at-if3 .before in
     let at-kind-of = at-if1 .before in
     let at-start = at-kind-of .before .before in
-    rw (← at-kind-of .kind-of .ensures, at-if1 .if1 .left, ne-eqb _ _ (at-if3 .if3 .left), c .before .before .if4 .taken) (c .line-row .ensures ∙ ap lineByNumber (c .before .single-number2 .ensures) ∙ line-by-number (single (split 32 (at-start .args .s .now))))
+    rw (← at-kind-of .kind-of .ensures, at-if1 .if1 .left, ne-eqb _ _ (at-if3 .if3 .left), c .before .before .if4 .taken)
+    (c .line-row .ensures ∙ ap lineByNumber (c .before .single-number2 .ensures) ∙ line-by-number (single (split 32 (at-start .args .s .now))))
 
 returns-5 : tie.Need-returns-5
 unfolding argsRow

@@ -36,7 +36,8 @@ returns-3 c =
     let at-equal = at-if2 .before in
     let at-find = at-equal .before .before .before in
     let at-start = at-find .before .before in
-    ap asRow (sym (module-true (at-start .args .s .now) (at-find .find .result) (at-find .find .ensures .0) (omega (arith, at-find .find .ensures .1)) (sym (at-equal .equal .ensures) ∙ at-if2 .if2 .left) (sym (c .before .equal2 .ensures) ∙ c .if3 .taken)))
+    ap asRow (sym (module-true (at-start .args .s .now) (at-find .find .result) (at-find .find .ensures .0) (omega (arith, at-find .find .ensures .1))
+    (sym (at-equal .equal .ensures) ∙ at-if2 .if2 .left) (sym (c .before .equal2 .ensures) ∙ c .if3 .taken)))
 
 returns-4 : tie.Need-returns-4
 returns-4 c =
@@ -44,7 +45,8 @@ returns-4 c =
     let at-equal = at-if2 .before in
     let at-find = at-equal .before .before .before in
     let at-start = at-find .before .before in
-    ap asRow (sym (module-bad (at-start .args .s .now) (at-find .find .result) (at-find .find .ensures .0) (omega (arith, at-find .find .ensures .1)) (sym (at-equal .equal .ensures) ∙ at-if2 .if2 .left) (sym (c .before .equal2 .ensures) ∙ c .if3 .left)))
+    ap asRow (sym (module-bad (at-start .args .s .now) (at-find .find .result) (at-find .find .ensures .0) (omega (arith, at-find .find .ensures .1))
+    (sym (at-equal .equal .ensures) ∙ at-if2 .if2 .left) (sym (c .before .equal2 .ensures) ∙ c .if3 .left)))
 
 pub module-row-spec : {M : Type 1} → statement M
 module-row-spec =
