@@ -1,21 +1,16 @@
 // Framed texts on standard input (a row with the byte count, then the bytes); for each a row with what the reader answers.
+ghost use Prim.Native.Nat.{_≤_};
 use libc::STDIN_FILENO;
 use libc::STDOUT_FILENO;
 use reader::listing::Listed;
+use reader::listing::read_listing;
 
 enum Next {
     Length(usize),
     End,
 }
 
-fn digit(b: u8) -> usize
-    requires { ⌜ (48 ≤ b) × (b ≤ 57) ⌝ }
-    ensures { λ r. ⌜ r ≤ 9 ⌝ }
-{
-    (b - 48) as usize
-}
-
-// The row before a text: its byte count, of at most 8 digits.
+// The row before a text: its byte count.
 fn next_length() -> Next {
     let mut byte = [0u8; 1];
     let mut n: usize = 0;
@@ -28,11 +23,60 @@ fn next_length() -> Next {
         if b == 10 {
             return Next::Length(n);
         }
-        if b < 48 || 57 < b {
+        if b < 48 {
             return Next::End;
         }
-        n = (n % 10000000) * 10 + digit(b);
+        n = n % 10000000 * 10 + (b % 48) as usize;
         k += 1;
     }
     Next::End
+}
+
+fn print_number(n: usize) {
+    io::write_all(STDOUT_FILENO, b" ");
+    io::print_decimal(STDOUT_FILENO, n as u64);
+}
+
+fn print_answer(answer: Listed) {
+    match answer {
+        Listed::Refused { number, place } => {
+            io::write_all(STDOUT_FILENO, b"(refused");
+            print_number(number as usize);
+            print_number(place);
+        }
+        Listed::Accepted { handlers, lines, stmts } => {
+            io::write_all(STDOUT_FILENO, b"(accepted");
+            print_number(if handlers { 1 } else { 0 });
+            print_number(lines);
+            print_number(stmts);
+        }
+    }
+    io::write_all(STDOUT_FILENO, b")\n");
+}
+
+// A text of that length, with tables that suffice at all limits.
+fn answer_text(text: &mut [u8], n: usize) {
+    if text.len() < n {
+        return;
+    }
+    let part = &mut text[..n];
+    let got = io::read_full(STDIN_FILENO, part);
+    let mut counts = [0u32; 5];
+    let mut lines = [0u16; 1024];
+    let mut stmts = [0u16; 49152];
+    let mut args = [0u64; 262144];
+    print_answer(read_listing(part, &mut counts, &mut lines, &mut stmts, &mut args));
+}
+
+// A proved loop has to end, so it counts its turns down, from a number that no run uses up.
+fn main() {
+    let mut text = [0u8; 131072];
+    let mut turns = u64::MAX;
+    while turns > 0 {
+        let Next::Length(n) = next_length() else {
+            return;
+        };
+        answer_text(&mut text, n);
+        turns -= 1;
+    }
 }
