@@ -29,5 +29,8 @@ pub mod StackLaws
 pub mod ForLaws
 pub mod PerNodeLaws
 pub mod Theorems
+pub mod Compare
 pub mod Walk
 pub mod WalkLaws
+pub mod Sets
+pub mod SetLaws

@@ -6,11 +6,11 @@ use mathlib.Core.List.{List, [], _∷_, _++_, List·Memᴰ, List·Memᴰ·head, 
 use mathlib.Core.Logic.{_⊎_, inl, inr, ⊎-elim}
 use Prim.Native.Nat.{ℕ, zero, suc, _+_, _-_, _*_, _≤_, _<_}
 use native.Mathlib.Nat.{not-suc-le-zero, le-of-suc-le-suc}
-use native.Mathlib.Decide.{ℕ-discrete}
 use native.Mathlib.Numerals.{add-one}
 use native.Mathlib.Omega.{arith}
 use lib.ListN.{length, getD, take, drop, set, replicate, length-set, length-replicate}
 use lib.Seq.{getD-set-same, getD-set-other, take-suc}
+use Rattle.wiring.specs.Compare.{eq-or, lt-or}
 use Rattle.wiring.specs.EdgeBounds.{Ids}
 use Rattle.wiring.specs.Members.{all-mem, all-map}
 use Rattle.wiring.specs.Reach.{Reach, here, on}
@@ -18,9 +18,6 @@ use Rattle.wiring.specs.Walk.{Marked, storedList, Stored, RegionMarked, 
 
 clash : {A : Type 0} → true ≡ false → A
 clash e = let z : _≡_ {A = ℕ} 0 1 = cc in absurd (omega arith)
-
-eq-or : (a b : ℕ) → (a ≡ b) ⊎ (a ≡ b → ⊥)
-eq-or a b = elim (ℕ-discrete a b) [ yes e ↦ inl e | no e ↦ inr e ]
 
 -- ---- marks
 
@@ -196,11 +193,6 @@ module _ (step : ℕ → List ℕ) (size from : ℕ) (m m′ : List Bool) (w w�
   listed-more i h (inl q) = rw (t .kept i q) (t .grows (getD w i 0) (s .listed i (omega arith)))
   listed-more i h (inr q) = t .listed i q h
 
-  side : (i k : ℕ) → (i < k) ⊎ (k ≤ i)
-  side i zero = inr (omega arith)
-  side zero (suc k) = inl (omega arith)
-  side (suc i) (suc k) = ⊎-elim (λ h. inl (omega arith)) (λ h. inr (omega arith)) (side i k)
-
   pub walk-turn : Walk step size from m′ w′ n′
   walk-turn =
       record {
@@ -210,7 +202,7 @@ module _ (step : ℕ → List ℕ) (size from : ℕ) (m m′ : List Bool) (w w�
         sound = λ u e.
             ⊎-elim (λ q. s .sound u q) (λ q. on (s .sound v taken-marked) (subst (λ (k : List ℕ). List·Memᴰ u k) el (q .0))) (t .new u e);
         root = t .grows from (s .root);
-        listed = λ i h. listed-more i h (side i (n - 1));
+        listed = λ i h. listed-more i h (lt-or i (n - 1));
         closed = λ u e.
             ⊎-elim
             (λ q. ⊎-elim (λ o. on-more u o) (λ f. inr (λ x i. t .grows x (f x i))) (s .closed u q))

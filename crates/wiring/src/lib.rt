@@ -1,3 +1,5 @@
 // The wiring: the records of a listing to its graph.
 pub mod lists;
+pub mod sets;
 pub mod walk;
+pub mod widths;

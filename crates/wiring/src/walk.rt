@@ -1,22 +1,11 @@
 // The walk through a region: a mark for each of 4,096 statements, and a worklist of marked nodes whose steps are still to be marked.
+use crate::widths::narrow;
+use crate::widths::wide;
 ghost use mathlib.Core.Path.{_≡_};
 ghost use mathlib.Core.Bool.{false};
 ghost use Prim.Native.Nat.{_<_, _≤_};
 ghost use lib.ListN.{length, replicate};
 ghost use Rattle.wiring.specs.Walk.{Stored, storedList, RegionMarked, Markable, ListMarked};
-
-fn wide(x: u16) -> usize
-    ensures { λ r. ⌜ r ≡ x ⌝ }
-{
-    x as usize
-}
-
-fn narrow(x: usize) -> u16
-    requires { ⌜ x < 65536 ⌝ }
-    ensures { λ r. ⌜ r ≡ x ⌝ }
-{
-    x as u16
-}
 
 // Marks the nodes of a list, and puts those that had no mark on the worklist, which has `count`. A node comes on it with its mark,
 // so the free marks leave room.
