@@ -34,3 +34,5 @@ pub mod Walk
 pub mod WalkLaws
 pub mod Sets
 pub mod SetLaws
+pub mod ReturnSets
+pub mod ReturnSetLaws
