@@ -14,7 +14,7 @@ use Rattle.wiring.specs.Compare.{eq-or, lt-or}
 use Rattle.wiring.specs.EdgeBounds.{Ids}
 use Rattle.wiring.specs.Members.{all-mem, all-map}
 use Rattle.wiring.specs.Reach.{Reach, here, on}
-use Rattle.wiring.specs.Walk.{Marked, storedList, Stored, RegionMarked, free, On, ListMarked, Walk}
+use Rattle.wiring.specs.Walk.{Marked, storedList, Stored, RegionMarked, free, On, Markable, ListMarked, Walk}
 
 clash : {A : Type 0} → true ≡ false → A
 clash e = let z : _≡_ {A = ℕ} 0 1 = cc in absurd (omega arith)
@@ -173,6 +173,11 @@ module _ (step : ℕ → List ℕ) (size from : ℕ) (lt : from < size) (w : Lis
   walk-start m y em ey =
       rw ey
       (first-walk m (ap length em ∙ length-replicate size false) (λ v. ap (λ (l : List Bool). getD l v false) em ∙ no-mark size v) (ap free em ∙ free-all size))
+
+-- a list of nodes can be marked once a node is taken off
+pub walk-markable : {step : ℕ → List ℕ} {size from : ℕ} {m : List Bool} {w : List ℕ} {n : ℕ} → Walk step size from m w n → {l : List ℕ} → Ids size l
+    → Markable size l m w (n - 1)
+walk-markable s h = record { ids = h; marks-size = s .marks-size; work-size = s .work-size; room = omega (arith, s .room) }
 
 -- a node v is taken off the worklist, and all its steps, a list l, are marked
 module _ (step : ℕ → List ℕ) (size from : ℕ) (m m′ : List Bool) (w w′ : List ℕ) (n n′ v : ℕ) (l : List ℕ) (s : Walk step size from m w n) (pos : 0 < n)

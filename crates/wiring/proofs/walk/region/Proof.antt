@@ -4,7 +4,7 @@ use Prim.Native.Nat.{ℕ, _<_, _-_, _+_}
 use mathlib.Core.Path.{ap}
 use native.Mathlib.Omega.{arith}
 use Rattle.wiring.specs.Walk.{Walk, storedList, free}
-use Rattle.wiring.specs.WalkLaws.{walk-start, walk-turn, walk-falls, walk-end, walk-below, region-marked, stored-part, stored-ids}
+use Rattle.wiring.specs.WalkLaws.{walk-start, walk-markable, walk-turn, walk-falls, walk-end, walk-below, region-marked, stored-part, stored-ids}
 use Rattle.wiring.proofs.walk.region.Statement.{statement}
 use Rattle.wiring.proofs.walk.region.Tie as tie
 
@@ -116,12 +116,7 @@ mark-all-requires c κs =
     let v = c .before .before .before .before .before .before .before .wide .result in
     let start = c .before .before .before .before .before .wide2 .result in
     let e = stored-part (s .args .lists .now) (s .args .edges .now) v start _ (c .before .before .before .before .before .wide2 .ensures) (ap (λ (x : ℕ). start + x) (c .before .before .before .wide3 .ensures)) in
-    record {
-      ids = stored-ids 4096 v _ (s .pre .2) (s .pre .0) (taken (c .before .before .before .before .before .before .before)) e;
-      marks-size = h .inv .marks-size;
-      work-size = h .inv .work-size;
-      room = omega (arith, h .inv .room);
-    }
+    walk-markable (h .inv) (stored-ids 4096 v _ (s .pre .2) (s .pre .0) (taken (c .before .before .before .before .before .before .before)) e)
 
 loop-less : tie.Need-loop-less Inv-loop μ-loop
 loop-less c =
