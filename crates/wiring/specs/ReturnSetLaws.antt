@@ -18,7 +18,7 @@ use Rattle.reader.specs.WordTable.{words, first, wordIndex}
 use Rattle.wiring.specs.Compare.{eq-or, lt-or}
 use Rattle.wiring.specs.Sets.{In, joined}
 use Rattle.wiring.specs.SetLaws.{joined-at, joined-length, in-joined}
-use Rattle.wiring.specs.ReturnSets.{returnWord, isReturn, markedReturn, joinedIf, setOf, ReturnJoined, ReturnsJoined}
+use Rattle.wiring.specs.ReturnSets.{returnWord, isMarkedReturn, markedReturn, joinedIf, setOf, ReturnJoined, ReturnsJoined}
 
 -- the table of opening words has `return` there
 pub return-word : wordIndex (simpleWord return) ≡ returnWord
@@ -31,23 +31,23 @@ both : (x y : Bool) → (x && y) ≡ true → (x ≡ true) × (y ≡ true)
 both true y e = (refl, e)
 both false y e = absurd (let z : _≡_ {A = ℕ} 0 1 = cc in omega arith)
 
-pub is-return : (stmts : List ℕ) (marks : List Bool) (i : ℕ) → getD marks i false ≡ true → getD stmts (i * 12) 0 ≡ returnWord → isReturn stmts marks i ≡ true
-unfolding isReturn
-is-return stmts marks i m w = rw (m, eq-eqb (getD stmts (i * 12) 0) returnWord w)
+pub is-marked-return : (stmts : List ℕ) (marks : List Bool) (i : ℕ) → getD marks i false ≡ true → getD stmts (i * 12) 0 ≡ returnWord → isMarkedReturn stmts marks i ≡ true
+unfolding isMarkedReturn
+is-marked-return stmts marks i m w = rw (m, eq-eqb (getD stmts (i * 12) 0) returnWord w)
 
-pub no-mark : (stmts : List ℕ) (marks : List Bool) (i : ℕ) → getD marks i false ≡ false → isReturn stmts marks i ≡ false
-unfolding isReturn
+pub no-mark : (stmts : List ℕ) (marks : List Bool) (i : ℕ) → getD marks i false ≡ false → isMarkedReturn stmts marks i ≡ false
+unfolding isMarkedReturn
 no-mark stmts marks i m = rw m
 
 no-and : (x : Bool) → (x && false) ≡ false
 no-and true = refl
 no-and false = refl
 
-pub no-return : (stmts : List ℕ) (marks : List Bool) (i : ℕ) → (getD stmts (i * 12) 0 ≡ returnWord → ⊥) → isReturn stmts marks i ≡ false
-unfolding isReturn
+pub no-return : (stmts : List ℕ) (marks : List Bool) (i : ℕ) → (getD stmts (i * 12) 0 ≡ returnWord → ⊥) → isMarkedReturn stmts marks i ≡ false
+unfolding isMarkedReturn
 no-return stmts marks i ne = rw (ne-eqb (getD stmts (i * 12) 0) returnWord ne) (no-and (getD marks i false))
 
-marked-below : (stmts : List ℕ) (n : ℕ) (marks : List Bool) (i : ℕ) → i < n → markedReturn stmts n marks i ≡ isReturn stmts marks i
+marked-below : (stmts : List ℕ) (n : ℕ) (marks : List Bool) (i : ℕ) → i < n → markedReturn stmts n marks i ≡ isMarkedReturn stmts marks i
 unfolding markedReturn
 marked-below stmts n marks i h = rw (lt-ltb i n h)
 
@@ -57,10 +57,10 @@ marked-past stmts n marks i h = rw (le-ltb i n h)
 
 -- the test, as facts
 pub marked-return : (stmts : List ℕ) (n : ℕ) (marks : List Bool) (i : ℕ) → i < n → getD marks i false ≡ true → getD stmts (i * 12) 0 ≡ returnWord → markedReturn stmts n marks i ≡ true
-marked-return stmts n marks i h m w = marked-below stmts n marks i h ∙ is-return stmts marks i m w
+marked-return stmts n marks i h m w = marked-below stmts n marks i h ∙ is-marked-return stmts marks i m w
 
 pub marked-return-is : (stmts : List ℕ) (n : ℕ) (marks : List Bool) (i : ℕ) → markedReturn stmts n marks i ≡ true → (i < n) × (getD marks i false ≡ true) × (getD stmts (i * 12) 0 ≡ returnWord)
-unfolding markedReturn isReturn
+unfolding markedReturn isMarkedReturn
 marked-return-is stmts n marks i e =
     let t = both (ltb i n) (getD marks i false && eqb (getD stmts (i * 12) 0) returnWord) e in
     let u = both (getD marks i false) (eqb (getD stmts (i * 12) 0) returnWord) (t .1) in
@@ -96,7 +96,7 @@ module _ (xs ys : List ℕ) (a k : ℕ) (ly : length ys ≡ k) (fits : a + k ≤
 -- ---- one node
 
 module _ (stmts : List ℕ) (marks : List Bool) (backs : List ℕ) where
-  pub return-kept : (i : ℕ) (xs : List ℕ) → isReturn stmts marks i ≡ false → ReturnJoined stmts i marks backs xs xs
+  pub return-kept : (i : ℕ) (xs : List ℕ) → isMarkedReturn stmts marks i ≡ false → ReturnJoined stmts i marks backs xs xs
   return-kept i xs e =
       record {
         size = refl;
@@ -104,7 +104,7 @@ module _ (stmts : List ℕ) (marks : List Bool) (backs : List ℕ) where
         others = λ k q. refl;
       }
 
-  pub return-joined : (i k : ℕ) (xs ys : List ℕ) → isReturn stmts marks i ≡ true → k ≡ 64 → i * 64 + k ≤ length xs → length backs ≡ 64
+  pub return-joined : (i k : ℕ) (xs ys : List ℕ) → isMarkedReturn stmts marks i ≡ true → k ≡ 64 → i * 64 + k ≤ length xs → length backs ≡ 64
       → ys ≡ joined (take k (drop (i * 64) xs)) backs → ReturnJoined stmts i marks backs xs (take (i * 64) xs ++ (ys ++ drop k (drop (i * 64) xs)))
   return-joined i k xs ys t ek fits lb ey =
       record {
@@ -128,7 +128,7 @@ module _ (stmts : List ℕ) (marks : List Bool) (backs : List ℕ) where
           ap (λ (l : List ℕ). getD l r 0) ey ∙ joined-at (take k (drop (i * 64) xs)) backs r (omega (arith, part))
           ∙ ap (λ (x : ℕ). bitOr x (getD backs r 0)) (getD-take k (drop (i * 64) xs) r 0 h ∙ getD-drop (i * 64) xs r 0)
 
-      here : (e : ℕ) → e / 64 ≡ i → getD (take (i * 64) xs ++ (ys ++ drop k (drop (i * 64) xs))) e 0 ≡ joinedIf (isReturn stmts marks i) (getD xs e 0) (getD backs (e % 64) 0)
+      here : (e : ℕ) → e / 64 ≡ i → getD (take (i * 64) xs ++ (ys ++ drop k (drop (i * 64) xs))) e 0 ≡ joinedIf (isMarkedReturn stmts marks i) (getD xs e 0) (getD backs (e % 64) 0)
       here e q =
           let r : i * 64 + e % 64 ≡ e = omega arith in
           let h : e % 64 < k = omega arith in
@@ -152,8 +152,8 @@ module _ (stmts : List ℕ) (marks : List Bool) (backs : List ℕ) where
       go : (e : ℕ) → (e / 64 ≡ i) ⊎ (e / 64 ≡ i → ⊥) → getD zs e 0 ≡ joinedIf (markedReturn stmts (i + 1) marks (e / 64)) (getD xs e 0) (getD backs (e % 64) 0)
       go e (inl q) =
           let b = getD backs (e % 64) 0 in
-          t .here e q ∙ ap (λ (x : ℕ). joinedIf (isReturn stmts marks i) x b) (s .entry e ∙ ap (λ (x : Bool). joinedIf x (getD xs e 0) b) (marked-past stmts i marks (e / 64) (omega arith)))
-          ∙ ap (λ (x : Bool). joinedIf x (getD xs e 0) b) (ap (isReturn stmts marks) (sym q) ∙ sym (marked-below stmts (i + 1) marks (e / 64) (omega arith)))
+          t .here e q ∙ ap (λ (x : ℕ). joinedIf (isMarkedReturn stmts marks i) x b) (s .entry e ∙ ap (λ (x : Bool). joinedIf x (getD xs e 0) b) (marked-past stmts i marks (e / 64) (omega arith)))
+          ∙ ap (λ (x : Bool). joinedIf x (getD xs e 0) b) (ap (isMarkedReturn stmts marks) (sym q) ∙ sym (marked-below stmts (i + 1) marks (e / 64) (omega arith)))
       go e (inr q) =
           t .others e q ∙ s .entry e
           ∙ ap (λ (x : Bool). joinedIf x (getD xs e 0) (getD backs (e % 64) 0)) (same-test (e / 64) q (lt-or (e / 64) i))

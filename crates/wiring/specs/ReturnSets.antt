@@ -11,14 +11,13 @@ use lib.ListN.{length, getD, take, drop}
 abbrev pub returnWord : ℕ
 returnWord = 9
 
--- a node's record has 12 entries, of which the first is its opening word
-unfoldable pub isReturn : List ℕ → List Bool → ℕ → Bool
-isReturn stmts marks i = getD marks i false && eqb (getD stmts (i * 12) 0) returnWord
+-- node i has its mark and is a RETURN: its record has 12 entries, of which the first is its opening word
+unfoldable pub isMarkedReturn : List ℕ → List Bool → ℕ → Bool
+isMarkedReturn stmts marks i = getD marks i false && eqb (getD stmts (i * 12) 0) returnWord
 
--- one of the first n
+-- and is one of the first n
 unfoldable pub markedReturn : List ℕ → ℕ → List Bool → ℕ → Bool
-unfolding isReturn
-markedReturn stmts n marks i = ltb i n && isReturn stmts marks i
+markedReturn stmts n marks i = ltb i n && isMarkedReturn stmts marks i
 
 abbrev pub joinedIf : Bool → ℕ → ℕ → ℕ
 joinedIf true w u = bitOr w u
@@ -31,7 +30,7 @@ setOf sets i = take 64 (drop (i * 64) sets)
 -- the set of node i alone may change
 pub record ReturnJoined (stmts : List ℕ) (i : ℕ) (marks : List Bool) (backs sets sets′ : List ℕ) : Type 0 where
   pub size : length sets′ ≡ length sets
-  pub here : (e : ℕ) → e / 64 ≡ i → getD sets′ e 0 ≡ joinedIf (isReturn stmts marks i) (getD sets e 0) (getD backs (e % 64) 0)
+  pub here : (e : ℕ) → e / 64 ≡ i → getD sets′ e 0 ≡ joinedIf (isMarkedReturn stmts marks i) (getD sets e 0) (getD backs (e % 64) 0)
   pub others : (e : ℕ) → (e / 64 ≡ i → ⊥) → getD sets′ e 0 ≡ getD sets e 0
 
 -- entry by entry: e is a word of the set of node e / 64

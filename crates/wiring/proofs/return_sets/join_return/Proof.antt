@@ -3,7 +3,7 @@ use Prim.Native.Nat.{_+_, _-_, _*_}
 use borrow.Author.Tests.{not-true, not-false}
 use mathlib.Core.Path.{_≡_}
 use native.Mathlib.Omega.{arith}
-use Rattle.wiring.specs.ReturnSetLaws.{is-return, no-mark, no-return, return-kept, return-joined}
+use Rattle.wiring.specs.ReturnSetLaws.{is-marked-return, no-mark, no-return, return-kept, return-joined}
 use borrow.Author.Needs.{needs}
 use Rattle.wiring.proofs.return_sets.join_return.Statement.{statement}
 use Rattle.wiring.proofs.return_sets.join_return.Tie as tie
@@ -61,7 +61,7 @@ returns-3 c =
     let s = c .before .before .before .before .before .before .before .before .before .before .before in
     let k : s .args .i * 64 + 64 - s .args .i * 64 ≡ 64 = omega arith in
     return-joined (s .args .stmts .now) (s .args .marks .now) (s .args .backs .now) (s .args .i) _ (s .args .sets .now) (c .before .before .join .last .0)
-    (is-return (s .args .stmts .now) (s .args .marks .now) (s .args .i) (not-false _ (c .before .before .before .before .before .before .if1 .left)) (c .before .before .before .before .if2 .left)) k
+    (is-marked-return (s .args .stmts .now) (s .args .marks .now) (s .args .i) (not-false _ (c .before .before .before .before .before .before .if1 .left)) (c .before .before .before .before .if2 .left)) k
     (omega (arith, s .pre .2)) (s .pre .3) (c .before .before .join .ensures)
 
 pub join-return-spec : {M : Type 1} → statement M
