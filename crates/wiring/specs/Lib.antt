@@ -29,3 +29,10 @@ pub mod StackLaws
 pub mod ForLaws
 pub mod PerNodeLaws
 pub mod Theorems
+pub mod Compare
+pub mod Walk
+pub mod WalkLaws
+pub mod Sets
+pub mod SetLaws
+pub mod ReturnSets
+pub mod ReturnSetLaws

@@ -1,2 +1,6 @@
 // The wiring: the records of a listing to its graph.
 pub mod lists;
+pub mod return_sets;
+pub mod sets;
+pub mod walk;
+pub mod widths;

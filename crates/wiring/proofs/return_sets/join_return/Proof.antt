@@ -1,0 +1,85 @@
+-- `join_return`: one node's set, lent on as the part that it is. Assumes nothing.
+use Prim.Native.Nat.{_+_, _-_, _*_}
+use borrow.Author.Tests.{not-true, not-false}
+use mathlib.Core.Path.{_≡_}
+use native.Mathlib.Omega.{arith}
+use Rattle.wiring.specs.ReturnSetLaws.{is-marked-return, no-mark, no-return, return-kept, return-joined}
+use borrow.Author.Needs.{needs}
+use Rattle.wiring.proofs.return_sets.join_return.Statement.{statement}
+use Rattle.wiring.proofs.return_sets.join_return.Tie as tie
+
+element-copy-out-if1 : tie.Need-element-copy-out-if1
+element-copy-out-if1 c = search needs
+
+returns : tie.Need-returns
+returns c =
+    let s = c .before .before .before .before .before in
+    return-kept (s .args .stmts .now) (s .args .marks .now) (s .args .backs .now) (s .args .i) (s .args .sets .now)
+    (no-mark (s .args .stmts .now) (s .args .marks .now) (s .args .i) (not-true _ (c .if1 .taken)))
+
+mul-if2 : tie.Need-mul-if2
+mul-if2 c = search needs
+
+mul-if2-2 : tie.Need-mul-if2-2
+mul-if2-2 c = search needs
+
+shared-slice-read-if2 : tie.Need-shared-slice-read-if2
+shared-slice-read-if2 c = search needs
+
+returns-2 : tie.Need-returns-2
+returns-2 c =
+    let s = c .before .before .before .before .before .before .before in
+    return-kept (s .args .stmts .now) (s .args .marks .now) (s .args .backs .now) (s .args .i) (s .args .sets .now)
+    (no-return (s .args .stmts .now) (s .args .marks .now) (s .args .i) (c .if2 .taken))
+
+mul-start : tie.Need-mul-start
+mul-start c = search needs
+
+add-end : tie.Need-add-end
+add-end c = search needs
+
+mul-join : tie.Need-mul-join
+mul-join c = search needs
+
+sub-join : tie.Need-sub-join
+sub-join c = search needs
+
+part-join-start : tie.Need-part-join-start
+part-join-start c = search needs
+
+part-join-end : tie.Need-part-join-end
+part-join-end c = search needs
+
+join-requires : tie.Need-join-requires
+join-requires c κs = search needs
+
+same-length : tie.Need-same-length
+same-length c = search needs
+
+returns-3 : tie.Need-returns-3
+returns-3 c =
+    let s = c .before .before .before .before .before .before .before .before .before .before .before in
+    let k : s .args .i * 64 + 64 - s .args .i * 64 ≡ 64 = omega arith in
+    return-joined (s .args .stmts .now) (s .args .marks .now) (s .args .backs .now) (s .args .i) _ (s .args .sets .now) (c .before .before .join .last .0)
+    (is-marked-return (s .args .stmts .now) (s .args .marks .now) (s .args .i) (not-false _ (c .before .before .before .before .before .before .if1 .left)) (c .before .before .before .before .if2 .left)) k
+    (omega (arith, s .pre .2)) (s .pre .3) (c .before .before .join .ensures)
+
+pub join-return-spec : {M : Type 1} → statement M
+join-return-spec =
+    tie.close
+    (tie.spec
+    element-copy-out-if1
+    returns
+    mul-if2
+    mul-if2-2
+    shared-slice-read-if2
+    returns-2
+    mul-start
+    add-end
+    mul-join
+    sub-join
+    part-join-start
+    part-join-end
+    join-requires
+    same-length
+    returns-3)

@@ -1,0 +1,67 @@
+// The walk through a region: a mark for each of 4,096 statements, and a worklist of marked nodes whose steps are still to be marked.
+use crate::widths::narrow;
+use crate::widths::wide;
+ghost use mathlib.Core.Path.{_≡_};
+ghost use mathlib.Core.Bool.{false};
+ghost use Prim.Native.Nat.{_<_, _≤_};
+ghost use lib.ListN.{length, replicate};
+ghost use Rattle.wiring.specs.Walk.{Stored, storedList, RegionMarked, Markable, ListMarked};
+
+// Marks the nodes of a list, and puts those that had no mark on the worklist, which has `count`. A node comes on it with its mark,
+// so the free marks leave room.
+pub(crate) fn mark_all(
+    list: &[u16],
+    marks: &mut [bool; 4096],
+    work: &mut [u16; 4096],
+    count: usize,
+) -> usize
+    requires { ⌜ Markable 4096 (now list) (now marks) (now work) count ⌝ }
+    ensures { λ r. ⌜ ListMarked (now (list .entry)) (now (marks .entry)) (now (work .entry)) count (now (marks .exit)) (now (work .exit)) r ⌝ }
+{
+    let mut k: usize = 0;
+    let mut n = count;
+    while k < list.len() {
+        let w = list[k];
+        let x = wide(w);
+        if !marks[x] {
+            marks[x] = true;
+            work[n] = w;
+            n += 1;
+        }
+        k += 1;
+    }
+    n
+}
+
+// In a function of its own: a caller's proof then speaks of 4,096 equal marks by their number alone.
+pub(crate) fn no_marks() -> [bool; 4096]
+    ensures { λ r. ⌜ r ≡ replicate 4096 false ⌝ }
+{
+    [false; 4096]
+}
+
+pub(crate) fn no_work() -> [u16; 4096]
+    ensures { λ r. ⌜ length r ≡ 4096 ⌝ }
+{
+    [0u16; 4096]
+}
+
+// Marks every node that the stored lists lead to from `from`.
+pub(crate) fn region(lists: &[u16], edges: &[u16], n: usize, from: usize) -> [bool; 4096]
+    requires { ⌜ (n ≤ 4096) × (from < n) × Stored (now lists) (now edges) n (storedList (now lists) (now edges)) ⌝ }
+    ensures { λ r. ⌜ RegionMarked (now (lists .entry)) (now (edges .entry)) n from r ⌝ }
+{
+    let mut marks = no_marks();
+    let mut work = no_work();
+    marks[from] = true;
+    work[0] = narrow(from);
+    let mut left: usize = 1;
+    while 0 < left {
+        left -= 1;
+        let v = wide(work[left]);
+        let start = wide(lists[v * 4]);
+        let end = start + wide(lists[v * 4 + 1]);
+        left = mark_all(&edges[start..end], &mut marks, &mut work, left);
+    }
+    marks
+}
