@@ -204,8 +204,13 @@ pub fills-start : (text : List ℕ) (nl ns na : ℕ) (f : Accepts text nl ns na)
 unfolding start walkAt recsOf positionRecs numbersOf openNumbers lineRecs lineNumbers joined
 fills-start text nl ns na f s e =
     record {
-      reading = start; row = 0; state = e; walk = refl; good = good-start; ahead = sym (read-short text (f .short)) ∙ f .reads;
-      holds = record { lines = sym (padded-nil nl); stmts = sym (padded-nil ns); args = sym (padded-nil na); wide = all[] }
+      reading = start;
+      row = 0;
+      state = e;
+      walk = refl;
+      good = good-start;
+      ahead = sym (read-short text (f .short)) ∙ f .reads;
+      holds = record { lines = sym (padded-nil nl); stmts = sym (padded-nil ns); args = sym (padded-nil na); wide = all[] };
     }
 
 pub fills-bounded : {text : List ℕ} {nl ns na : ℕ} {tree : Listing} {s : State} {w : Walk} {n t a : List ℕ} {at : ℕ} → Fills text nl ns na tree s w n t a at → Bounded s
@@ -295,8 +300,8 @@ module _ (text : List ℕ) (nl ns na : ℕ) (g : Accepts text nl ns na) (s : Sta
               lines = m .lines ∙ y .0 .lines;
               stmts = m .stmts ∙ y .0 .stmts;
               args = m .args ∙ y .0 .args;
-              wide = y .0 .wide
-            }
+              wide = y .0 .wide;
+            };
           }
 
 -- ---- the routine

@@ -99,7 +99,7 @@ holds-long r nl ns na n t a g f h =
     record {
       lines = ap length (h .lines) ∙ padded-length nl (numbersOf r (r .position)) (omega (arith, numbers-length r (r .position), g .lineSum, f .lines));
       stmts = ap length (h .stmts) ∙ padded-length ns (recRows rs) (omega (arith, joined-length recRow 12 (rec-wide rs), recs-length r (r .position), g .stmtSum, f .stmts));
-      args = ap length (h .args) ∙ padded-length na (argRows rs) (omega (arith, joined-length argRow 64 (h .wide), recs-length r (r .position), g .stmtSum, f .args))
+      args = ap length (h .args) ∙ padded-length na (argRows rs) (omega (arith, joined-length argRow 64 (h .wide), recs-length r (r .position), g .stmtSum, f .args));
     }
 
 module _ (r : Reading) (nl ns na : ℕ) (n t a : List ℕ) (now : Long nl ns na n t a) (room : Fits nl ns na r) where
@@ -127,7 +127,7 @@ module _ (r : Reading) (nl ns na : ℕ) (n t a : List ℕ) (now : Long nl ns na 
         most = g .stmtMost;
         held = λ z. absurd (omega arith);
         inner = λ z b. holder-some T fs b;
-        index = λ z. absurd (omega arith)
+        index = λ z. absurd (omega arith);
       }
 
   add-ready : (s : Stmts) (fs : List OpenCond) (c : ℕ) → c ≤ 28 → r .stmtCount < 4096 → Good r (inStmts s fs) → suc (r .stmtCount) * 12 ≤ ns → AddReady t (stateAt r (inStmts s fs)) (walkAt r (inStmts s fs)) c
@@ -140,7 +140,7 @@ module _ (r : Reading) (nl ns na : ℕ) (n t a : List ℕ) (now : Long nl ns na 
         line = omega (arith, g .lineSum);
         lines = g .lineMost;
         index = omega (arith, g .stmtSum, g .stmtMost, index-le fs, len-le s);
-        word = h
+        word = h;
       }
 
   row-ready : (l : List ℕ) (d : Counted) → contentOf (rowOf l) ≡ simpleRow (parsed d) → d .1 ≤ 64 → r .stmtCount < 4096 → suc (r .stmtCount) * 64 ≤ na → RowReady l a (r .stmtCount)
@@ -170,7 +170,7 @@ module _ (r : Reading) (nl ns na : ℕ) (n t a : List ℕ) (now : Long nl ns na 
         most = g .stmtMost;
         held = λ z. omega arith;
         inner = λ z b. omega arith;
-        index = λ z. omega (arith, k, g .stmtSum, g .stmtMost, index-le fs, len-le s)
+        index = λ z. omega (arith, k, g .stmtSum, g .stmtMost, index-le fs, len-le s);
       }
 
   begin-needs : (l : List ℕ) (d : Content) → Needs (stateAt r begin) (walkAt r begin) l (asRow d) (atBegin r d)

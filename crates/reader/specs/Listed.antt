@@ -80,7 +80,7 @@ module _ (text counts lines stmts args : List ℕ) (h : Bool) (nl ns : ℕ) (j :
         counts = j .zeroCounts ∙ sym (ap (λ (z : ReadAnswer). tableOf countsOf z 5) a);
         lines = j .zeroLines ∙ sym (ap (λ (z : ReadAnswer). tableOf lineEntries z (length lines)) a);
         stmts = j .zeroStmts ∙ sym (ap (λ (z : ReadAnswer). tableOf stmtEntries z (length stmts)) a);
-        args = j .zeroArgs ∙ sym (ap (λ (z : ReadAnswer). tableOf argEntries z (length args)) a)
+        args = j .zeroArgs ∙ sym (ap (λ (z : ReadAnswer). tableOf argEntries z (length args)) a);
       }
 
   pub short-lines : length lines < nl → Written text (length lines) (length stmts) (length args) counts lines stmts args (listed.Refused 21 nl)
@@ -114,10 +114,16 @@ module _ (text counts lines stmts args : List ℕ) (h : Bool) (nl ns : ℕ) (j :
     judged-zeroed =
         record {
           accepts = record {
-            tree = j .tree; reads = j .reads; short = short text (j .tree) (j .reads);
-            lines = omega (arith, j .lineCount); stmts = omega (arith, j .stmtCount); args = omega (arith, j .stmtCount)
+            tree = j .tree;
+            reads = j .reads;
+            short = short text (j .tree) (j .reads);
+            lines = omega (arith, j .lineCount);
+            stmts = omega (arith, j .stmtCount);
+            args = omega (arith, j .stmtCount);
           };
-          lines = j .zeroLines; stmts = j .zeroStmts; args = j .zeroArgs
+          lines = j .zeroLines;
+          stmts = j .zeroStmts;
+          args = j .zeroArgs;
         }
 
     fits : answerOf (length lines) (length stmts) (length args) (read text) ≡ accepted (j .tree)
@@ -140,7 +146,7 @@ module _ (text counts lines stmts args : List ℕ) (h : Bool) (nl ns : ℕ) (j :
           counts = i ∙ counted x y z (j .tree) (p ∙ j .lineCount) (q ∙ j .stmtCount) (s ∙ ap handlerNumber (j .handlers)) ∙ sym (ap (λ (o : ReadAnswer). tableOf countsOf o 5) fits);
           lines = g .lines ∙ sym (ap (λ (o : ReadAnswer). tableOf lineEntries o (length lines)) fits);
           stmts = g .stmts ∙ sym (ap (λ (o : ReadAnswer). tableOf stmtEntries o (length stmts)) fits);
-          args = g .args ∙ sym (ap (λ (o : ReadAnswer). tableOf argEntries o (length args)) fits)
+          args = g .args ∙ sym (ap (λ (o : ReadAnswer). tableOf argEntries o (length args)) fits);
         }
       where
         answers : {v u : Bool} {a b c d : ℕ} → v ≡ u → a ≡ b → c ≡ d → listed.Accepted v a c ≡ listed.Accepted u b d
@@ -184,7 +190,7 @@ module _ (text c n t a : List ℕ) (nl ns na : ℕ) (zc : c ≡ 0 ∷ 0 ∷ 0 �
         counts = zc ∙ sym (ap (λ (z : ReadAnswer). tableOf countsOf z 5) q);
         lines = zn ∙ sym (ap (λ (z : ReadAnswer). tableOf lineEntries z nl) q);
         stmts = zt ∙ sym (ap (λ (z : ReadAnswer). tableOf stmtEntries z ns) q);
-        args = za ∙ sym (ap (λ (z : ReadAnswer). tableOf argEntries z na) q)
+        args = za ∙ sym (ap (λ (z : ReadAnswer). tableOf argEntries z na) q);
       }
 
   -- by the lengths of the zeroed tables

@@ -132,18 +132,18 @@ module _ (f : List ℕ → ℕ) (s t₀ t : List ℕ) (at n : ℕ) (w : List ℕ
       let q : map f (split 32 (drop at s)) ≡ f w ∷ map f (split 32 (drop at′ s)) = ap (map f) e in
       record {
         wrote = ap (λ (k : ℕ). take k (set t n (f w)) ++ map f (split 32 (drop at′ s))) (add-one n)
-          ∙ ap (λ (l : List ℕ). l ++ map f (split 32 (drop at′ s))) (take-suc-set t n (f w) h)
-          ∙ append-assoc (take n t) (f w ∷ []) (map f (split 32 (drop at′ s))) ∙ ap (λ (l : List ℕ). take n t ++ l) (sym q) ∙ g .wrote;
+            ∙ ap (λ (l : List ℕ). l ++ map f (split 32 (drop at′ s))) (take-suc-set t n (f w) h)
+            ∙ append-assoc (take n t) (f w ∷ []) (map f (split 32 (drop at′ s))) ∙ ap (λ (l : List ℕ). take n t ++ l) (sym q) ∙ g .wrote;
         left = drop-set-lt (n + 1) t n (f w) (omega arith) ∙ sym (drop-drop 1 n t) ∙ ap (drop 1) (g .left) ∙ drop-drop 1 n t₀;
         long = length-set t n (f w) ∙ g .long;
-        sum = omega (arith, ap length e, g .sum)
+        sum = omega (arith, ap length e, g .sum);
       }
 
   filling-end : n < length t → split 32 (drop at s) ≡ w ∷ [] → (n + 1 ≡ length (split 32 s)) × (set t n (f w) ≡ map f (split 32 s) ++ drop (length (split 32 s)) t₀)
   filling-end h e =
       let m : n + 1 ≡ length (split 32 s) = omega (arith, ap length e, g .sum) in
       let a : take (n + 1) (set t n (f w)) ≡ map f (split 32 s) =
-            ap (λ (k : ℕ). take k (set t n (f w))) (add-one n) ∙ take-suc-set t n (f w) h ∙ ap (λ (l : List (List ℕ)). take n t ++ map f l) (sym e) ∙ g .wrote in
+      ap (λ (k : ℕ). take k (set t n (f w))) (add-one n) ∙ take-suc-set t n (f w) h ∙ ap (λ (l : List (List ℕ)). take n t ++ map f l) (sym e) ∙ g .wrote in
       let b : drop (n + 1) (set t n (f w)) ≡ drop (n + 1) t₀ = drop-set-lt (n + 1) t n (f w) (omega arith) ∙ sym (drop-drop 1 n t) ∙ ap (drop 1) (g .left) ∙ drop-drop 1 n t₀ in
       (m, sym (take-append-drop (n + 1) (set t n (f w))) ∙ ap (λ (l : List ℕ). l ++ drop (n + 1) (set t n (f w))) a ∙ ap (λ (l : List ℕ). map f (split 32 s) ++ l) b ∙ ap (λ (k : ℕ). map f (split 32 s) ++ drop k t₀) m)
 
@@ -442,8 +442,8 @@ stated row d e =
     let t = simple-tokens o (q .1) in
     let p = both-true (isToken (simpleWord o)) (areTokens (simpleArgs o)) t in
     let s : split 32 (inside row) ≡ simpleWord o ∷ simpleArgs o =
-          ap (λ (l : List ℕ). split 32 (inside l)) (q .0) ∙ ap (split 32) (inside-closed (simpleWord o) (simpleArgs o) ∙ sym (join-words (simpleWord o) (simpleArgs o)))
-          ∙ split-join 32 (simpleWord o) (simpleArgs o) (token-lacks 32 refl (simpleWord o) (p .0)) (tokens-lack 32 refl (simpleArgs o) (p .1)) in
+    ap (λ (l : List ℕ). split 32 (inside l)) (q .0) ∙ ap (split 32) (inside-closed (simpleWord o) (simpleArgs o) ∙ sym (join-words (simpleWord o) (simpleArgs o)))
+    ∙ split-join 32 (simpleWord o) (simpleArgs o) (token-lacks 32 refl (simpleWord o) (p .0)) (tokens-lack 32 refl (simpleArgs o) (p .1)) in
     record { long = closed-long (simpleWord o) (simpleArgs o) row (q .0); entries = ap rowEntries s ∙ simple-entries o (q .1); detail = ap rowDetail s ∙ simple-detail o }
 
 -- "8 a 65th number or slot": what is accepted has room

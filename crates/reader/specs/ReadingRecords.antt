@@ -266,7 +266,7 @@ module _ (ls : Lines) (li : ℕ) (s : Stmts) (fs : List OpenCond) where
 
   cond-whole : (k : CondWord) (t u : BranchForm) (a b : Stmts) → lineRecs ls ++ positionRecs (total ls) li (inStmts (branching s k t a u b) fs)
       ≡ before ++ (condRec k li (holderOf (total ls) fs) (firstIndex fs + len s) (suc (firstNode (total ls) fs + size s) + size a + size b) (suc (firstNode (total ls) fs + size s) + size a) t u
-        ∷ (stmtRecs li (suc (firstNode (total ls) fs + size s)) 0 (suc (firstNode (total ls) fs + size s)) a ++ stmtRecs li (suc (firstNode (total ls) fs + size s)) (len a) (suc (firstNode (total ls) fs + size s) + size a) b))
+      ∷ (stmtRecs li (suc (firstNode (total ls) fs + size s)) 0 (suc (firstNode (total ls) fs + size s)) a ++ stmtRecs li (suc (firstNode (total ls) fs + size s)) (len a) (suc (firstNode (total ls) fs + size s) + size a) b))
   unfolding before positionRecs listRecs stmtRecs
   cond-whole k t u a b = simp append-assoc
 

@@ -1,9 +1,28 @@
 // Framed texts on standard input (a row with the byte count, then the bytes); for each a row with what the reader answers.
-ghost use Prim.Native.Nat.{_≤_};
+ghost use mathlib.Core.Path.{_≡_};
 use libc::STDIN_FILENO;
 use libc::STDOUT_FILENO;
 use reader::listing::Listed;
 use reader::listing::read_listing;
+
+enum Byte {
+    Got(u8),
+    End,
+}
+
+fn next_byte() -> Byte {
+    let mut byte = [0u8; 1];
+    if io::read_full(STDIN_FILENO, &mut byte) == 0 {
+        return Byte::End;
+    }
+    Byte::Got(byte[0])
+}
+
+fn wide(b: u8) -> usize
+    ensures { λ r. ⌜ r ≡ b ⌝ }
+{
+    b as usize
+}
 
 enum Next {
     Length(usize),
@@ -12,21 +31,16 @@ enum Next {
 
 // The row before a text: its byte count.
 fn next_length() -> Next {
-    let mut byte = [0u8; 1];
     let mut n: usize = 0;
     let mut k: usize = 0;
     while k < 9 {
-        if io::read_full(STDIN_FILENO, &mut byte) == 0 {
+        let Byte::Got(b) = next_byte() else {
             return Next::End;
-        }
-        let b = byte[0];
+        };
         if b == 10 {
             return Next::Length(n);
         }
-        if b < 48 {
-            return Next::End;
-        }
-        n = n % 10000000 * 10 + (b % 48) as usize;
+        n = n % 10000000 * 10 + wide(b % 48);
         k += 1;
     }
     Next::End
@@ -44,7 +58,11 @@ fn print_answer(answer: Listed) {
             print_number(number as usize);
             print_number(place);
         }
-        Listed::Accepted { handlers, lines, stmts } => {
+        Listed::Accepted {
+            handlers,
+            lines,
+            stmts,
+        } => {
             io::write_all(STDOUT_FILENO, b"(accepted");
             print_number(if handlers { 1 } else { 0 });
             print_number(lines);
@@ -55,12 +73,12 @@ fn print_answer(answer: Listed) {
 }
 
 // A text of that length, with tables that suffice at all limits.
-fn answer_text(text: &mut [u8], n: usize) {
+fn answer_part(text: &mut [u8], n: usize) {
     if text.len() < n {
         return;
     }
     let part = &mut text[..n];
-    let got = io::read_full(STDIN_FILENO, part);
+    io::read_full(STDIN_FILENO, part);
     let mut counts = [0u32; 5];
     let mut lines = [0u16; 1024];
     let mut stmts = [0u16; 49152];
@@ -68,15 +86,19 @@ fn answer_text(text: &mut [u8], n: usize) {
     print_answer(read_listing(part, &mut counts, &mut lines, &mut stmts, &mut args));
 }
 
+fn answer_text(n: usize) {
+    let mut text = [0u8; 131072];
+    answer_part(&mut text, n);
+}
+
 // A proved loop has to end, so it counts its turns down, from a number that no run uses up.
 fn main() {
-    let mut text = [0u8; 131072];
     let mut turns = u64::MAX;
     while turns > 0 {
         let Next::Length(n) = next_length() else {
             return;
         };
-        answer_text(&mut text, n);
+        answer_text(n);
         turns -= 1;
     }
 }

@@ -61,7 +61,7 @@ returns c =
     record {
       walk = walk-is refl (c .next-index .ensures);
       stmts = c .before .before .before .append .ensures ∙ ap (appendRow (a .stmts .now) (a .s .stmts)) (c .before .before .before .before .entry-of .ensures ∙ ap (entryOf (a .s) (a .w) (a .word) (a .s .stmts + 1)) g);
-      args = p .table
+      args = p .table;
     }
 
 pub add-simple-spec : {M : Type 1} → statement M

@@ -114,10 +114,11 @@ returns-3 c =
     let t = a .t .now in
     let x = ne-eqb _ _ (p .before .before .if1 .left) in
     let y = eq-eqb _ _ (p .if3 .taken) in
-    let e = n .node-of2 .ensures in
-    (rw (x, y) (walk-is (c .before .before .before .before .before .before .before .before .fetch .ensures ∙ ap (λ (i : ℕ). getD t (i * 12 + 2) 0) e)
-      (c .next-index .ensures ∙ ap (λ (k : ℕ). k + 1) (c .before .before .before .before .before .before .fetch2 .ensures ∙ ap (λ (i : ℕ). getD t (i * 12 + 3) 0) e))),
-     rw (x, y) (c .before .before .before .store .ensures ∙ ap (λ (i : ℕ). set t (i * 12 + 4) (c .before .before .before .before .narrow .result)) e ∙ ap (set t ((a .w .holder - 1) * 12 + 4)) (c .before .before .before .before .narrow .ensures)))
+    let e = n .node-of2 .ensures in (
+      rw (x, y) (walk-is (c .before .before .before .before .before .before .before .before .fetch .ensures ∙ ap (λ (i : ℕ). getD t (i * 12 + 2) 0) e)
+          (c .next-index .ensures ∙ ap (λ (k : ℕ). k + 1) (c .before .before .before .before .before .before .fetch2 .ensures ∙ ap (λ (i : ℕ). getD t (i * 12 + 3) 0) e))),
+      rw (x, y) (c .before .before .before .store .ensures ∙ ap (λ (i : ℕ). set t (i * 12 + 4) (c .before .before .before .before .narrow .result)) e ∙ ap (set t ((a .w .holder - 1) * 12 + 4)) (c .before .before .before .before .narrow .ensures)),
+    )
 
 -- src/fill.rt:77:1
 returns-4 : tie.Need-returns-4

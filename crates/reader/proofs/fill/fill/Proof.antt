@@ -215,10 +215,12 @@ loop-again c =
     let v = o .loop in
     let g = v .inv .1 in
     let f = v .inv .2 in
-    let r = c .before .before .before .before .before .before .write-row in
-    (let z = next-more 10 x (v .at) (c .before .before .before .before .before .before .before .before .before .before .before .before .before .before .before .before .before .before .find .result) (v .inv .0) (c .before .before .before .before .before .before .before .before .before .before .before .before .before .before .before .before .before .before .find .ensures .0) (c .before .before .before .before .before .before .before .before .before .before .before .before .before .before .before .before .before .if1 .left) (c .before .before .before .before .before .before .before .before .before .before .before .before .before .before .before .before .before .before .find .ensures .1) .0 in omega arith, g,
-     fills-taken x (length (b .lines .now)) (length (b .stmts .now)) (length (b .args .now)) g (v .s) (v .w) (v .lines) (v .stmts) (v .args) (v .at) f (c .before .before .before .before .before .before .before .before .before .before .before .before .before .before .before .before .before .before .find .result) (omega arith) (c .before .before .before .before .before .before .before .before .before .before .before .before .before .before .before .before .before .before .find .ensures .0) (c .before .before .before .before .before .before .before .before .before .before .before .before .before .before .before .before .before .if1 .left) (c .before .before .before .before .before .before .before .before .before .before .before .before .before .before .before .before .before .before .find .ensures .1) (c .before .before .before .before .before .before .before .before .before .before .before .before .before .before .step-row .result) (c .before .before .before .before .before .before .before .before .before .before .before .before .before .before .step-row .ensures ∙ ap (stepRow (v .s)) (c .before .before .before .before .before .before .before .before .before .before .before .before .before .before .before .row-of .ensures)) (c .before .before .before .before .before .before .before .before .before .before .before .before .n .given .0 .0) (c .before .before .before .before .before .before .before .before .before .before .before .before .n .given .1) (c .before .before .before .before .before .before .before .before .before .before .before .before .before .before .before .row-of .result) (c .before .before .before .before .before .before .before .before .before .before .before .before .before .before .before .row-of .ensures)
-     (r .result) (r .last .1 .0) (r .last .1 .1 .0) (r .last .1 .1 .1 .0) (r .ensures))
+    let r = c .before .before .before .before .before .before .write-row in (
+      let z = next-more 10 x (v .at) (c .before .before .before .before .before .before .before .before .before .before .before .before .before .before .before .before .before .before .find .result) (v .inv .0) (c .before .before .before .before .before .before .before .before .before .before .before .before .before .before .before .before .before .before .find .ensures .0) (c .before .before .before .before .before .before .before .before .before .before .before .before .before .before .before .before .before .if1 .left) (c .before .before .before .before .before .before .before .before .before .before .before .before .before .before .before .before .before .before .find .ensures .1) .0 in omega arith,
+      g,
+      fills-taken x (length (b .lines .now)) (length (b .stmts .now)) (length (b .args .now)) g (v .s) (v .w) (v .lines) (v .stmts) (v .args) (v .at) f (c .before .before .before .before .before .before .before .before .before .before .before .before .before .before .before .before .before .before .find .result) (omega arith) (c .before .before .before .before .before .before .before .before .before .before .before .before .before .before .before .before .before .before .find .ensures .0) (c .before .before .before .before .before .before .before .before .before .before .before .before .before .before .before .before .before .if1 .left) (c .before .before .before .before .before .before .before .before .before .before .before .before .before .before .before .before .before .before .find .ensures .1) (c .before .before .before .before .before .before .before .before .before .before .before .before .before .before .step-row .result) (c .before .before .before .before .before .before .before .before .before .before .before .before .before .before .step-row .ensures ∙ ap (stepRow (v .s)) (c .before .before .before .before .before .before .before .before .before .before .before .before .before .before .before .row-of .ensures)) (c .before .before .before .before .before .before .before .before .before .before .before .before .n .given .0 .0) (c .before .before .before .before .before .before .before .before .before .before .before .before .n .given .1) (c .before .before .before .before .before .before .before .before .before .before .before .before .before .before .before .row-of .result) (c .before .before .before .before .before .before .before .before .before .before .before .before .before .before .before .row-of .ensures)
+          (r .result) (r .last .1 .0) (r .last .1 .1 .0) (r .last .1 .1 .1 .0) (r .ensures),
+    )
 
 pub fill-spec : {M : Type 1} → statement M
 fill-spec =
