@@ -6,7 +6,7 @@ use mathlib.Core.Option.{Option, none, some}
 use native.Mathlib.Omega.{arith}
 use lib.ListN.{length, getD, getElem?, replicate, length-append, length-replicate, List·getD-append}
 use lib.Seq.{getD-append-add}
-use Rattle.reader.specs.Records.{Rec, padded, recRow, recRows, argRows}
+use Rattle.reader.specs.Records.{Rec, recRow, joined, recRows}
 
 none-some : {A B : Type 0} {a : A} → _≡_ {A = Option A} none (some a) → B
 none-some e = absurd (let z : _≡_ {A = ℕ} 0 1 = cc in omega arith)
@@ -34,9 +34,9 @@ rec-width r = refl
 
 -- entry c of the record of statement i
 pub rec-at : (rs : List Rec) (rest : List ℕ) (i c : ℕ) (r : Rec) → getElem? rs i ≡ some r → c < 12 → getD (recRows rs ++ rest) (i * 12 + c) 0 ≡ getD (recRow r) c 0
-unfolding recRows
+unfolding joined
 rec-at = row-at 12 recRow recRows refl (λ r rs. refl) rec-width
 
 pub recs-length : (rs : List Rec) → length (recRows rs) ≡ length rs * 12
-unfolding recRows
+unfolding joined
 recs-length = rows-length 12 recRow recRows refl (λ r rs. refl) rec-width
