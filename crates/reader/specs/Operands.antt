@@ -86,7 +86,7 @@ pub record Put (es : List ℕ) (d : ℕ) (t t′ : List ℕ) (r : Given) : Type 
 
 -- ---- laws for the code
 
-encode-key : (w : List ℕ) → encode w ≡ nameKey w
+pub encode-key : (w : List ℕ) → encode w ≡ nameKey w
 unfolding encode nameKey
 encode-key [] = refl
 encode-key (b ∷ w) = ap (λ (n : ℕ). (b - 32) + 64 * n) (encode-key w)
