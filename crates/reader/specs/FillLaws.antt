@@ -3,34 +3,31 @@ use mathlib.Core.Path.{_≡_, refl, sym, ap, _∙_, subst}
 use mathlib.Core.Bool.{Bool, true, false}
 use mathlib.Core.List.{List, [], _∷_, _++_, append-assoc, append-nil}
 use mathlib.Core.Option.{Option, none, some}
-use Prim.Native.Nat.{ℕ, zero, suc, _+_, _*_, _-_, _/_, _%_, _≤_, _<_}
-use native.Mathlib.Numerals.{add-one}
+use Prim.Native.Nat.{ℕ, suc, _+_, _*_, _-_, _%_, _≤_, _<_}
 use native.Mathlib.Omega.{arith}
 use lib.Dec.{eqb, leb, ltb}
-use lib.ListN.{length, take, drop, set, getD, length-append}
+use lib.ListN.{length, set, getD}
 use lib.Seq.{getD-append-seam}
 use borrow.Author.Tests.{eq-eqb, ne-eqb, leb-true}
-use Rattle.reader.specs.Bytes.{pick, bytes, same}
-use Rattle.reader.specs.Listing.{Simple, goto, gosub, return, run, runto, ongoto, ongosub, for, next, repeat, loop, until, endloop, exit, exitif, doif, else, done, clr, stop, any, CondWord, if, ifelse, rcomp, BranchForm, to, stmts, absent, Stmts, ∅, _▸_, branching, Lines, nolines, line, size, len, total, count}
-use Rattle.reader.specs.Rows.{Parse, malformed, invalid, parsed, Counted, Content, noForm, endRow, stmtsRow, moduleRow, lineRow, toRow, simpleRow, condRow, contentOf, rowOf, openingWords}
+use Rattle.reader.specs.Bytes.{bytes, same}
+use Rattle.reader.specs.Listing.{Simple, goto, gosub, return, run, runto, ongoto, ongosub, for, next, repeat, loop, until, endloop, exit, exitif, doif, else, done, clr, stop, any, CondWord, if, ifelse, rcomp, BranchForm, to, stmts, absent, Stmts, ∅, size, len, total, count}
+use Rattle.reader.specs.Rows.{malformed, invalid, parsed, Counted, Content, noForm, endRow, stmtsRow, moduleRow, lineRow, toRow, simpleRow, condRow, contentOf, rowOf, openingWords}
 use Rattle.reader.specs.Read.{OpenCond, Branches, noBranch, oneBranch, twoBranches, Position, begin, inModule, ended, inStmts, inCond, Reading, Outcome, taken, refused, goTo, oneMore, orRefused, check, ascends, atBegin, readLine, atModule, readSimple, readCond, numberOf, branched, endStmts, atStmts, NextBranch, noMore, mayFollow, nextBranch, condStmt, endCond, readTo, readStmts, atCond, readRow}
 use Rattle.reader.specs.ListingText.{simpleWord, condWord}
 use Rattle.reader.specs.WordTable.{words, first, wordIndex}
-use Rattle.reader.specs.Shown.{firstSize, branchesSize, openSize, positionSize, openLines, Good}
+use Rattle.reader.specs.Shown.{firstSize, branchesSize, positionSize, openLines, Good}
 use Rattle.reader.specs.CodedRows.{wordNumber, condNumber, asRow}
-use Rattle.reader.specs.Machine.{firstCode, condCode, packed, branchCount, positionCode, openConds, wordCode, branchCode, lastCode, stateAt}
-use Rattle.reader.specs.Records.{Rec, recRow, branchNumber, branchLine, simpleRec, condRec, lineRecs, stmtRecs, lineNumbers, argsOf, detailOf}
+use Rattle.reader.specs.Machine.{firstCode, condCode, packed, branchCount, positionCode, openConds, branchCode, stateAt}
+use Rattle.reader.specs.Records.{Rec, recRow, branchNumber, branchLine, simpleRec, condRec, stmtRecs, lineNumbers, argsOf, detailOf}
 use Rattle.reader.specs.ReadingRecords.{firstNode, holderOf, firstLen, firstIndex, branchesOf, partialRec, openRec, branchRecs, listRecs, openRecs, positionRecs, recsOf, openNumbers, numbersOf, amend, withEnd, withBranch, first-node, recs-length, numbers-length, before, before-length, cond-split, simple-law, cond-law, stmts-law, branch-law, end-law₁, end-law₂, line-law}
-use Rattle.reader.specs.Operands.{Stated, stated, stated-short}
-use Rattle.reader.specs.Fill.{entryOf, branchStmts, endTable, endWalk, outsideWalk, insideWalk, addedWalk, addSimple, addCond, addEntries, entriesIn, detailIn, stmtTable, argTable, lineTable, walkBy, walk-is}
-use Rattle.reader.specs.Tables.{entryRow, appendRow}
+use Rattle.reader.specs.Operands.{stated, stated-short}
+use Rattle.reader.specs.Fill.{entryOf, branchStmts, outsideWalk, addEntries, entriesIn, detailIn, stmtTable, argTable, lineTable, walkBy, walk-is}
+use Rattle.reader.specs.Tables.{appendRow}
 use Rattle.reader.specs.Holds.{Holds, holds-as, holds-line, holds-record, holds-bare, holds-end, isSome, holds-branch, holds-get}
 use Rattle.reader.specs.declared.machine.State.{State}
 use Rattle.reader.specs.declared.rows.Row.{Row}
 use Rattle.reader.specs.declared.rows.Row.the-variants as row
 use Rattle.reader.specs.declared.fill.Walk.{Walk}
-use Rattle.reader.specs.declared.tables.Entry.{Entry}
-use Rattle.reader.specs.declared.operands.Given.{Given}
 
 -- ---- the numbers of the opening words
 
@@ -182,20 +179,21 @@ module _ (r : Reading) (nl ns na : ℕ) (n t a : List ℕ) where
   simple-done s fs l d c g h =
       check-done _ _ _ _ (ltb (r .stmtCount) 4096) 6 _ (check-done _ _ _ _ (leb (length fs) 16) 7 _ (check-so _ _ _ _ (leb (d .1) 64) 8 _ λ b f.
       (let q = next-node s fs g in
-       let T = total (r .lines) in
-       let li = count (r .lines) in
-       let o = d .0 in
-       let k = stated l d c in
-       let x = simpleRec o li (holderOf T fs) (firstIndex fs + len s) (firstNode T fs + size s) in
-       let v : suc (firstNode T fs + size s) ≡ r .stmtCount + 1 = omega (arith, q .0) in
-       let y = entry-row (wordIndex (simpleWord o)) li (holderOf T fs) (firstIndex fs + len s) (suc (firstNode T fs + size s)) (length (argsOf o)) (detailOf o)
-             (word-number o) (sym (q .1)) v (sym (ap length (k .entries))) (sym (k .detail)) in
-       let i : firstIndex fs + len s + 1 ≡ firstIndex fs + suc (len s) = omega arith in
-       let e = entryOf (stateAt r (inStmts s fs)) (walkAt r (inStmts s fs)) (wordNumber o) (r .stmtCount + 1) (record { count = length (entriesIn l); detail = detailIn l }) in
-       (holds-as nl ns na n (appendRow t (r .stmtCount) e) (addEntries a (r .stmtCount) (entriesIn l)) refl (sym (simple-law (r .lines) li s fs o))
-         (holds-record nl ns na n t a _ (recsOf r (inStmts s fs)) x (r .stmtCount) e (entriesIn l) (q .2) y (sym (k .entries))
-           (let z = stated-short l d c (leb-true (d .1) 64 b) in omega (arith, ap length (k .entries))) (f .args) h),
-        ap {B = Walk} (λ (z : ℕ). record { holder = holderOf T fs; index = z }) i))))
+      let T = total (r .lines) in
+      let li = count (r .lines) in
+      let o = d .0 in
+      let k = stated l d c in
+      let x = simpleRec o li (holderOf T fs) (firstIndex fs + len s) (firstNode T fs + size s) in
+      let v : suc (firstNode T fs + size s) ≡ r .stmtCount + 1 = omega (arith, q .0) in
+      let y = entry-row (wordIndex (simpleWord o)) li (holderOf T fs) (firstIndex fs + len s) (suc (firstNode T fs + size s)) (length (argsOf o)) (detailOf o)
+      (word-number o) (sym (q .1)) v (sym (ap length (k .entries))) (sym (k .detail)) in
+      let i : firstIndex fs + len s + 1 ≡ firstIndex fs + suc (len s) = omega arith in
+      let e = entryOf (stateAt r (inStmts s fs)) (walkAt r (inStmts s fs)) (wordNumber o) (r .stmtCount + 1) (record { count = length (entriesIn l); detail = detailIn l }) in (
+        holds-as nl ns na n (appendRow t (r .stmtCount) e) (addEntries a (r .stmtCount) (entriesIn l)) refl (sym (simple-law (r .lines) li s fs o))
+            (holds-record nl ns na n t a _ (recsOf r (inStmts s fs)) x (r .stmtCount) e (entriesIn l) (q .2) y (sym (k .entries))
+            (let z = stated-short l d c (leb-true (d .1) 64 b) in omega (arith, ap length (k .entries))) (f .args) h),
+        ap {B = Walk} (λ (z : ℕ). record { holder = holderOf T fs; index = z }) i,
+      ))))
 
   cond-done : (s : Stmts) (fs : List OpenCond) (l : List ℕ) (k : CondWord) → Good r (inStmts s fs) → Tab (inStmts s fs)
       → Done (stateAt r (inStmts s fs)) (walkAt r (inStmts s fs)) l (row.Cond (condNumber k)) (readCond r s fs k)
@@ -203,15 +201,16 @@ module _ (r : Reading) (nl ns na : ℕ) (n t a : List ℕ) where
   cond-done s fs l k g h =
       check-done _ _ _ _ (ltb (r .stmtCount) 4096) 6 _ (check-done _ _ _ _ (leb (length fs) 16) 7 _ λ f.
       (let q = next-node s fs g in
-       let T = total (r .lines) in
-       let li = count (r .lines) in
-       let x = condRec k li (holderOf T fs) (firstIndex fs + len s) 0 0 absent absent in
-       let y = entry-row (wordIndex (condWord k)) li (holderOf T fs) (firstIndex fs + len s) 0 0 0 (cond-number k) (sym (q .1)) refl refl refl in
-       let i : r .stmtCount + 1 ≡ suc (firstNode T fs + size s) = omega (arith, q .0) in
-       let e = entryOf (stateAt r (inStmts s fs)) (walkAt r (inStmts s fs)) (condNumber k + 2) 0 (record { count = 0; detail = 0 }) in
-       (holds-as nl ns na n (appendRow t (r .stmtCount) e) a refl (sym (cond-law (r .lines) li s fs k))
-         (holds-bare nl ns na n t a _ (recsOf r (inStmts s fs)) x (r .stmtCount) e (q .2) y refl (f .args) h),
-        ap {B = Walk} (λ (z : ℕ). record { holder = z; index = 0 }) i)))
+      let T = total (r .lines) in
+      let li = count (r .lines) in
+      let x = condRec k li (holderOf T fs) (firstIndex fs + len s) 0 0 absent absent in
+      let y = entry-row (wordIndex (condWord k)) li (holderOf T fs) (firstIndex fs + len s) 0 0 0 (cond-number k) (sym (q .1)) refl refl refl in
+      let i : r .stmtCount + 1 ≡ suc (firstNode T fs + size s) = omega (arith, q .0) in
+      let e = entryOf (stateAt r (inStmts s fs)) (walkAt r (inStmts s fs)) (condNumber k + 2) 0 (record { count = 0; detail = 0 }) in (
+        holds-as nl ns na n (appendRow t (r .stmtCount) e) a refl (sym (cond-law (r .lines) li s fs k))
+            (holds-bare nl ns na n t a _ (recsOf r (inStmts s fs)) x (r .stmtCount) e (q .2) y refl (f .args) h),
+        ap {B = Walk} (λ (z : ℕ). record { holder = z; index = 0 }) i,
+      )))
 
   -- `)` after statements
   stmts-done : (s : Stmts) (fs : List OpenCond) (l : List ℕ) → Good r (inStmts s fs) → Tab (inStmts s fs)
@@ -228,12 +227,14 @@ module _ (r : Reading) (nl ns na : ℕ) (n t a : List ℕ) where
       let z : eqb (suc (length fs)) 0 ≡ false = ne-eqb (suc (length fs)) 0 (λ e. omega arith) in
       let b : j < length rs = omega (arith, q .0, q .2, under (o .first) T fs (o .before) (o .word)) in
       let e : branchStmts t (suc j - 1) (eqb (packed (o ∷ fs) % 2) 1) 1 0 (r .stmtCount) ≡ branchStmts t j (isSome (o .first)) 1 0 (r .stmtCount) =
-            ap (λ (m : ℕ). branchStmts t m (eqb (packed (o ∷ fs) % 2) 1) 1 0 (r .stmtCount)) i ∙ ap (λ (m : Bool). branchStmts t j m 1 0 (r .stmtCount)) (packed-first o fs) in
+      ap (λ (m : ℕ). branchStmts t m (eqb (packed (o ∷ fs) % 2) 1) 1 0 (r .stmtCount)) i ∙ ap (λ (m : Bool). branchStmts t j m 1 0 (r .stmtCount)) (packed-first o fs) in
       let w : record { holder = suc j; index = firstLen (o .first) + len s } ≡ walkAt (endStmts r s (o ∷ fs)) (endStmts r s (o ∷ fs) .position) =
-            ap {B = Walk} (λ (m : ℕ). record { holder = suc j; index = m }) (branch-index (o .first) BranchForm.stmts s) in
-      rw (z, e)
-      (holds-as nl ns na n (branchStmts t j (isSome (o .first)) 1 0 (r .stmtCount)) a refl (sym (branch-law (r .lines) li (o .before) fs (o .word) (o .first) BranchForm.stmts s (r .stmtCount) (q .0)))
-        (holds-branch nl ns na n a _ (o .first) rs t j 1 0 (r .stmtCount) b h), w)
+      ap {B = Walk} (λ (m : ℕ). record { holder = suc j; index = m }) (branch-index (o .first) BranchForm.stmts s) in
+      rw (z, e) (
+        holds-as nl ns na n (branchStmts t j (isSome (o .first)) 1 0 (r .stmtCount)) a refl (sym (branch-law (r .lines) li (o .before) fs (o .word) (o .first) BranchForm.stmts s (r .stmtCount) (q .0)))
+            (holds-branch nl ns na n a _ (o .first) rs t j 1 0 (r .stmtCount) b h),
+        w,
+      )
 
   -- facts of an open IF
   cond-node : (s : Stmts) (w : CondWord) (bs : Branches) (fs : List OpenCond) → Good r (inCond s w bs fs)
@@ -276,12 +277,13 @@ module _ (r : Reading) (nl ns na : ℕ) (n t a : List ℕ) where
       let j = firstNode T fs + size s in
       let q = cond-node s w bs fs g in
       let i : suc j - 1 ≡ j = omega arith in
-      let y = way-back T li s w bs fs in
-      (holds-as nl ns na n (set t ((suc j - 1) * 12 + 4) (r .stmtCount)) a refl (sym c)
-        (subst (λ (m : ℕ). Holds (numbersOf r (inCond s w bs fs)) (amend (recsOf r (inCond s w bs fs)) j (withEnd (r .stmtCount))) nl ns na n (set t (m * 12 + 4) (r .stmtCount)) a) (sym i)
-          (holds-end nl ns na n a (numbersOf r (inCond s w bs fs)) (recsOf r (inCond s w bs fs)) t j (r .stmtCount) (q .1) h)),
-       walk-is (ap (λ (m : ℕ). getD t (m * 12 + 2) 0) i ∙ cond-get s w bs fs g h 2 (omega arith) ∙ y .0)
-         (ap (λ (m : ℕ). getD t (m * 12 + 3) 0 + 1) i ∙ omega (arith, cond-get s w bs fs g h 3 (omega arith), y .1, lz)))
+      let y = way-back T li s w bs fs in (
+        holds-as nl ns na n (set t ((suc j - 1) * 12 + 4) (r .stmtCount)) a refl (sym c)
+            (subst (λ (m : ℕ). Holds (numbersOf r (inCond s w bs fs)) (amend (recsOf r (inCond s w bs fs)) j (withEnd (r .stmtCount))) nl ns na n (set t (m * 12 + 4) (r .stmtCount)) a) (sym i)
+            (holds-end nl ns na n a (numbersOf r (inCond s w bs fs)) (recsOf r (inCond s w bs fs)) t j (r .stmtCount) (q .1) h)),
+        walk-is (ap (λ (m : ℕ). getD t (m * 12 + 2) 0) i ∙ cond-get s w bs fs g h 2 (omega arith) ∙ y .0)
+            (ap (λ (m : ℕ). getD t (m * 12 + 3) 0 + 1) i ∙ omega (arith, cond-get s w bs fs g h 3 (omega arith), y .1, lz)),
+      )
 
   close-done : (s : Stmts) (w : CondWord) (bs : Branches) (fs : List OpenCond) (l : List ℕ) → Good r (inCond s w bs fs) → Tab (inCond s w bs fs)
       → Done (stateAt r (inCond s w bs fs)) (walkAt r (inCond s w bs fs)) l row.End (endCond r fs (condStmt s w bs))
@@ -302,9 +304,10 @@ module _ (r : Reading) (nl ns na : ℕ) (n t a : List ℕ) where
       → Done (stateAt r (inCond s w (branchesOf o) fs)) (walkAt r (inCond s w (branchesOf o) fs)) l row.Stmts (readStmts r s w fs (mayFollow o))
   unfolding Done readStmts walkAt goTo Tab recsOf numbersOf openNumbers holderOf firstIndex len
   into-done s w o fs l h f =
-      let i : branchesLen (branchesOf o) ≡ firstLen o + 0 = omega (arith, first-branch o .0) in
-      (holds-as nl ns na n t a refl (sym (stmts-law (r .lines) (count (r .lines)) s fs w o)) h,
-       ap {B = Walk} (λ (z : ℕ). record { holder = suc (firstNode (total (r .lines)) fs + size s); index = z }) i)
+      let i : branchesLen (branchesOf o) ≡ firstLen o + 0 = omega (arith, first-branch o .0) in (
+        holds-as nl ns na n t a refl (sym (stmts-law (r .lines) (count (r .lines)) s fs w o)) h,
+        ap {B = Walk} (λ (z : ℕ). record { holder = suc (firstNode (total (r .lines)) fs + size s); index = z }) i,
+      )
 
   to-done : (s : Stmts) (w : CondWord) (o : Option (BranchForm × Stmts)) (fs : List OpenCond) (l : List ℕ) (m : ℕ) → Good r (inCond s w (branchesOf o) fs) → Tab (inCond s w (branchesOf o) fs)
       → Done (stateAt r (inCond s w (branchesOf o) fs)) (walkAt r (inCond s w (branchesOf o) fs)) l (row.To m) (readTo r s w fs (mayFollow o) (parsed m))
@@ -318,13 +321,14 @@ module _ (r : Reading) (nl ns na : ℕ) (n t a : List ℕ) where
       let i : suc j - 1 ≡ j = omega arith in
       let rs = recsOf r (inCond s w (branchesOf o) fs) in
       let e : branchStmts t (suc j - 1) (eqb (branchCount (branchesOf o)) 1) 2 m (r .stmtCount) ≡ branchStmts t j (isSome o) 2 m (r .stmtCount) =
-            ap (λ (z : ℕ). branchStmts t z (eqb (branchCount (branchesOf o)) 1) 2 m (r .stmtCount)) i ∙ ap (λ (z : Bool). branchStmts t j z 2 m (r .stmtCount)) (y .1) in
-      let x : branchesLen (branchesOf o) ≡ branchesLen (branched o (BranchForm.to m, ∅)) = omega (arith, y .0, branch-index o (BranchForm.to m) ∅) in
-      (rw e (holds-as nl ns na n (branchStmts t j (isSome o) 2 m (r .stmtCount)) a refl
-        (ap (λ (z : List Rec). amend z j (withBranch o 2 m (r .stmtCount))) (sym (stmts-law (r .lines) li s fs w o))
-          ∙ sym (branch-law (r .lines) li s fs w o (BranchForm.to m) ∅ (r .stmtCount) (omega (arith, q .0, y .2, list-next o T fs s w))))
-        (holds-branch nl ns na n a _ o rs t j 2 m (r .stmtCount) (q .1) h)),
-       ap {B = Walk} (λ (z : ℕ). record { holder = suc j; index = z }) x)
+      ap (λ (z : ℕ). branchStmts t z (eqb (branchCount (branchesOf o)) 1) 2 m (r .stmtCount)) i ∙ ap (λ (z : Bool). branchStmts t j z 2 m (r .stmtCount)) (y .1) in
+      let x : branchesLen (branchesOf o) ≡ branchesLen (branched o (BranchForm.to m, ∅)) = omega (arith, y .0, branch-index o (BranchForm.to m) ∅) in (
+        rw e (holds-as nl ns na n (branchStmts t j (isSome o) 2 m (r .stmtCount)) a refl
+            (ap (λ (z : List Rec). amend z j (withBranch o 2 m (r .stmtCount))) (sym (stmts-law (r .lines) li s fs w o))
+            ∙ sym (branch-law (r .lines) li s fs w o (BranchForm.to m) ∅ (r .stmtCount) (omega (arith, q .0, y .2, list-next o T fs s w))))
+            (holds-branch nl ns na n a _ o rs t j 2 m (r .stmtCount) (q .1) h)),
+        ap {B = Walk} (λ (z : ℕ). record { holder = suc j; index = z }) x,
+      )
 
   begin-done : (l : List ℕ) (d : Content) → Tab begin → Done (stateAt r begin) (walkAt r begin) l (asRow d) (atBegin r d)
   unfolding atBegin Done walkAt Tab recsOf positionRecs numbersOf openNumbers
@@ -341,9 +345,11 @@ module _ (r : Reading) (nl ns na : ℕ) (n t a : List ℕ) where
   unfolding Done readLine stateAt walkAt Tab recsOf numbersOf openNumbers positionRecs openRecs listRecs stmtRecs holderOf firstIndex len openLines numberOf
   line-done l m g h =
       check-done _ _ _ _ (ascends m (r .last)) 4 _ (check-done _ _ _ _ (ltb (r .lineCount) 1024) 5 _ λ f.
-      (let q : r .lineCount ≡ length (numbersOf r inModule) = omega (arith, g .lineSum, numbers-length r inModule) in
-       (holds-as nl ns na (set n (r .lineCount) m) t a (append-assoc (lineNumbers (r .lines)) [] (m ∷ [])) refl
-         (holds-line nl ns na n t a (numbersOf r inModule) (recsOf r inModule) (r .lineCount) m q (f .lines) h), refl)))
+      (let q : r .lineCount ≡ length (numbersOf r inModule) = omega (arith, g .lineSum, numbers-length r inModule) in (
+        holds-as nl ns na (set n (r .lineCount) m) t a (append-assoc (lineNumbers (r .lines)) [] (m ∷ [])) refl
+            (holds-line nl ns na n t a (numbersOf r inModule) (recsOf r inModule) (r .lineCount) m q (f .lines) h),
+        refl,
+      )))
 
   module-done : (l : List ℕ) (d : Content) → Good r inModule → Tab inModule → Done (stateAt r inModule) (walkAt r inModule) l (asRow d) (atModule r d)
   unfolding atModule Done stateAt positionCode walkAt Tab recsOf positionRecs numbersOf openNumbers goTo orRefused
@@ -417,9 +423,9 @@ module _ (r : Reading) (nl ns na : ℕ) (n t a : List ℕ) where
 pub fill-law : (r q : Reading) (nl ns na : ℕ) (n t a l : List ℕ) → Good r (r .position) → Holds (numbersOf r (r .position)) (recsOf r (r .position)) nl ns na n t a
     → readRow r (r .position) (contentOf (rowOf l)) ≡ taken q → Fits nl ns na q
     → Holds (numbersOf q (q .position)) (recsOf q (q .position)) nl ns na
-      (lineTable n (stateAt r (r .position)) (asRow (contentOf (rowOf l))))
-      (stmtTable t (stateAt r (r .position)) (walkAt r (r .position)) l (asRow (contentOf (rowOf l))))
-      (argTable a (stateAt r (r .position)) l (asRow (contentOf (rowOf l))))
+    (lineTable n (stateAt r (r .position)) (asRow (contentOf (rowOf l))))
+    (stmtTable t (stateAt r (r .position)) (walkAt r (r .position)) l (asRow (contentOf (rowOf l))))
+    (argTable a (stateAt r (r .position)) l (asRow (contentOf (rowOf l))))
     × (walkBy t (stateAt r (r .position)) (walkAt r (r .position)) (asRow (contentOf (rowOf l))) ≡ walkAt q (q .position))
 unfolding Done Tab
 fill-law r q nl ns na n t a l g h e f =

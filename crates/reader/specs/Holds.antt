@@ -1,14 +1,14 @@
 -- Tables that hold line numbers and records, and what a store or an appended row makes of them. Assumes nothing.
 use mathlib.Core.Path.{_≡_, refl, sym, ap, _∙_, subst}
 use mathlib.Core.Bool.{Bool, true, false}
-use mathlib.Core.List.{List, [], _∷_, _++_, append-assoc, append-nil}
+use mathlib.Core.List.{List, [], _∷_, _++_}
 use mathlib.Core.Option.{Option, none, some}
 use Prim.Native.Nat.{ℕ, zero, suc, _+_, _*_, _-_, _≤_, _<_}
 use native.Mathlib.Omega.{arith}
-use lib.ListN.{length, take, drop, set, getD, replicate, length-append, take-append-drop}
+use lib.ListN.{length, take, drop, set, getD, replicate, take-append-drop}
 use Rattle.reader.specs.Listing.{BranchForm, Stmts}
-use Rattle.reader.specs.Every.{All, all[], all∷, all-append}
-use Rattle.reader.specs.Records.{Rec, padded, recRow, argRow, recRows, argRows, joined}
+use Rattle.reader.specs.Every.{all[], all∷, all-append}
+use Rattle.reader.specs.Records.{Rec, padded, recRow, argRow, recRows, argRows}
 use Rattle.reader.specs.ReadingRecords.{amend, amend-amend, amend-length, withEnd, withFirst, withSecond, withBranch}
 use Rattle.reader.specs.Tables.{Wide, rec-wide, padded-length, padded-append, padded-set, padded-row, joined-last, joined-amend, joined-length, joined-set, joined-get, entryRow, appendRow}
 use Rattle.reader.specs.Fill.{addEntries, branchStmts}
@@ -41,11 +41,11 @@ module _ (nl ns na : ℕ) (n t a : List ℕ) where
       record {
         lines = g .lines;
         stmts = ap (λ (z : List ℕ). take (j * 12) z ++ (entryRow e ++ drop (j * 12 + 12) z)) (g .stmts) ∙ padded-append ns (j * 12) l (entryRow e) m
-          ∙ ap (λ (z : List ℕ). padded ns (l ++ z)) (sym r) ∙ ap (padded ns) (sym (joined-last recRow rs x));
+            ∙ ap (λ (z : List ℕ). padded ns (l ++ z)) (sym r) ∙ ap (padded ns) (sym (joined-last recRow rs x));
         args = ap (λ (z : List ℕ). take (j * 64) z ++ (es ++ drop (j * 64 + length es) z)) (g .args) ∙ padded-append na (j * 64) (argRows rs) es k
-          ∙ padded-row na 64 (argRows rs) es s (omega (arith, k))
-          ∙ ap (λ (z : List ℕ). padded na (argRows rs ++ padded 64 z)) (sym y) ∙ ap (padded na) (sym (joined-last argRow rs x));
-        wide = all-append (g .wide) (all∷ (padded-length 64 (x .args) (omega (arith, ap length y))) all[])
+            ∙ padded-row na 64 (argRows rs) es s (omega (arith, k))
+            ∙ ap (λ (z : List ℕ). padded na (argRows rs ++ padded 64 z)) (sym y) ∙ ap (padded na) (sym (joined-last argRow rs x));
+        wide = all-append (g .wide) (all∷ (padded-length 64 (x .args) (omega (arith, ap length y))) all[]);
       }
 
   -- a record more that has no arguments
@@ -77,9 +77,9 @@ module _ (nl ns na : ℕ) (n a : List ℕ) (ms : List ℕ) where
       record {
         lines = q .lines;
         stmts = ap (λ (x : List ℕ). set x (i * 12 + c) v) (q .stmts) ∙ joined-set recRow 12 c v g e h (rec-wide rs) i b z
-          ∙ ap (λ (k : ℕ). recRows (amend rs i g) ++ replicate (ns - k) 0) (sym l);
+            ∙ ap (λ (k : ℕ). recRows (amend rs i g) ++ replicate (ns - k) 0) (sym l);
         args = q .args ∙ ap (padded na) (sym (joined-amend argRow g y rs i));
-        wide = wide-amend g y (q .wide) i
+        wide = wide-amend g y (q .wide) i;
       }
 
   pub holds-end : (rs : List Rec) (t : List ℕ) (i v : ℕ) → i < length rs → Holds ms rs nl ns na n t a → Holds ms (amend rs i (withEnd v)) nl ns na n (set t (i * 12 + 4) v) a
@@ -107,7 +107,7 @@ module _ (nl ns na : ℕ) (n a : List ℕ) (ms : List ℕ) where
   second-branch rs t i form number m b q =
       let b₁ : i < length (amend rs i (withG form)) = omega (arith, amend-length rs i (withG form)) in
       let h = holds-set (withM number) 9 number (λ r. refl) (λ r. refl) (omega arith) (amend rs i (withG form)) (set t (i * 12 + 8) form) i b₁
-            (holds-set (withG form) 8 form (λ r. refl) (λ r. refl) (omega arith) rs t i b q) in
+      (holds-set (withG form) 8 form (λ r. refl) (λ r. refl) (omega arith) rs t i b q) in
       subst (λ (x : List Rec). Holds ms x nl ns na n (branchStmts t i true form number m) a) (amend-amend rs i (withG form) (withM number)) h
 
   first-branch : (rs : List Rec) (t : List ℕ) (i form number m : ℕ) → i < length rs → Holds ms rs nl ns na n t a → Holds ms (amend rs i (withFirst form number m)) nl ns na n (branchStmts t i false form number m) a
@@ -118,8 +118,8 @@ module _ (nl ns na : ℕ) (n a : List ℕ) (ms : List ℕ) where
       let b₁ : i < length r₁ = omega (arith, amend-length rs i (withS m)) in
       let b₂ : i < length r₂ = omega (arith, amend-length r₁ i (withF form)) in
       let h = holds-set (withN number) 7 number (λ r. refl) (λ r. refl) (omega arith) r₂ (set (set t (i * 12 + 5) m) (i * 12 + 6) form) i b₂
-            (holds-set (withF form) 6 form (λ r. refl) (λ r. refl) (omega arith) r₁ (set t (i * 12 + 5) m) i b₁
-            (holds-set (withS m) 5 m (λ r. refl) (λ r. refl) (omega arith) rs t i b q)) in
+      (holds-set (withF form) 6 form (λ r. refl) (λ r. refl) (omega arith) r₁ (set t (i * 12 + 5) m) i b₁
+      (holds-set (withS m) 5 m (λ r. refl) (λ r. refl) (omega arith) rs t i b q)) in
       subst (λ (x : List Rec). Holds ms x nl ns na n (branchStmts t i false form number m) a)
       (ap (λ (x : List Rec). amend x i (withN number)) (amend-amend rs i (withS m) (withF form)) ∙ amend-amend rs i (λ r. withF form (withS m r)) (withN number)) h
 

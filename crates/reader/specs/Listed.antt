@@ -1,21 +1,18 @@
 -- What reading a listing answers and writes: the contract of the exported routine. Assumes nothing.
 use mathlib.Core.Path.{_≡_, refl, sym, ap, _∙_, subst}
 use mathlib.Core.Bool.{Bool, true, false}
-use mathlib.Core.List.{List, [], _∷_, _++_}
-use Prim.Native.Nat.{ℕ, zero, suc, _+_, _*_, _-_, _/_, _≤_, _<_}
+use mathlib.Core.List.{List, [], _∷_}
+use Prim.Native.Nat.{ℕ, _-_, _/_, _≤_, _<_}
 use native.Mathlib.Omega.{arith}
-use lib.Dec.{leb, ltb}
+use lib.Dec.{ltb}
 use lib.ListN.{length, replicate, length-replicate}
 use borrow.Author.Tests.{le-leb, lt-leb, ltb-true, ltb-false}
-use Rattle.reader.specs.Bytes.{pick}
-use Rattle.reader.specs.Listing.{Lines, Listing, total, count}
+use Rattle.reader.specs.Listing.{Listing, total, count}
 use Rattle.reader.specs.Read.{Answer, listing, refusal, read}
-use Rattle.reader.specs.ListingText.{InForm}
 use Rattle.reader.specs.RoundTrip.{accepted-in-form}
 use Rattle.reader.specs.Judge.{verdictOf, read-long}
-use Rattle.reader.specs.Records.{Rec, lineRecs, lineNumbers, recRows, argRows, handlerNumber, countsOf, padded, ReadAnswer, accepted, refused, fitted, answerOf, tableOf}
-use Rattle.reader.specs.Holds.{Holds}
-use Rattle.reader.specs.FillLoop.{Accepts, Zeroed, Filled}
+use Rattle.reader.specs.Records.{lineRecs, lineNumbers, recRows, argRows, handlerNumber, countsOf, padded, ReadAnswer, accepted, refused, fitted, answerOf, tableOf}
+use Rattle.reader.specs.FillLoop.{Zeroed, Filled}
 use Rattle.reader.specs.declared.listing.Listed.{Listed}
 use Rattle.reader.specs.declared.listing.Listed.the-variants as listed
 use Rattle.reader.specs.declared.judge.Verdict.{Verdict}
@@ -80,7 +77,7 @@ module _ (text counts lines stmts args : List ℕ) (h : Bool) (nl ns : ℕ) (j :
         counts = j .zeroCounts ∙ sym (ap (λ (z : ReadAnswer). tableOf countsOf z 5) a);
         lines = j .zeroLines ∙ sym (ap (λ (z : ReadAnswer). tableOf lineEntries z (length lines)) a);
         stmts = j .zeroStmts ∙ sym (ap (λ (z : ReadAnswer). tableOf stmtEntries z (length stmts)) a);
-        args = j .zeroArgs ∙ sym (ap (λ (z : ReadAnswer). tableOf argEntries z (length args)) a)
+        args = j .zeroArgs ∙ sym (ap (λ (z : ReadAnswer). tableOf argEntries z (length args)) a);
       }
 
   pub short-lines : length lines < nl → Written text (length lines) (length stmts) (length args) counts lines stmts args (listed.Refused 21 nl)
@@ -114,10 +111,16 @@ module _ (text counts lines stmts args : List ℕ) (h : Bool) (nl ns : ℕ) (j :
     judged-zeroed =
         record {
           accepts = record {
-            tree = j .tree; reads = j .reads; short = short text (j .tree) (j .reads);
-            lines = omega (arith, j .lineCount); stmts = omega (arith, j .stmtCount); args = omega (arith, j .stmtCount)
+            tree = j .tree;
+            reads = j .reads;
+            short = short text (j .tree) (j .reads);
+            lines = omega (arith, j .lineCount);
+            stmts = omega (arith, j .stmtCount);
+            args = omega (arith, j .stmtCount);
           };
-          lines = j .zeroLines; stmts = j .zeroStmts; args = j .zeroArgs
+          lines = j .zeroLines;
+          stmts = j .zeroStmts;
+          args = j .zeroArgs;
         }
 
     fits : answerOf (length lines) (length stmts) (length args) (read text) ≡ accepted (j .tree)
@@ -140,7 +143,7 @@ module _ (text counts lines stmts args : List ℕ) (h : Bool) (nl ns : ℕ) (j :
           counts = i ∙ counted x y z (j .tree) (p ∙ j .lineCount) (q ∙ j .stmtCount) (s ∙ ap handlerNumber (j .handlers)) ∙ sym (ap (λ (o : ReadAnswer). tableOf countsOf o 5) fits);
           lines = g .lines ∙ sym (ap (λ (o : ReadAnswer). tableOf lineEntries o (length lines)) fits);
           stmts = g .stmts ∙ sym (ap (λ (o : ReadAnswer). tableOf stmtEntries o (length stmts)) fits);
-          args = g .args ∙ sym (ap (λ (o : ReadAnswer). tableOf argEntries o (length args)) fits)
+          args = g .args ∙ sym (ap (λ (o : ReadAnswer). tableOf argEntries o (length args)) fits);
         }
       where
         answers : {v u : Bool} {a b c d : ℕ} → v ≡ u → a ≡ b → c ≡ d → listed.Accepted v a c ≡ listed.Accepted u b d
@@ -184,7 +187,7 @@ module _ (text c n t a : List ℕ) (nl ns na : ℕ) (zc : c ≡ 0 ∷ 0 ∷ 0 �
         counts = zc ∙ sym (ap (λ (z : ReadAnswer). tableOf countsOf z 5) q);
         lines = zn ∙ sym (ap (λ (z : ReadAnswer). tableOf lineEntries z nl) q);
         stmts = zt ∙ sym (ap (λ (z : ReadAnswer). tableOf stmtEntries z ns) q);
-        args = za ∙ sym (ap (λ (z : ReadAnswer). tableOf argEntries z na) q)
+        args = za ∙ sym (ap (λ (z : ReadAnswer). tableOf argEntries z na) q);
       }
 
   -- by the lengths of the zeroed tables

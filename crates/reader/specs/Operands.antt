@@ -2,23 +2,22 @@
 use mathlib.Core.Path.{_≡_, refl, sym, ap, _∙_, subst}
 use mathlib.Core.Bool.{Bool, true, false}
 use mathlib.Core.List.{List, [], _∷_, _++_, map, append-assoc, append-nil}
-use mathlib.Core.Option.{Option, none, some}
-use Prim.Native.Nat.{ℕ, zero, suc, _+_, _*_, _-_, _≤_, _<_}
-use native.Mathlib.Nat.{not-suc-le-zero, le-of-suc-le-suc}
+use mathlib.Core.Option.{none, some}
+use Prim.Native.Nat.{ℕ, suc, _+_, _*_, _-_, _≤_, _<_}
+use native.Mathlib.Nat.{not-suc-le-zero}
 use native.Mathlib.Numerals.{add-one}
 use native.Mathlib.Omega.{arith}
 use lib.Dec.{eqb}
 use lib.ListN.{length, take, drop, set, length-append, length-set, length-map, length-drop, take-append-drop}
-use lib.Seq.{take-suc-set, drop-set-lt, drop-drop, take-at, drop-at, take-all}
-use borrow.Author.Tests.{eq-eqb, ne-eqb}
+use lib.Seq.{take-suc-set, drop-set-lt, drop-drop, take-at}
+use borrow.Author.Tests.{ne-eqb}
 use Rattle.reader.specs.Bytes.{bytes, same, pick, decimal}
 use Rattle.reader.specs.Listing.{Name, Tier, static, framed, dispatched, Mark, orphan, Slot, Simple, goto, gosub, return, run, runto, ongoto, ongosub, for, next, repeat, loop, until, endloop, exit, exitif, doif, else, done, clr, stop, any}
-use Rattle.reader.specs.Rows.{split, all, Parse, malformed, invalid, parsed, parseNumber, parseName, isName, isCapital, Form, openingWords, contentOf, rowOf, simpleRow, Counted}
+use Rattle.reader.specs.Rows.{split, all, Parse, malformed, invalid, parsed, parseNumber, parseName, isName, isCapital, openingWords, contentOf, rowOf, simpleRow, Counted}
 use Rattle.reader.specs.ListingText.{spacedWords, closedForm, simpleWord, simpleArgs, simpleText, tierWord, markWord, slotWord, listed, SimpleOk, NumbersOk, SlotsOk}
 use Rattle.reader.specs.WordTable.{words, forms, first, wordIndex, kind, kindOf, kindAt}
-use Rattle.reader.specs.Every.{All, all[], all∷}
 use Rattle.reader.specs.NumberText.{number-text}
-use Rattle.reader.specs.WordText.{inWord, isToken, areTokens, lacks, token-lacks, tokens-lack, decimal-token, decimals-tokens, name-token, name-text, slots-tokens, tier-token, mark-token}
+use Rattle.reader.specs.WordText.{inWord, isToken, areTokens, token-lacks, tokens-lack, decimal-token, decimals-tokens, name-token, name-text, slots-tokens, tier-token, mark-token}
 use Rattle.reader.specs.RowForms.{join, split-join, join-split}
 use Rattle.reader.specs.RowText.{row-simple}
 use Rattle.reader.specs.NumberText.{both-true}
@@ -132,18 +131,18 @@ module _ (f : List ℕ → ℕ) (s t₀ t : List ℕ) (at n : ℕ) (w : List ℕ
       let q : map f (split 32 (drop at s)) ≡ f w ∷ map f (split 32 (drop at′ s)) = ap (map f) e in
       record {
         wrote = ap (λ (k : ℕ). take k (set t n (f w)) ++ map f (split 32 (drop at′ s))) (add-one n)
-          ∙ ap (λ (l : List ℕ). l ++ map f (split 32 (drop at′ s))) (take-suc-set t n (f w) h)
-          ∙ append-assoc (take n t) (f w ∷ []) (map f (split 32 (drop at′ s))) ∙ ap (λ (l : List ℕ). take n t ++ l) (sym q) ∙ g .wrote;
+            ∙ ap (λ (l : List ℕ). l ++ map f (split 32 (drop at′ s))) (take-suc-set t n (f w) h)
+            ∙ append-assoc (take n t) (f w ∷ []) (map f (split 32 (drop at′ s))) ∙ ap (λ (l : List ℕ). take n t ++ l) (sym q) ∙ g .wrote;
         left = drop-set-lt (n + 1) t n (f w) (omega arith) ∙ sym (drop-drop 1 n t) ∙ ap (drop 1) (g .left) ∙ drop-drop 1 n t₀;
         long = length-set t n (f w) ∙ g .long;
-        sum = omega (arith, ap length e, g .sum)
+        sum = omega (arith, ap length e, g .sum);
       }
 
   filling-end : n < length t → split 32 (drop at s) ≡ w ∷ [] → (n + 1 ≡ length (split 32 s)) × (set t n (f w) ≡ map f (split 32 s) ++ drop (length (split 32 s)) t₀)
   filling-end h e =
       let m : n + 1 ≡ length (split 32 s) = omega (arith, ap length e, g .sum) in
       let a : take (n + 1) (set t n (f w)) ≡ map f (split 32 s) =
-            ap (λ (k : ℕ). take k (set t n (f w))) (add-one n) ∙ take-suc-set t n (f w) h ∙ ap (λ (l : List (List ℕ)). take n t ++ map f l) (sym e) ∙ g .wrote in
+      ap (λ (k : ℕ). take k (set t n (f w))) (add-one n) ∙ take-suc-set t n (f w) h ∙ ap (λ (l : List (List ℕ)). take n t ++ map f l) (sym e) ∙ g .wrote in
       let b : drop (n + 1) (set t n (f w)) ≡ drop (n + 1) t₀ = drop-set-lt (n + 1) t n (f w) (omega arith) ∙ sym (drop-drop 1 n t) ∙ ap (drop 1) (g .left) ∙ drop-drop 1 n t₀ in
       (m, sym (take-append-drop (n + 1) (set t n (f w))) ∙ ap (λ (l : List ℕ). l ++ drop (n + 1) (set t n (f w))) a ∙ ap (λ (l : List ℕ). map f (split 32 s) ++ l) b ∙ ap (λ (k : ℕ). map f (split 32 s) ++ drop k t₀) m)
 
@@ -442,8 +441,8 @@ stated row d e =
     let t = simple-tokens o (q .1) in
     let p = both-true (isToken (simpleWord o)) (areTokens (simpleArgs o)) t in
     let s : split 32 (inside row) ≡ simpleWord o ∷ simpleArgs o =
-          ap (λ (l : List ℕ). split 32 (inside l)) (q .0) ∙ ap (split 32) (inside-closed (simpleWord o) (simpleArgs o) ∙ sym (join-words (simpleWord o) (simpleArgs o)))
-          ∙ split-join 32 (simpleWord o) (simpleArgs o) (token-lacks 32 refl (simpleWord o) (p .0)) (tokens-lack 32 refl (simpleArgs o) (p .1)) in
+    ap (λ (l : List ℕ). split 32 (inside l)) (q .0) ∙ ap (split 32) (inside-closed (simpleWord o) (simpleArgs o) ∙ sym (join-words (simpleWord o) (simpleArgs o)))
+    ∙ split-join 32 (simpleWord o) (simpleArgs o) (token-lacks 32 refl (simpleWord o) (p .0)) (tokens-lack 32 refl (simpleArgs o) (p .1)) in
     record { long = closed-long (simpleWord o) (simpleArgs o) row (q .0); entries = ap rowEntries s ∙ simple-entries o (q .1); detail = ap rowDetail s ∙ simple-detail o }
 
 -- "8 a 65th number or slot": what is accepted has room

@@ -1,7 +1,7 @@
 -- Reading back what was read: the answer's listing, and what each entry of the tables is. Assumes nothing.
 use mathlib.Core.Path.{_≡_, refl, sym, ap, _∙_, subst}
 use mathlib.Core.Bool.{Bool, true, false}
-use mathlib.Core.List.{List, [], _∷_, _++_}
+use mathlib.Core.List.{List, [], _∷_}
 use Prim.Native.Nat.{ℕ, suc, _+_, _*_, _-_, _/_, _<_}
 use native.Mathlib.Omega.{arith}
 use lib.Dec.{leb}
@@ -12,14 +12,13 @@ use Rattle.reader.specs.Rows.{isName}
 use Rattle.reader.specs.Read.{Answer, listing, refusal, read}
 use Rattle.reader.specs.ListingText.{StmtsOk, LinesOk, InForm}
 use Rattle.reader.specs.RoundTrip.{accepted-in-form}
-use Rattle.reader.specs.Every.{All, all[], all∷, all-append}
-use Rattle.reader.specs.Names.{encode, key-injective, key-not-zero}
-use Rattle.reader.specs.Records.{Rec, nameKey, simpleRec, condRec, stmtRecs, lineRecs, lineNumbers, recRow, argRow, argRows, padded, ReadAnswer, accepted, refused, fitted, answerOf, tableOf}
+use Rattle.reader.specs.Every.{all[], all∷, all-append}
+use Rattle.reader.specs.Names.{key-injective, key-not-zero}
+use Rattle.reader.specs.Records.{Rec, nameKey, simpleRec, condRec, stmtRecs, lineRecs, lineNumbers, argRow, argRows, padded, ReadAnswer, accepted, refused, fitted, answerOf, tableOf}
 use Rattle.reader.specs.Operands.{args-short, encode-key}
 use Rattle.reader.specs.Tables.{Wide, padded-length, joined-get}
-use Rattle.reader.specs.Holds.{Holds, holds-get}
+use Rattle.reader.specs.Holds.{Holds}
 use Rattle.reader.specs.Listed.{listedOf, lineEntries, stmtEntries, argEntries, Written}
-use Rattle.reader.specs.declared.listing.Listed.{Listed}
 use Rattle.reader.specs.declared.listing.Listed.the-variants as listed
 
 -- ---- the rows of arguments
@@ -81,13 +80,18 @@ module _ (text : List ℕ) (nl ns na : ℕ) (c l t a : List ℕ) where
       let e = was-listing (read text) L (q .1) in
       let f = accepted-in-form text L e .0 in
       record {
-        tree = L; reads = e; in-form = f; handlers = q .2; line-count = q .3; stmt-count = q .4;
+        tree = L;
+        reads = e;
+        in-form = f;
+        handlers = q .2;
+        line-count = q .3;
+        stmt-count = q .4;
         tables = record {
           lines = w .lines ∙ ap (λ (z : ReadAnswer). tableOf lineEntries z nl) (q .1);
           stmts = w .stmts ∙ ap (λ (z : ReadAnswer). tableOf stmtEntries z ns) (q .1);
           args = w .args ∙ ap (λ (z : ReadAnswer). tableOf argEntries z na) (q .1);
-          wide = lines-wide (L .lines) (f .lines)
-        }
+          wide = lines-wide (L .lines) (f .lines);
+        };
       }
 
   pub written-refused : (n p : ℕ) → Written text nl ns na c l t a (listed.Refused n p) → answerOf nl ns na (read text) ≡ refused n p

@@ -1,13 +1,13 @@
 -- Tables with a stride: rows one after the other and zeros after them. Storing, appending and reading back, stated once for every table. Assumes nothing.
-use mathlib.Core.Path.{_≡_, refl, sym, ap, _∙_, subst}
+use mathlib.Core.Path.{_≡_, refl, sym, ap, _∙_}
 use mathlib.Core.List.{List, [], _∷_, _++_, append-assoc, append-nil}
 use Prim.Native.Nat.{ℕ, zero, suc, _+_, _*_, _-_, _≤_, _<_}
 use native.Mathlib.Nat.{not-suc-le-zero, le-of-suc-le-suc}
 use native.Mathlib.Omega.{arith}
-use lib.ListN.{length, take, drop, set, getD, replicate, length-append, length-replicate, length-drop, drop-of-length-le, List·getD-append, replicate-append-replicate, getD-replicate}
-use lib.Seq.{set-append-left, set-append-seam, take-append-seam, drop-append-add, drop-cons, drop-drop, take-all, getD-append-add}
-use Rattle.reader.specs.Every.{All, all[], all∷, all-append}
-use Rattle.reader.specs.Records.{Rec, padded, joined, recRow, argRow}
+use lib.ListN.{length, take, drop, set, getD, replicate, length-append, length-replicate, drop-of-length-le, List·getD-append, replicate-append-replicate}
+use lib.Seq.{set-append-left, set-append-seam, take-append-seam, drop-append-add, drop-drop, take-all, getD-append-add}
+use Rattle.reader.specs.Every.{All, all[], all∷}
+use Rattle.reader.specs.Records.{Rec, padded, joined, recRow}
 use Rattle.reader.specs.ReadingRecords.{amend}
 use Rattle.reader.specs.declared.tables.Entry.{Entry}
 

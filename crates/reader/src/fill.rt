@@ -1,22 +1,17 @@
 // Writes the records of a text that is accepted: row by row, into zeroed tables that can hold them.
-use super::machine::start_state;
-use super::machine::step_row;
-use super::machine::State;
-use super::machine::Step;
 use super::machine::IN_COND;
 use super::machine::IN_STMTS;
-use super::operands::put_operands;
+use super::machine::State;
+use super::machine::Step;
+use super::machine::start_state;
+use super::machine::step_row;
 use super::operands::Given;
-use super::rows::row_of;
+use super::operands::put_operands;
 use super::rows::Row;
+use super::rows::row_of;
 use super::scan::find;
-use super::tables::append;
-use super::tables::fetch;
-use super::tables::narrow;
-use super::tables::store;
-use super::tables::wide;
-use super::tables::Entry;
 use super::tables::END;
+use super::tables::Entry;
 use super::tables::FORM1;
 use super::tables::FORM2;
 use super::tables::HOLDER;
@@ -24,6 +19,11 @@ use super::tables::INDEX;
 use super::tables::NUMBER1;
 use super::tables::NUMBER2;
 use super::tables::SECOND;
+use super::tables::append;
+use super::tables::fetch;
+use super::tables::narrow;
+use super::tables::store;
+use super::tables::wide;
 ghost use mathlib.Core.Path.{_≡_};
 ghost use mathlib.Core.Bool.{Bool};
 ghost use mathlib.Core.List.{List};
@@ -41,6 +41,7 @@ pub(crate) struct Walk {
 
 // A branch's form in a record.
 const STMTS_BRANCH: u16 = 1;
+
 const TO_BRANCH: u16 = 2;
 
 const STRIDE: usize = 64;
@@ -86,7 +87,14 @@ fn end_row(t: &mut [u16], s: State, w: Walk) -> Walk
                 index: 0,
             };
         }
-        end_branch(t, node_of(w.holder), s.open_conds % 2 == 1, STMTS_BRANCH, 0, s.stmts);
+        end_branch(
+            t,
+            node_of(w.holder),
+            s.open_conds % 2 == 1,
+            STMTS_BRANCH,
+            0,
+            s.stmts,
+        );
         return w;
     }
     if s.position == IN_COND {
@@ -139,7 +147,14 @@ fn entry_of(s: State, w: Walk, word: usize, end: usize, g: Given) -> Entry
     }
 }
 
-fn add_simple(row: &[u8], stmts: &mut [u16], args: &mut [u64], s: State, w: Walk, word: usize) -> Walk
+fn add_simple(
+    row: &[u8],
+    stmts: &mut [u16],
+    args: &mut [u64],
+    s: State,
+    w: Walk,
+    word: usize,
+) -> Walk
     requires { ⌜ AddReady (now stmts) s w word × RowReady (now row) (now args) (s .stmts) ⌝ }
     ensures { λ r. ⌜ Added (now (stmts .entry)) (now (args .entry)) s w (now (row .entry)) word (now (stmts .exit)) (now (args .exit)) r ⌝ }
 {
@@ -179,7 +194,15 @@ fn add_line(lines: &mut [u16], at: usize, n: u16) -> Walk
 }
 
 // What a row that is taken appends or amends.
-fn write_row(text: &[u8], lines: &mut [u16], stmts: &mut [u16], args: &mut [u64], s: State, w: Walk, row: Row) -> Walk
+fn write_row(
+    text: &[u8],
+    lines: &mut [u16],
+    stmts: &mut [u16],
+    args: &mut [u64],
+    s: State,
+    w: Walk,
+    row: Row,
+) -> Walk
     requires { ⌜ Ready (now lines) (now stmts) (now args) s w (now text) row ⌝ }
     ensures { λ r. ⌜ Wrote (now (lines .entry)) (now (stmts .entry)) (now (args .entry)) s w (now (text .entry)) row (now (lines .exit)) (now (stmts .exit)) (now (args .exit)) r ⌝ }
 {

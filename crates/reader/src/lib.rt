@@ -1,13 +1,13 @@
 // The reader: a text in bracket form to the records of its listing.
 mod arguments;
+mod fill;
 pub mod judge;
+pub mod listing;
 mod machine;
 pub mod names;
 pub mod numbers;
+pub mod operands;
 pub mod rows;
 mod scan;
-pub mod words;
 pub mod tables;
-pub mod operands;
-mod fill;
-pub mod listing;
+pub mod words;

@@ -1,7 +1,7 @@
 // Reads a listing: judges the whole text, then, where the tables can hold it, writes its records.
 use super::fill::fill;
-use super::judge::judge;
 use super::judge::Verdict;
+use super::judge::judge;
 use super::tables::narrow32;
 use super::tables::put_counts;
 use super::tables::zero16;
@@ -16,12 +16,20 @@ ghost use Rattle.reader.specs.Listed.{Judged, Written};
 
 // handlers: whether ON KEY, ON ERROR or RESUME occurs; how many lines and statements. Or document 01's number and place.
 pub enum Listed {
-    Accepted { handlers: bool, lines: usize, stmts: usize },
-    Refused { number: u8, place: usize },
+    Accepted {
+        handlers: bool,
+        lines: usize,
+        stmts: usize,
+    },
+    Refused {
+        number: u8,
+        place: usize,
+    },
 }
 
 // Entries of a statement in the statement table and in the argument table.
 const STMT_ENTRIES: usize = 12;
+
 const ARG_ENTRIES: usize = 64;
 
 fn handler_number(handlers: bool) -> u32
@@ -34,7 +42,16 @@ fn handler_number(handlers: bool) -> u32
 }
 
 // An accepted text with so many lines and statements, into zeroed tables.
-fn write_listing(text: &[u8], counts: &mut [u32; 5], lines: &mut [u16], stmts: &mut [u16], args: &mut [u64], handlers: bool, nl: usize, ns: usize) -> Listed
+fn write_listing(
+    text: &[u8],
+    counts: &mut [u32; 5],
+    lines: &mut [u16],
+    stmts: &mut [u16],
+    args: &mut [u64],
+    handlers: bool,
+    nl: usize,
+    ns: usize,
+) -> Listed
     requires { ⌜ Judged (now text) (now counts) (now lines) (now stmts) (now args) handlers nl ns ⌝ }
     ensures { λ r. ⌜ Written (now (text .entry)) (length (now (lines .entry))) (length (now (stmts .entry))) (length (now (args .entry))) (now (counts .exit)) (now (lines .exit)) (now (stmts .exit)) (now (args .exit)) r ⌝ }
 {
@@ -66,7 +83,13 @@ fn write_listing(text: &[u8], counts: &mut [u32; 5], lines: &mut [u16], stmts: &
 }
 
 // counts: lines, statements, handlers. lines: a number each. stmts: 12 entries a statement, args: 64. A refused text leaves every entry zero.
-pub fn read_listing(text: &[u8], counts: &mut [u32; 5], lines: &mut [u16], stmts: &mut [u16], args: &mut [u64]) -> Listed
+pub fn read_listing(
+    text: &[u8],
+    counts: &mut [u32; 5],
+    lines: &mut [u16],
+    stmts: &mut [u16],
+    args: &mut [u64],
+) -> Listed
     ensures { λ r. ⌜ Written (now (text .entry)) (length (now (lines .entry))) (length (now (stmts .entry))) (length (now (args .entry))) (now (counts .exit)) (now (lines .exit)) (now (stmts .exit)) (now (args .exit)) r ⌝ }
 {
     put_counts(counts, 0, 0, 0);
@@ -75,6 +98,10 @@ pub fn read_listing(text: &[u8], counts: &mut [u32; 5], lines: &mut [u16], stmts
     zero64(args);
     match judge(text) {
         Verdict::Refused { number, place } => Listed::Refused { number, place },
-        Verdict::Accepted { handlers, lines: nl, stmts: ns } => write_listing(text, counts, lines, stmts, args, handlers, nl, ns),
+        Verdict::Accepted {
+            handlers,
+            lines: nl,
+            stmts: ns,
+        } => write_listing(text, counts, lines, stmts, args, handlers, nl, ns),
     }
 }

@@ -7,17 +7,16 @@ ghost use lib.ListN.{length, take, drop};
 ghost use Rattle.reader.specs.Rows.{split, parseNumber, parseName};
 ghost use Rattle.reader.specs.RowForms.{join};
 ghost use Rattle.reader.specs.Operands.{numberEntry, keyEntry, numberAnswer, keyAnswer, entryBy, tierEntry, markEntry, headMark, rowEntries, rowDetail, Put};
-
-use super::names::key_of;
 use super::names::NameKey;
-use super::numbers::number;
+use super::names::key_of;
 use super::numbers::ParsedNumber;
+use super::numbers::number;
 use super::scan::equal;
 use super::scan::find;
-use super::words::kind_of;
-use super::words::word_of;
 use super::words::FOR;
 use super::words::NEXT;
+use super::words::kind_of;
+use super::words::word_of;
 
 // How many arguments a statement has, and FOR's tier or NEXT's mark.
 pub struct Given {

@@ -7,16 +7,27 @@ ghost use Rattle.reader.specs.Tables.{entryRow, appendRow};
 
 // The entries of a statement's record.
 pub const WORD: usize = 0;
+
 pub const LINE: usize = 1;
+
 pub const HOLDER: usize = 2;
+
 pub const INDEX: usize = 3;
+
 pub const END: usize = 4;
+
 pub const SECOND: usize = 5;
+
 pub const FORM1: usize = 6;
+
 pub const NUMBER1: usize = 7;
+
 pub const FORM2: usize = 8;
+
 pub const NUMBER2: usize = 9;
+
 pub const COUNT: usize = 10;
+
 pub const DETAIL: usize = 11;
 
 // What is known of a statement when its row is read; the entries between end and count are its branches, not read yet.
