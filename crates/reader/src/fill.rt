@@ -25,8 +25,6 @@ use super::tables::narrow;
 use super::tables::store;
 use super::tables::wide;
 ghost use mathlib.Core.Path.{_≡_};
-ghost use mathlib.Core.Bool.{Bool};
-ghost use mathlib.Core.List.{List};
 ghost use Prim.Native.Nat.{_+_, _*_, _-_, _≤_, _<_};
 ghost use lib.ListN.{length, set};
 ghost use lib.Dec.{eqb};

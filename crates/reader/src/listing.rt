@@ -7,10 +7,7 @@ use super::tables::put_counts;
 use super::tables::zero16;
 use super::tables::zero64;
 ghost use mathlib.Core.Path.{_≡_};
-ghost use mathlib.Core.Bool.{Bool};
-ghost use mathlib.Core.List.{List, [], _∷_};
-ghost use Prim.Native.Nat.{_/_, _≤_, _<_};
-ghost use lib.ListN.{length, replicate};
+ghost use lib.ListN.{length};
 ghost use Rattle.reader.specs.Records.{handlerNumber};
 ghost use Rattle.reader.specs.Listed.{Judged, Written};
 
