@@ -1,18 +1,13 @@
 -- What a row does to the tables and to the walk, and that the tables hold the records. Assumes nothing.
-use mathlib.Core.Path.{_≡_, refl, sym, ap, _∙_, subst}
+use mathlib.Core.Path.{_≡_, sym, ap, _∙_, subst}
 use mathlib.Core.Bool.{Bool, true, false}
-use mathlib.Core.List.{List, [], _∷_, _++_, append-assoc, append-nil}
-use mathlib.Core.Option.{Option, none, some}
-use Prim.Native.Nat.{ℕ, zero, suc, _+_, _*_, _-_, _/_, _%_, _≤_, _<_}
-use native.Mathlib.Nat.{not-suc-le-zero, le-of-suc-le-suc}
-use native.Mathlib.Numerals.{add-one}
-use native.Mathlib.Omega.{arith}
-use lib.Dec.{eqb, leb, ltb}
-use lib.ListN.{length, take, drop, set, getD, length-append, length-set}
-use borrow.Author.Tests.{eq-eqb, ne-eqb}
+use mathlib.Core.List.{List, _++_}
+use Prim.Native.Nat.{ℕ, _+_, _*_, _-_, _%_, _≤_, _<_}
+use lib.Dec.{eqb}
+use lib.ListN.{length, take, drop, set, getD}
 use Rattle.reader.specs.Bytes.{pick}
 use Rattle.reader.specs.Rows.{split}
-use Rattle.reader.specs.Tables.{entryRow, appendRow}
+use Rattle.reader.specs.Tables.{appendRow}
 use Rattle.reader.specs.Operands.{rowEntries, rowDetail, inside}
 use Rattle.reader.specs.declared.machine.State.{State}
 use Rattle.reader.specs.declared.rows.Row.{Row}

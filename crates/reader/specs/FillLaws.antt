@@ -3,34 +3,31 @@ use mathlib.Core.Path.{_≡_, refl, sym, ap, _∙_, subst}
 use mathlib.Core.Bool.{Bool, true, false}
 use mathlib.Core.List.{List, [], _∷_, _++_, append-assoc, append-nil}
 use mathlib.Core.Option.{Option, none, some}
-use Prim.Native.Nat.{ℕ, zero, suc, _+_, _*_, _-_, _/_, _%_, _≤_, _<_}
-use native.Mathlib.Numerals.{add-one}
+use Prim.Native.Nat.{ℕ, suc, _+_, _*_, _-_, _%_, _≤_, _<_}
 use native.Mathlib.Omega.{arith}
 use lib.Dec.{eqb, leb, ltb}
-use lib.ListN.{length, take, drop, set, getD, length-append}
+use lib.ListN.{length, set, getD}
 use lib.Seq.{getD-append-seam}
 use borrow.Author.Tests.{eq-eqb, ne-eqb, leb-true}
-use Rattle.reader.specs.Bytes.{pick, bytes, same}
-use Rattle.reader.specs.Listing.{Simple, goto, gosub, return, run, runto, ongoto, ongosub, for, next, repeat, loop, until, endloop, exit, exitif, doif, else, done, clr, stop, any, CondWord, if, ifelse, rcomp, BranchForm, to, stmts, absent, Stmts, ∅, _▸_, branching, Lines, nolines, line, size, len, total, count}
-use Rattle.reader.specs.Rows.{Parse, malformed, invalid, parsed, Counted, Content, noForm, endRow, stmtsRow, moduleRow, lineRow, toRow, simpleRow, condRow, contentOf, rowOf, openingWords}
+use Rattle.reader.specs.Bytes.{bytes, same}
+use Rattle.reader.specs.Listing.{Simple, goto, gosub, return, run, runto, ongoto, ongosub, for, next, repeat, loop, until, endloop, exit, exitif, doif, else, done, clr, stop, any, CondWord, if, ifelse, rcomp, BranchForm, to, stmts, absent, Stmts, ∅, size, len, total, count}
+use Rattle.reader.specs.Rows.{malformed, invalid, parsed, Counted, Content, noForm, endRow, stmtsRow, moduleRow, lineRow, toRow, simpleRow, condRow, contentOf, rowOf, openingWords}
 use Rattle.reader.specs.Read.{OpenCond, Branches, noBranch, oneBranch, twoBranches, Position, begin, inModule, ended, inStmts, inCond, Reading, Outcome, taken, refused, goTo, oneMore, orRefused, check, ascends, atBegin, readLine, atModule, readSimple, readCond, numberOf, branched, endStmts, atStmts, NextBranch, noMore, mayFollow, nextBranch, condStmt, endCond, readTo, readStmts, atCond, readRow}
 use Rattle.reader.specs.ListingText.{simpleWord, condWord}
 use Rattle.reader.specs.WordTable.{words, first, wordIndex}
-use Rattle.reader.specs.Shown.{firstSize, branchesSize, openSize, positionSize, openLines, Good}
+use Rattle.reader.specs.Shown.{firstSize, branchesSize, positionSize, openLines, Good}
 use Rattle.reader.specs.CodedRows.{wordNumber, condNumber, asRow}
-use Rattle.reader.specs.Machine.{firstCode, condCode, packed, branchCount, positionCode, openConds, wordCode, branchCode, lastCode, stateAt}
-use Rattle.reader.specs.Records.{Rec, recRow, branchNumber, branchLine, simpleRec, condRec, lineRecs, stmtRecs, lineNumbers, argsOf, detailOf}
+use Rattle.reader.specs.Machine.{firstCode, condCode, packed, branchCount, positionCode, openConds, branchCode, stateAt}
+use Rattle.reader.specs.Records.{Rec, recRow, branchNumber, branchLine, simpleRec, condRec, stmtRecs, lineNumbers, argsOf, detailOf}
 use Rattle.reader.specs.ReadingRecords.{firstNode, holderOf, firstLen, firstIndex, branchesOf, partialRec, openRec, branchRecs, listRecs, openRecs, positionRecs, recsOf, openNumbers, numbersOf, amend, withEnd, withBranch, first-node, recs-length, numbers-length, before, before-length, cond-split, simple-law, cond-law, stmts-law, branch-law, end-law₁, end-law₂, line-law}
-use Rattle.reader.specs.Operands.{Stated, stated, stated-short}
-use Rattle.reader.specs.Fill.{entryOf, branchStmts, endTable, endWalk, outsideWalk, insideWalk, addedWalk, addSimple, addCond, addEntries, entriesIn, detailIn, stmtTable, argTable, lineTable, walkBy, walk-is}
-use Rattle.reader.specs.Tables.{entryRow, appendRow}
+use Rattle.reader.specs.Operands.{stated, stated-short}
+use Rattle.reader.specs.Fill.{entryOf, branchStmts, outsideWalk, addEntries, entriesIn, detailIn, stmtTable, argTable, lineTable, walkBy, walk-is}
+use Rattle.reader.specs.Tables.{appendRow}
 use Rattle.reader.specs.Holds.{Holds, holds-as, holds-line, holds-record, holds-bare, holds-end, isSome, holds-branch, holds-get}
 use Rattle.reader.specs.declared.machine.State.{State}
 use Rattle.reader.specs.declared.rows.Row.{Row}
 use Rattle.reader.specs.declared.rows.Row.the-variants as row
 use Rattle.reader.specs.declared.fill.Walk.{Walk}
-use Rattle.reader.specs.declared.tables.Entry.{Entry}
-use Rattle.reader.specs.declared.operands.Given.{Given}
 
 -- ---- the numbers of the opening words
 

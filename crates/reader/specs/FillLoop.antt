@@ -1,30 +1,27 @@
 -- The loop that writes: room for all that is still to come, the invariant, and what it gives. Assumes nothing.
 use mathlib.Core.Path.{_≡_, refl, sym, ap, _∙_, subst}
 use mathlib.Core.Bool.{Bool, true, false}
-use mathlib.Core.List.{List, [], _∷_, _++_, append-nil}
+use mathlib.Core.List.{List, [], _∷_, append-nil}
 use mathlib.Core.Option.{Option, none, some}
-use Prim.Native.Nat.{ℕ, zero, suc, _+_, _*_, _-_, _≤_, _<_}
+use Prim.Native.Nat.{ℕ, suc, _+_, _*_, _-_, _≤_, _<_}
 use native.Mathlib.Nat.{not-suc-le-zero}
 use native.Mathlib.Omega.{arith}
 use lib.Dec.{leb, ltb}
 use lib.ListN.{length, take, drop, replicate}
-use borrow.Author.Tests.{le-leb}
-use Rattle.reader.specs.Listing.{CondWord, Stmts, Lines, Listing, total, count}
+use Rattle.reader.specs.Listing.{CondWord, Stmts, Listing, total, count}
 use Rattle.reader.specs.Rows.{split, Parse, malformed, invalid, parsed, Content, noForm, endRow, stmtsRow, moduleRow, lineRow, toRow, simpleRow, condRow, contentOf, rowOf}
-use Rattle.reader.specs.Read.{OpenCond, Branches, Position, begin, inModule, ended, inStmts, inCond, Reading, Outcome, taken, refused, start, goTo, oneMore, orRefused, check, ascends, atBegin, readLine, atModule, readSimple, readCond, endStmts, atStmts, NextBranch, noMore, mayFollow, nextBranch, condStmt, endCond, readTo, readStmts, atCond, readRow, Answer, listing, refusal, finish, readRows, read}
-use Rattle.reader.specs.ListingText.{LinesOk}
-use Rattle.reader.specs.RowText.{content-text}
-use Rattle.reader.specs.Shown.{positionSize, openLines, OpenOk, PositionOk, Good, Next}
-use Rattle.reader.specs.ShownLaws.{row-next}
+use Rattle.reader.specs.Read.{OpenCond, Branches, Position, begin, inModule, ended, inStmts, inCond, Reading, Outcome, taken, refused, start, goTo, oneMore, orRefused, check, ascends, atBegin, readLine, atModule, readSimple, readCond, endStmts, atStmts, NextBranch, noMore, mayFollow, nextBranch, condStmt, endCond, readTo, readStmts, atCond, readRow, listing, refusal, finish, readRows, read}
+use Rattle.reader.specs.Shown.{positionSize, openLines, Good}
 use Rattle.reader.specs.Scan.{indexOf, split-some, pieceAt, next-last, next-more}
 use Rattle.reader.specs.CodedRows.{asRow}
-use Rattle.reader.specs.Machine.{openConds, stateAt, asState, asStep, stepRow}
+use Rattle.reader.specs.Machine.{asState, asStep, stepRow}
 use Rattle.reader.specs.MachineLaws.{step-law, Bounded, state-bounded}
-use Rattle.reader.specs.Records.{Rec, padded, recRows, argRows, joined, lineRecs, lineNumbers, tableOf}
+use Rattle.reader.specs.Judge.{read-short, good-start, good-row, good-depth}
+use Rattle.reader.specs.Records.{joined, lineRecs, lineNumbers}
 use Rattle.reader.specs.ReadingRecords.{positionRecs, recsOf, openNumbers, numbersOf}
 use Rattle.reader.specs.Tables.{padded-nil}
 use Rattle.reader.specs.Every.{all[]}
-use Rattle.reader.specs.Fill.{Wrote, Ready, outsideWalk, walkBy, lineTable, stmtTable, argTable}
+use Rattle.reader.specs.Fill.{Wrote, Ready, outsideWalk}
 use Rattle.reader.specs.Holds.{Holds, holds-as}
 use Rattle.reader.specs.FillLaws.{walkAt, Fits, fill-law}
 use Rattle.reader.specs.FillReady.{Long, holds-long, ready-law}
@@ -132,23 +129,6 @@ not-listing e = let z : _≡_ {A = ℕ} 0 1 = cc in omega arith
 lines-is : {A B : Listing} → listing A ≡ listing B → A .lines ≡ B .lines
 lines-is e = cc
 
-good-start : Good start (start .position)
-unfolding start openLines positionSize PositionOk LinesOk total count
-good-start = record { lines = tt; lineSum = refl; lineMost = omega arith; stmtSum = refl; stmtMost = omega arith; place = (refl, refl) }
-
-good-row : (r q : Reading) (w : List ℕ) → Good r (r .position) → readRow r (r .position) (contentOf (rowOf w)) ≡ taken q → Good q (q .position)
-unfolding Next
-good-row r q w g e = subst (Next _) e (row-next r (r .position) (contentOf (rowOf w)) w (content-text w) g) .0
-
-depth-most : (r : Reading) (p : Position) → Good r p → length (openConds p) ≤ 17
-unfolding openConds PositionOk OpenOk
-depth-most r begin g = omega arith
-depth-most r inModule g = omega arith
-depth-most r ended g = omega arith
-depth-most r (inStmts s []) g = omega arith
-depth-most r (inStmts s (f ∷ fs)) g = omega (arith, g .place .1 .2)
-depth-most r (inCond s k bs fs) g = omega (arith, g .place .3)
-
 -- the listing's lines and statements are all that were begun
 finished : (r : Reading) (i : ℕ) (p : Position) (w : List ℕ) (L : Listing) → Good r p → finish r i p w ≡ listing L
     → (recsOf r p ≡ lineRecs (L .lines)) × (numbersOf r p ≡ lineNumbers (L .lines)) × (r .stmtCount ≡ total (L .lines)) × (r .lineCount ≡ count (L .lines))
@@ -196,10 +176,6 @@ pub record Fills (text : List ℕ) (nl ns na : ℕ) (tree : Listing) (s : State)
   pub ahead : readRows reading row (split 10 (drop at text)) ≡ listing tree
   pub holds : Holds (numbersOf reading (reading .position)) (recsOf reading (reading .position)) nl ns na n t a
 
-read-short : (t : List ℕ) → length t ≤ 65536 → read t ≡ readRows start 0 (split 10 t)
-unfolding read
-read-short t h = rw (le-leb (length t) 65536 h)
-
 pub fills-start : (text : List ℕ) (nl ns na : ℕ) (f : Accepts text nl ns na) (s : State) → s ≡ asState start → Fills text nl ns na (f .tree) s outsideWalk (replicate nl 0) (replicate ns 0) (replicate na 0) 0
 unfolding start walkAt recsOf positionRecs numbersOf openNumbers lineRecs lineNumbers joined
 fills-start text nl ns na f s e =
@@ -214,7 +190,7 @@ fills-start text nl ns na f s e =
     }
 
 pub fills-bounded : {text : List ℕ} {nl ns na : ℕ} {tree : Listing} {s : State} {w : Walk} {n t a : List ℕ} {at : ℕ} → Fills text nl ns na tree s w n t a at → Bounded s
-fills-bounded f = subst Bounded (sym (f .state)) (state-bounded (f .reading) (depth-most (f .reading) (f .reading .position) (f .good)))
+fills-bounded f = subst Bounded (sym (f .state)) (state-bounded (f .reading) (good-depth (f .reading) (f .reading .position) (f .good)))
 
 module _ (text : List ℕ) (nl ns na : ℕ) (g : Accepts text nl ns na) (s : State) (w : Walk) (n t a : List ℕ) (at : ℕ) (f : Fills text nl ns na (g .tree) s w n t a at) where
   fits : (r : Reading) (i : ℕ) (ws : List (List ℕ)) → Good r (r .position) → readRows r i ws ≡ listing (g .tree) → Fits nl ns na r

@@ -1,28 +1,28 @@
 -- What the code needs at a row that is taken: places, numbers and room. Assumes nothing.
-use mathlib.Core.Path.{_≡_, refl, sym, ap, _∙_, subst}
+use mathlib.Core.Path.{_≡_, refl, ap, _∙_, subst}
 use mathlib.Core.Bool.{Bool, true, false}
-use mathlib.Core.List.{List, [], _∷_, _++_}
+use mathlib.Core.List.{List, [], _∷_}
 use mathlib.Core.Option.{Option, none, some}
-use Prim.Native.Nat.{ℕ, zero, suc, _+_, _*_, _-_, _≤_, _<_}
+use Prim.Native.Nat.{ℕ, suc, _+_, _*_, _-_, _≤_, _<_}
 use native.Mathlib.Nat.{not-suc-le-zero}
 use native.Mathlib.Omega.{arith}
-use lib.Dec.{eqb, leb, ltb}
+use lib.Dec.{leb, ltb}
 use lib.ListN.{length, getD}
 use borrow.Author.Tests.{leb-true, ltb-true}
-use Rattle.reader.specs.Listing.{Simple, goto, gosub, return, run, runto, ongoto, ongosub, for, next, repeat, loop, until, endloop, exit, exitif, doif, else, done, clr, stop, any, CondWord, if, ifelse, rcomp, BranchForm, Stmts, ∅, _▸_, branching, Lines, size, len, total, count}
-use Rattle.reader.specs.Rows.{Parse, malformed, invalid, parsed, Counted, Content, noForm, endRow, stmtsRow, moduleRow, lineRow, toRow, simpleRow, condRow, contentOf, rowOf}
-use Rattle.reader.specs.Read.{OpenCond, Branches, noBranch, oneBranch, twoBranches, Position, begin, inModule, ended, inStmts, inCond, Reading, Outcome, taken, refused, goTo, oneMore, orRefused, check, ascends, atBegin, readLine, atModule, readSimple, readCond, branched, endStmts, atStmts, NextBranch, noMore, mayFollow, nextBranch, condStmt, endCond, readTo, readStmts, atCond, readRow}
-use Rattle.reader.specs.Shown.{firstSize, branchesSize, openSize, positionSize, openLines, Good}
+use Rattle.reader.specs.Listing.{Simple, goto, gosub, return, run, runto, ongoto, ongosub, for, next, repeat, loop, until, endloop, exit, exitif, doif, else, done, clr, stop, any, CondWord, if, ifelse, rcomp, BranchForm, Stmts, ∅, _▸_, branching, size, len, total}
+use Rattle.reader.specs.Rows.{malformed, invalid, parsed, Counted, Content, noForm, endRow, stmtsRow, moduleRow, lineRow, toRow, simpleRow, condRow, contentOf, rowOf}
+use Rattle.reader.specs.Read.{OpenCond, Branches, Position, begin, inModule, ended, inStmts, inCond, Reading, Outcome, taken, refused, oneMore, orRefused, check, ascends, atBegin, readLine, atModule, readSimple, readCond, atStmts, NextBranch, noMore, mayFollow, nextBranch, condStmt, endCond, readTo, readStmts, atCond, readRow}
+use Rattle.reader.specs.Shown.{firstSize, openSize, positionSize, openLines, Good}
 use Rattle.reader.specs.CodedRows.{wordNumber, condNumber, asRow}
 use Rattle.reader.specs.Machine.{positionCode, openConds, stateAt}
 use Rattle.reader.specs.Records.{recRows, argRows}
 use Rattle.reader.specs.ReadingRecords.{firstNode, holderOf, firstLen, firstIndex, recsOf, numbersOf, first-node, recs-length, numbers-length}
-use Rattle.reader.specs.Operands.{Stated, stated, stated-short}
+use Rattle.reader.specs.Operands.{stated, stated-short}
 use Rattle.reader.specs.Tables.{rec-wide, padded-length, joined-length}
 use Rattle.reader.specs.Records.{recRow, argRow}
 use Rattle.reader.specs.Holds.{Holds}
-use Rattle.reader.specs.Fill.{EndReady, ToReady, AddReady, RowReady, Ready, entriesIn}
-use Rattle.reader.specs.FillLaws.{walkAt, branchesLen, Fits, cond-index}
+use Rattle.reader.specs.Fill.{EndReady, ToReady, AddReady, RowReady, Ready}
+use Rattle.reader.specs.FillLaws.{walkAt, Fits, cond-index}
 use Rattle.reader.specs.declared.machine.State.{State}
 use Rattle.reader.specs.declared.rows.Row.{Row}
 use Rattle.reader.specs.declared.rows.Row.the-variants as row

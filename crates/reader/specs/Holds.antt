@@ -1,14 +1,14 @@
 -- Tables that hold line numbers and records, and what a store or an appended row makes of them. Assumes nothing.
 use mathlib.Core.Path.{_≡_, refl, sym, ap, _∙_, subst}
 use mathlib.Core.Bool.{Bool, true, false}
-use mathlib.Core.List.{List, [], _∷_, _++_, append-assoc, append-nil}
+use mathlib.Core.List.{List, [], _∷_, _++_}
 use mathlib.Core.Option.{Option, none, some}
 use Prim.Native.Nat.{ℕ, zero, suc, _+_, _*_, _-_, _≤_, _<_}
 use native.Mathlib.Omega.{arith}
-use lib.ListN.{length, take, drop, set, getD, replicate, length-append, take-append-drop}
+use lib.ListN.{length, take, drop, set, getD, replicate, take-append-drop}
 use Rattle.reader.specs.Listing.{BranchForm, Stmts}
-use Rattle.reader.specs.Every.{All, all[], all∷, all-append}
-use Rattle.reader.specs.Records.{Rec, padded, recRow, argRow, recRows, argRows, joined}
+use Rattle.reader.specs.Every.{all[], all∷, all-append}
+use Rattle.reader.specs.Records.{Rec, padded, recRow, argRow, recRows, argRows}
 use Rattle.reader.specs.ReadingRecords.{amend, amend-amend, amend-length, withEnd, withFirst, withSecond, withBranch}
 use Rattle.reader.specs.Tables.{Wide, rec-wide, padded-length, padded-append, padded-set, padded-row, joined-last, joined-amend, joined-length, joined-set, joined-get, entryRow, appendRow}
 use Rattle.reader.specs.Fill.{addEntries, branchStmts}
@@ -62,6 +62,22 @@ wide-amend g e all[] i = all[]
 wide-amend g e (all∷ {a = r} p w) zero = all∷ (ap length (e r) ∙ p) w
 wide-amend g e (all∷ p w) (suc i) = all∷ p (wide-amend g e w i)
 
+-- one entry of a record amended
+withStart : ℕ → Rec → Rec
+withStart v r = record { word = r .word; line = r .line; holder = r .holder; index = r .index; end = r .end; second = v; form1 = r .form1; number1 = r .number1; form2 = r .form2; number2 = r .number2; detail = r .detail; args = r .args }
+
+withForm1 : ℕ → Rec → Rec
+withForm1 v r = record { word = r .word; line = r .line; holder = r .holder; index = r .index; end = r .end; second = r .second; form1 = v; number1 = r .number1; form2 = r .form2; number2 = r .number2; detail = r .detail; args = r .args }
+
+withNumber1 : ℕ → Rec → Rec
+withNumber1 v r = record { word = r .word; line = r .line; holder = r .holder; index = r .index; end = r .end; second = r .second; form1 = r .form1; number1 = v; form2 = r .form2; number2 = r .number2; detail = r .detail; args = r .args }
+
+withForm2 : ℕ → Rec → Rec
+withForm2 v r = record { word = r .word; line = r .line; holder = r .holder; index = r .index; end = r .end; second = r .second; form1 = r .form1; number1 = r .number1; form2 = v; number2 = r .number2; detail = r .detail; args = r .args }
+
+withNumber2 : ℕ → Rec → Rec
+withNumber2 v r = record { word = r .word; line = r .line; holder = r .holder; index = r .index; end = r .end; second = r .second; form1 = r .form1; number1 = r .number1; form2 = r .form2; number2 = v; detail = r .detail; args = r .args }
+
 abbrev pub isSome : Option (BranchForm × Stmts) → Bool
 isSome none = false
 isSome (some b) = true
@@ -86,42 +102,27 @@ module _ (nl ns na : ℕ) (n a : List ℕ) (ms : List ℕ) where
   unfolding recRow argRow
   holds-end rs t i v b q = holds-set (withEnd v) 4 v (λ r. refl) (λ r. refl) (omega arith) rs t i b q
 
-  withS : ℕ → Rec → Rec
-  withS v r = record { word = r .word; line = r .line; holder = r .holder; index = r .index; end = r .end; second = v; form1 = r .form1; number1 = r .number1; form2 = r .form2; number2 = r .number2; detail = r .detail; args = r .args }
-
-  withF : ℕ → Rec → Rec
-  withF v r = record { word = r .word; line = r .line; holder = r .holder; index = r .index; end = r .end; second = r .second; form1 = v; number1 = r .number1; form2 = r .form2; number2 = r .number2; detail = r .detail; args = r .args }
-
-  withN : ℕ → Rec → Rec
-  withN v r = record { word = r .word; line = r .line; holder = r .holder; index = r .index; end = r .end; second = r .second; form1 = r .form1; number1 = v; form2 = r .form2; number2 = r .number2; detail = r .detail; args = r .args }
-
-  withG : ℕ → Rec → Rec
-  withG v r = record { word = r .word; line = r .line; holder = r .holder; index = r .index; end = r .end; second = r .second; form1 = r .form1; number1 = r .number1; form2 = v; number2 = r .number2; detail = r .detail; args = r .args }
-
-  withM : ℕ → Rec → Rec
-  withM v r = record { word = r .word; line = r .line; holder = r .holder; index = r .index; end = r .end; second = r .second; form1 = r .form1; number1 = r .number1; form2 = r .form2; number2 = v; detail = r .detail; args = r .args }
-
   -- the end of a branch, the second one or the first
   second-branch : (rs : List Rec) (t : List ℕ) (i form number m : ℕ) → i < length rs → Holds ms rs nl ns na n t a → Holds ms (amend rs i (withSecond form number)) nl ns na n (branchStmts t i true form number m) a
-  unfolding recRow argRow withG withM
+  unfolding recRow argRow withForm2 withNumber2
   second-branch rs t i form number m b q =
-      let b₁ : i < length (amend rs i (withG form)) = omega (arith, amend-length rs i (withG form)) in
-      let h = holds-set (withM number) 9 number (λ r. refl) (λ r. refl) (omega arith) (amend rs i (withG form)) (set t (i * 12 + 8) form) i b₁
-      (holds-set (withG form) 8 form (λ r. refl) (λ r. refl) (omega arith) rs t i b q) in
-      subst (λ (x : List Rec). Holds ms x nl ns na n (branchStmts t i true form number m) a) (amend-amend rs i (withG form) (withM number)) h
+      let b₁ : i < length (amend rs i (withForm2 form)) = omega (arith, amend-length rs i (withForm2 form)) in
+      let h = holds-set (withNumber2 number) 9 number (λ r. refl) (λ r. refl) (omega arith) (amend rs i (withForm2 form)) (set t (i * 12 + 8) form) i b₁
+      (holds-set (withForm2 form) 8 form (λ r. refl) (λ r. refl) (omega arith) rs t i b q) in
+      subst (λ (x : List Rec). Holds ms x nl ns na n (branchStmts t i true form number m) a) (amend-amend rs i (withForm2 form) (withNumber2 number)) h
 
   first-branch : (rs : List Rec) (t : List ℕ) (i form number m : ℕ) → i < length rs → Holds ms rs nl ns na n t a → Holds ms (amend rs i (withFirst form number m)) nl ns na n (branchStmts t i false form number m) a
-  unfolding recRow argRow withS withF withN
+  unfolding recRow argRow withStart withForm1 withNumber1
   first-branch rs t i form number m b q =
-      let r₁ = amend rs i (withS m) in
-      let r₂ = amend r₁ i (withF form) in
-      let b₁ : i < length r₁ = omega (arith, amend-length rs i (withS m)) in
-      let b₂ : i < length r₂ = omega (arith, amend-length r₁ i (withF form)) in
-      let h = holds-set (withN number) 7 number (λ r. refl) (λ r. refl) (omega arith) r₂ (set (set t (i * 12 + 5) m) (i * 12 + 6) form) i b₂
-      (holds-set (withF form) 6 form (λ r. refl) (λ r. refl) (omega arith) r₁ (set t (i * 12 + 5) m) i b₁
-      (holds-set (withS m) 5 m (λ r. refl) (λ r. refl) (omega arith) rs t i b q)) in
+      let r₁ = amend rs i (withStart m) in
+      let r₂ = amend r₁ i (withForm1 form) in
+      let b₁ : i < length r₁ = omega (arith, amend-length rs i (withStart m)) in
+      let b₂ : i < length r₂ = omega (arith, amend-length r₁ i (withForm1 form)) in
+      let h = holds-set (withNumber1 number) 7 number (λ r. refl) (λ r. refl) (omega arith) r₂ (set (set t (i * 12 + 5) m) (i * 12 + 6) form) i b₂
+      (holds-set (withForm1 form) 6 form (λ r. refl) (λ r. refl) (omega arith) r₁ (set t (i * 12 + 5) m) i b₁
+      (holds-set (withStart m) 5 m (λ r. refl) (λ r. refl) (omega arith) rs t i b q)) in
       subst (λ (x : List Rec). Holds ms x nl ns na n (branchStmts t i false form number m) a)
-      (ap (λ (x : List Rec). amend x i (withN number)) (amend-amend rs i (withS m) (withF form)) ∙ amend-amend rs i (λ r. withF form (withS m r)) (withN number)) h
+      (ap (λ (x : List Rec). amend x i (withNumber1 number)) (amend-amend rs i (withStart m) (withForm1 form)) ∙ amend-amend rs i (λ r. withForm1 form (withStart m r)) (withNumber1 number)) h
 
   pub holds-branch : (o : Option (BranchForm × Stmts)) (rs : List Rec) (t : List ℕ) (i form number m : ℕ) → i < length rs → Holds ms rs nl ns na n t a
       → Holds ms (amend rs i (withBranch o form number m)) nl ns na n (branchStmts t i (isSome o) form number m) a

@@ -41,7 +41,7 @@ pub read-long : (t : List ℕ) → 65536 < length t → read t ≡ refusal 1 0
 unfolding read
 read-long t h = rw (lt-leb (length t) 65536 h)
 
-read-short : (t : List ℕ) → length t ≤ 65536 → read t ≡ readRows start 0 (split 10 t)
+pub read-short : (t : List ℕ) → length t ≤ 65536 → read t ≡ readRows start 0 (split 10 t)
 unfolding read
 read-short t h = rw (le-leb (length t) 65536 h)
 
@@ -74,11 +74,11 @@ was-taken (refused m) s e = absurd (let z : _≡_ {A = ℕ} 0 1 = cc in omega ar
 
 -- ---- what holds from row to row
 
-good-start : Good start (start .position)
+pub good-start : Good start (start .position)
 unfolding start openLines positionSize PositionOk LinesOk total count
 good-start = record { lines = tt; lineSum = refl; lineMost = omega arith; stmtSum = refl; stmtMost = omega arith; place = (refl, refl) }
 
-good-row : (r q : Reading) (w : List ℕ) → Good r (r .position) → readRow r (r .position) (contentOf (rowOf w)) ≡ taken q → Good q (q .position)
+pub good-row : (r q : Reading) (w : List ℕ) → Good r (r .position) → readRow r (r .position) (contentOf (rowOf w)) ≡ taken q → Good q (q .position)
 unfolding Next
 good-row r q w g e = subst (Next _) e (row-next r (r .position) (contentOf (rowOf w)) w (content-text w) g) .0
 
@@ -87,7 +87,7 @@ unfolding OpenOk
 open-depth [] h = omega arith
 open-depth (f ∷ fs) h = omega (arith, h .2)
 
-good-depth : (r : Reading) (p : Position) → Good r p → length (openConds p) ≤ 17
+pub good-depth : (r : Reading) (p : Position) → Good r p → length (openConds p) ≤ 17
 unfolding openConds PositionOk
 good-depth r begin g = omega arith
 good-depth r inModule g = omega arith

@@ -32,3 +32,4 @@ pub mod FillLaws
 pub mod FillReady
 pub mod FillLoop
 pub mod Listed
+pub mod ReadBack

@@ -1,21 +1,18 @@
 -- What reading a listing answers and writes: the contract of the exported routine. Assumes nothing.
 use mathlib.Core.Path.{_≡_, refl, sym, ap, _∙_, subst}
 use mathlib.Core.Bool.{Bool, true, false}
-use mathlib.Core.List.{List, [], _∷_, _++_}
-use Prim.Native.Nat.{ℕ, zero, suc, _+_, _*_, _-_, _/_, _≤_, _<_}
+use mathlib.Core.List.{List, [], _∷_}
+use Prim.Native.Nat.{ℕ, _-_, _/_, _≤_, _<_}
 use native.Mathlib.Omega.{arith}
-use lib.Dec.{leb, ltb}
+use lib.Dec.{ltb}
 use lib.ListN.{length, replicate, length-replicate}
 use borrow.Author.Tests.{le-leb, lt-leb, ltb-true, ltb-false}
-use Rattle.reader.specs.Bytes.{pick}
-use Rattle.reader.specs.Listing.{Lines, Listing, total, count}
+use Rattle.reader.specs.Listing.{Listing, total, count}
 use Rattle.reader.specs.Read.{Answer, listing, refusal, read}
-use Rattle.reader.specs.ListingText.{InForm}
 use Rattle.reader.specs.RoundTrip.{accepted-in-form}
 use Rattle.reader.specs.Judge.{verdictOf, read-long}
-use Rattle.reader.specs.Records.{Rec, lineRecs, lineNumbers, recRows, argRows, handlerNumber, countsOf, padded, ReadAnswer, accepted, refused, fitted, answerOf, tableOf}
-use Rattle.reader.specs.Holds.{Holds}
-use Rattle.reader.specs.FillLoop.{Accepts, Zeroed, Filled}
+use Rattle.reader.specs.Records.{lineRecs, lineNumbers, recRows, argRows, handlerNumber, countsOf, padded, ReadAnswer, accepted, refused, fitted, answerOf, tableOf}
+use Rattle.reader.specs.FillLoop.{Zeroed, Filled}
 use Rattle.reader.specs.declared.listing.Listed.{Listed}
 use Rattle.reader.specs.declared.listing.Listed.the-variants as listed
 use Rattle.reader.specs.declared.judge.Verdict.{Verdict}

@@ -2,23 +2,22 @@
 use mathlib.Core.Path.{_≡_, refl, sym, ap, _∙_, subst}
 use mathlib.Core.Bool.{Bool, true, false}
 use mathlib.Core.List.{List, [], _∷_, _++_, map, append-assoc, append-nil}
-use mathlib.Core.Option.{Option, none, some}
-use Prim.Native.Nat.{ℕ, zero, suc, _+_, _*_, _-_, _≤_, _<_}
-use native.Mathlib.Nat.{not-suc-le-zero, le-of-suc-le-suc}
+use mathlib.Core.Option.{none, some}
+use Prim.Native.Nat.{ℕ, suc, _+_, _*_, _-_, _≤_, _<_}
+use native.Mathlib.Nat.{not-suc-le-zero}
 use native.Mathlib.Numerals.{add-one}
 use native.Mathlib.Omega.{arith}
 use lib.Dec.{eqb}
 use lib.ListN.{length, take, drop, set, length-append, length-set, length-map, length-drop, take-append-drop}
-use lib.Seq.{take-suc-set, drop-set-lt, drop-drop, take-at, drop-at, take-all}
-use borrow.Author.Tests.{eq-eqb, ne-eqb}
+use lib.Seq.{take-suc-set, drop-set-lt, drop-drop, take-at}
+use borrow.Author.Tests.{ne-eqb}
 use Rattle.reader.specs.Bytes.{bytes, same, pick, decimal}
 use Rattle.reader.specs.Listing.{Name, Tier, static, framed, dispatched, Mark, orphan, Slot, Simple, goto, gosub, return, run, runto, ongoto, ongosub, for, next, repeat, loop, until, endloop, exit, exitif, doif, else, done, clr, stop, any}
-use Rattle.reader.specs.Rows.{split, all, Parse, malformed, invalid, parsed, parseNumber, parseName, isName, isCapital, Form, openingWords, contentOf, rowOf, simpleRow, Counted}
+use Rattle.reader.specs.Rows.{split, all, Parse, malformed, invalid, parsed, parseNumber, parseName, isName, isCapital, openingWords, contentOf, rowOf, simpleRow, Counted}
 use Rattle.reader.specs.ListingText.{spacedWords, closedForm, simpleWord, simpleArgs, simpleText, tierWord, markWord, slotWord, listed, SimpleOk, NumbersOk, SlotsOk}
 use Rattle.reader.specs.WordTable.{words, forms, first, wordIndex, kind, kindOf, kindAt}
-use Rattle.reader.specs.Every.{All, all[], all∷}
 use Rattle.reader.specs.NumberText.{number-text}
-use Rattle.reader.specs.WordText.{inWord, isToken, areTokens, lacks, token-lacks, tokens-lack, decimal-token, decimals-tokens, name-token, name-text, slots-tokens, tier-token, mark-token}
+use Rattle.reader.specs.WordText.{inWord, isToken, areTokens, token-lacks, tokens-lack, decimal-token, decimals-tokens, name-token, name-text, slots-tokens, tier-token, mark-token}
 use Rattle.reader.specs.RowForms.{join, split-join, join-split}
 use Rattle.reader.specs.RowText.{row-simple}
 use Rattle.reader.specs.NumberText.{both-true}
@@ -86,7 +85,7 @@ pub record Put (es : List ℕ) (d : ℕ) (t t′ : List ℕ) (r : Given) : Type 
 
 -- ---- laws for the code
 
-encode-key : (w : List ℕ) → encode w ≡ nameKey w
+pub encode-key : (w : List ℕ) → encode w ≡ nameKey w
 unfolding encode nameKey
 encode-key [] = refl
 encode-key (b ∷ w) = ap (λ (n : ℕ). (b - 32) + 64 * n) (encode-key w)

@@ -1,11 +1,11 @@
 -- The records of a reading so far, and what each row that is taken appends or amends. Assumes nothing.
-use mathlib.Core.Path.{_≡_, refl, sym, ap, _∙_, subst}
+use mathlib.Core.Path.{_≡_, refl, sym, ap, _∙_}
 use mathlib.Core.List.{List, [], _∷_, _++_, append-assoc, append-nil}
 use mathlib.Core.Option.{Option, none, some}
-use Prim.Native.Nat.{ℕ, zero, suc, _+_, _≤_, _<_}
+use Prim.Native.Nat.{ℕ, zero, suc, _+_}
 use native.Mathlib.Omega.{arith}
 use lib.ListN.{length, length-append}
-use Rattle.reader.specs.Listing.{Simple, CondWord, BranchForm, to, stmts, absent, Stmts, ∅, _▸_, branching, Lines, nolines, line, size, len, total, count}
+use Rattle.reader.specs.Listing.{Simple, CondWord, BranchForm, stmts, absent, Stmts, ∅, _▸_, branching, Lines, nolines, line, size, len, total, count}
 use Rattle.reader.specs.Read.{OpenCond, Branches, noBranch, oneBranch, twoBranches, Position, begin, inModule, ended, inStmts, inCond, Reading, branched, numberOf}
 use Rattle.reader.specs.Shown.{firstSize, branchesSize, openSize, positionSize, openLines}
 use Rattle.reader.specs.Records.{Rec, branchNumber, branchLine, simpleRec, condRec, stmtRecs, lineRecs, lineNumbers}

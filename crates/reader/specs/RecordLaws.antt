@@ -6,7 +6,7 @@ use mathlib.Core.Option.{Option, none, some}
 use native.Mathlib.Omega.{arith}
 use lib.ListN.{length, getD, getElem?, replicate, length-append, length-replicate, List·getD-append}
 use lib.Seq.{getD-append-add}
-use Rattle.reader.specs.Records.{Rec, recRow, recRows, joined}
+use Rattle.reader.specs.Records.{Rec, recRow, joined, recRows}
 
 none-some : {A B : Type 0} {a : A} → _≡_ {A = Option A} none (some a) → B
 none-some e = absurd (let z : _≡_ {A = ℕ} 0 1 = cc in omega arith)

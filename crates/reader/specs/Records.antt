@@ -1,9 +1,9 @@
 -- The records of a listing: what the lent tables hold after reading. Assumes nothing.
 -- A statement's record has 12 entries and a row of 64 arguments; a line's record is its number; 0 stands past the used parts.
-use Prim.Native.Nat.{ℕ, zero, suc, _+_, _*_, _-_, _/_}
+use Prim.Native.Nat.{ℕ, suc, _+_, _*_, _-_, _/_}
 use mathlib.Core.Bool.{Bool, true, false}
 use mathlib.Core.List.{List, [], _∷_, _++_, map}
-use mathlib.Core.Option.{Option, none, some}
+use mathlib.Core.Option.{none, some}
 use lib.Dec.{leb}
 use lib.ListN.{length, replicate}
 use Rattle.reader.specs.Bytes.{pick}

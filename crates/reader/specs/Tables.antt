@@ -1,13 +1,13 @@
 -- Tables with a stride: rows one after the other and zeros after them. Storing, appending and reading back, stated once for every table. Assumes nothing.
-use mathlib.Core.Path.{_≡_, refl, sym, ap, _∙_, subst}
+use mathlib.Core.Path.{_≡_, refl, sym, ap, _∙_}
 use mathlib.Core.List.{List, [], _∷_, _++_, append-assoc, append-nil}
 use Prim.Native.Nat.{ℕ, zero, suc, _+_, _*_, _-_, _≤_, _<_}
 use native.Mathlib.Nat.{not-suc-le-zero, le-of-suc-le-suc}
 use native.Mathlib.Omega.{arith}
-use lib.ListN.{length, take, drop, set, getD, replicate, length-append, length-replicate, length-drop, drop-of-length-le, List·getD-append, replicate-append-replicate, getD-replicate}
-use lib.Seq.{set-append-left, set-append-seam, take-append-seam, drop-append-add, drop-cons, drop-drop, take-all, getD-append-add}
-use Rattle.reader.specs.Every.{All, all[], all∷, all-append}
-use Rattle.reader.specs.Records.{Rec, padded, joined, recRow, argRow}
+use lib.ListN.{length, take, drop, set, getD, replicate, length-append, length-replicate, drop-of-length-le, List·getD-append, replicate-append-replicate}
+use lib.Seq.{set-append-left, set-append-seam, take-append-seam, drop-append-add, drop-drop, take-all, getD-append-add}
+use Rattle.reader.specs.Every.{All, all[], all∷}
+use Rattle.reader.specs.Records.{Rec, padded, joined, recRow}
 use Rattle.reader.specs.ReadingRecords.{amend}
 use Rattle.reader.specs.declared.tables.Entry.{Entry}
 
@@ -38,11 +38,12 @@ padded-nil n = let e : n - 0 ≡ n = omega arith in ap (λ (k : ℕ). replicate 
 pub padded-append : (n at : ℕ) (l x : List ℕ) → at ≡ length l → take at (padded n l) ++ (x ++ drop (at + length x) (padded n l)) ≡ padded n (l ++ x)
 unfolding padded
 padded-append n at l x e =
-    let z : List ℕ = replicate (n - length l) 0 in
     let q : n - length l - length x ≡ n - length (l ++ x) = omega (arith, length-append l x) in
-    ap (λ (k : ℕ). take k (l ++ z) ++ (x ++ drop (k + length x) (l ++ z))) e
-    ∙ ap (λ (a : List ℕ). a ++ (x ++ drop (length l + length x) (l ++ z))) (take-append-seam l z)
-    ∙ ap (λ (a : List ℕ). l ++ (x ++ a)) (drop-append-add l z (length x) ∙ drop-zeros (n - length l) (length x) ∙ ap (λ (k : ℕ). replicate k 0) q)
+    let d : drop (length l + length x) (padded n l) ≡ replicate (n - length (l ++ x)) 0 =
+    drop-append-add l (replicate (n - length l) 0) (length x) ∙ drop-zeros (n - length l) (length x) ∙ ap (λ (k : ℕ). replicate k 0) q in
+    ap (λ (k : ℕ). take k (padded n l) ++ (x ++ drop (k + length x) (padded n l))) e
+    ∙ ap (λ (z : List ℕ). take (length l) (padded n l) ++ (x ++ z)) d
+    ∙ ap (λ (z : List ℕ). z ++ (x ++ replicate (n - length (l ++ x)) 0)) (take-append-seam l (replicate (n - length l) 0))
     ∙ sym (append-assoc l x (replicate (n - length (l ++ x)) 0))
 
 -- one entry
@@ -54,15 +55,19 @@ padded-set n at l v e h =
     ∙ set-append-seam l 0 (replicate (n - length (l ++ (v ∷ []))) 0) v
     ∙ sym (append-assoc l (v ∷ []) (replicate (n - length (l ++ (v ∷ []))) 0))
 
+-- some zeros of a list's, and the rest
+zeros-cut : (y : List ℕ) (p m k : ℕ) → p ≡ m + k → y ++ replicate p 0 ≡ (y ++ replicate m 0) ++ replicate k 0
+zeros-cut y p m k e =
+    ap (λ (z : ℕ). y ++ replicate z 0) e ∙ ap (λ (z : List ℕ). y ++ z) (sym (replicate-append-replicate m k 0)) ∙ sym (append-assoc y (replicate m 0) (replicate k 0))
+
 -- the zeros up to a row's width are the table's
 pub padded-row : (n m : ℕ) (l x : List ℕ) → length x ≤ m → length l + m ≤ n → padded n (l ++ x) ≡ padded n (l ++ padded m x)
 unfolding padded
 padded-row n m l x h k =
-    let a : List ℕ = replicate (m - length x) 0 in
-    let w : length (x ++ a) ≡ m = length-append x a ∙ omega (arith, length-replicate {A = ℕ} (m - length x) 0) in
-    let q : n - length (l ++ x) ≡ m - length x + (n - length (l ++ (x ++ a))) = omega (arith, length-append l x, length-append l (x ++ a), w) in
-    ap (λ (z : ℕ). (l ++ x) ++ replicate z 0) q ∙ ap (λ (z : List ℕ). (l ++ x) ++ z) (sym (replicate-append-replicate (m - length x) (n - length (l ++ (x ++ a))) 0))
-    ∙ simp append-assoc
+    let w = padded-length m x h in
+    let q : n - length (l ++ x) ≡ m - length x + (n - length (l ++ padded m x)) = omega (arith, length-append l x, length-append l (padded m x), w) in
+    zeros-cut (l ++ x) (n - length (l ++ x)) (m - length x) (n - length (l ++ padded m x)) q
+    ∙ ap (λ (z : List ℕ). z ++ replicate (n - length (l ++ padded m x)) 0) (append-assoc l x (replicate (m - length x) 0))
 
 -- ---- rows
 

@@ -10,6 +10,7 @@ use super::operands::put_operands;
 use super::rows::Row;
 use super::rows::row_of;
 use super::scan::find;
+use super::tables::ARG_ENTRIES;
 use super::tables::END;
 use super::tables::Entry;
 use super::tables::FORM1;
@@ -25,8 +26,6 @@ use super::tables::narrow;
 use super::tables::store;
 use super::tables::wide;
 ghost use mathlib.Core.Path.{_≡_};
-ghost use mathlib.Core.Bool.{Bool};
-ghost use mathlib.Core.List.{List};
 ghost use Prim.Native.Nat.{_+_, _*_, _-_, _≤_, _<_};
 ghost use lib.ListN.{length, set};
 ghost use lib.Dec.{eqb};
@@ -43,8 +42,6 @@ pub(crate) struct Walk {
 const STMTS_BRANCH: u16 = 1;
 
 const TO_BRANCH: u16 = 2;
-
-const STRIDE: usize = 64;
 
 fn node_of(holder: u16) -> usize
     requires { ⌜ 0 < holder ⌝ }
@@ -127,7 +124,7 @@ fn put_row_operands(row: &[u8], args: &mut [u64], n: usize) -> Given
     requires { ⌜ RowReady (now row) (now args) n ⌝ }
     ensures { λ r. ⌜ OperandsPut (now (row .entry)) (now (args .entry)) n (now (args .exit)) r ⌝ }
 {
-    let from = n * STRIDE;
+    let from = n * ARG_ENTRIES;
     let last = row.len() - 1;
     put_operands(&row[1..last], &mut args[from..])
 }

@@ -2,15 +2,14 @@
 use super::fill::fill;
 use super::judge::Verdict;
 use super::judge::judge;
+use super::tables::ARG_ENTRIES;
+use super::tables::STMT_ENTRIES;
 use super::tables::narrow32;
 use super::tables::put_counts;
 use super::tables::zero16;
 use super::tables::zero64;
 ghost use mathlib.Core.Path.{_≡_};
-ghost use mathlib.Core.Bool.{Bool};
-ghost use mathlib.Core.List.{List, [], _∷_};
-ghost use Prim.Native.Nat.{_/_, _≤_, _<_};
-ghost use lib.ListN.{length, replicate};
+ghost use lib.ListN.{length};
 ghost use Rattle.reader.specs.Records.{handlerNumber};
 ghost use Rattle.reader.specs.Listed.{Judged, Written};
 
@@ -26,11 +25,6 @@ pub enum Listed {
         place: usize,
     },
 }
-
-// Entries of a statement in the statement table and in the argument table.
-const STMT_ENTRIES: usize = 12;
-
-const ARG_ENTRIES: usize = 64;
 
 fn handler_number(handlers: bool) -> u32
     ensures { λ r. ⌜ r ≡ handlerNumber handlers ⌝ }

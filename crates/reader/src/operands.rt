@@ -1,12 +1,12 @@
 // The arguments of a statement's row: targets, FOR's name, NEXT's slots, each one number.
 ghost use mathlib.Core.Path.{_≡_};
-ghost use mathlib.Core.Bool.{Bool, true};
-ghost use mathlib.Core.List.{_++_, map};
-ghost use Prim.Native.Nat.{_+_, _*_, _≤_, _<_};
+ghost use mathlib.Core.Bool.{true};
+ghost use mathlib.Core.List.{map};
+ghost use Prim.Native.Nat.{_≤_};
 ghost use lib.ListN.{length, take, drop};
-ghost use Rattle.reader.specs.Rows.{split, parseNumber, parseName};
+ghost use Rattle.reader.specs.Rows.{split};
 ghost use Rattle.reader.specs.RowForms.{join};
-ghost use Rattle.reader.specs.Operands.{numberEntry, keyEntry, numberAnswer, keyAnswer, entryBy, tierEntry, markEntry, headMark, rowEntries, rowDetail, Put};
+ghost use Rattle.reader.specs.Operands.{numberAnswer, keyAnswer, entryBy, tierEntry, markEntry, headMark, rowEntries, rowDetail, Put};
 use super::names::NameKey;
 use super::names::key_of;
 use super::numbers::ParsedNumber;

@@ -5,6 +5,11 @@ ghost use Prim.Native.Nat.{_+_, _*_, _≤_, _<_};
 ghost use lib.ListN.{length, drop, set, getD, replicate};
 ghost use Rattle.reader.specs.Tables.{entryRow, appendRow};
 
+// How many entries a statement has in the statement table and in the argument table.
+pub const STMT_ENTRIES: usize = 12;
+
+pub const ARG_ENTRIES: usize = 64;
+
 // The entries of a statement's record.
 pub const WORD: usize = 0;
 
@@ -72,18 +77,18 @@ fn put_row(part: &mut [u16], e: Entry)
     requires { ⌜ 12 ≤ length (now part) ⌝ }
     ensures { λ _. ⌜ now (part .exit) ≡ entryRow e ++ drop 12 (now (part .entry)) ⌝ }
 {
-    part[0] = e.word;
-    part[1] = e.line;
-    part[2] = e.holder;
-    part[3] = e.index;
-    part[4] = e.end;
-    part[5] = 0;
-    part[6] = 0;
-    part[7] = 0;
-    part[8] = 0;
-    part[9] = 0;
-    part[10] = e.count;
-    part[11] = e.detail;
+    part[WORD] = e.word;
+    part[LINE] = e.line;
+    part[HOLDER] = e.holder;
+    part[INDEX] = e.index;
+    part[END] = e.end;
+    part[SECOND] = 0;
+    part[FORM1] = 0;
+    part[NUMBER1] = 0;
+    part[FORM2] = 0;
+    part[NUMBER2] = 0;
+    part[COUNT] = e.count;
+    part[DETAIL] = e.detail;
 }
 
 // The record of statement n, which is the next one.
@@ -91,7 +96,7 @@ pub(crate) fn append(t: &mut [u16], n: usize, e: Entry)
     requires { ⌜ (n * 12 + 12 ≤ length (now t)) × (n ≤ 4096) ⌝ }
     ensures { λ _. ⌜ now (t .exit) ≡ appendRow (now (t .entry)) n e ⌝ }
 {
-    let at = n * 12;
+    let at = n * STMT_ENTRIES;
     put_row(&mut t[at..], e);
 }
 
@@ -99,14 +104,14 @@ pub(crate) fn store(t: &mut [u16], i: usize, c: usize, v: u16)
     requires { ⌜ (i * 12 + 12 ≤ length (now t)) × (i ≤ 4096) × (c < 12) ⌝ }
     ensures { λ _. ⌜ now (t .exit) ≡ set (now (t .entry)) (i * 12 + c) v ⌝ }
 {
-    t[i * 12 + c] = v;
+    t[i * STMT_ENTRIES + c] = v;
 }
 
 pub(crate) fn fetch(t: &[u16], i: usize, c: usize) -> u16
     requires { ⌜ (i * 12 + 12 ≤ length (now t)) × (i ≤ 4096) × (c < 12) ⌝ }
     ensures { λ r. ⌜ r ≡ getD (now (t .entry)) (i * 12 + c) 0 ⌝ }
 {
-    t[i * 12 + c]
+    t[i * STMT_ENTRIES + c]
 }
 
 pub(crate) fn wide(x: u16) -> usize

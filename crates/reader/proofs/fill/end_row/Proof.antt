@@ -1,36 +1,23 @@
 -- By where the row stands. Assumes nothing.
 use borrow.Author.Needs.{needs}
 use native.Mathlib.Omega.{arith}
-use mathlib.Core.Path.{_≡_, refl, sym, ap, _∙_, subst}
-use mathlib.Core.Bool.{Bool, true, false}
-use mathlib.Core.List.{List, _++_}
-use Prim.Native.Nat.{ℕ, _+_, _*_, _-_, _%_, _≤_, _<_}
+use mathlib.Core.Path.{ap, _∙_}
+use Prim.Native.Nat.{ℕ, _+_, _*_, _-_, _%_, _<_}
 use lib.Dec.{eqb}
-use lib.ListN.{length, take, drop, set, getD, length-drop}
+use lib.ListN.{set, getD}
 use borrow.Author.Tests.{eq-eqb, ne-eqb}
-use Rattle.reader.specs.Fill.{branchStmts, endTable, endWalk, walk-is}
+use Rattle.reader.specs.Fill.{branchStmts, walk-is}
 use Rattle.reader.proofs.fill.end_row.Statement.{statement}
 use Rattle.reader.proofs.fill.end_row.Tie as tie
-use Rattle.reader.proofs.fill.end_row.Reads as reads
-use Rattle.reader.proofs.fill.end_row.Lts as lts
-use Rattle.reader.proofs.fill.end_branch.Reads as end-branch-reads
-use Rattle.reader.proofs.fill.next_index.Reads as next-index-reads
-use Rattle.reader.proofs.fill.node_of.Reads as node-of-reads
-use Rattle.reader.proofs.tables.fetch.Reads as fetch-reads
-use Rattle.reader.proofs.tables.narrow.Reads as narrow-reads
-use Rattle.reader.proofs.tables.store.Reads as store-reads
 
--- src/fill.rt:83:13
 returns : tie.Need-returns
 returns c = (rw (eq-eqb _ _ (c .before .before .if1 .taken), eq-eqb _ _ (c .if2 .taken)), rw (eq-eqb _ _ (c .before .before .if1 .taken), eq-eqb _ _ (c .if2 .taken)))
 
--- src/fill.rt:88:23
 node-of-requires : tie.Need-node-of-requires
 node-of-requires c κs =
     let a = c .before .before .before .before .before .before in
     a .pre .inner (c .before .before .before .if1 .taken) (omega (arith, c .before .if2 .left))
 
--- src/fill.rt:88:9
 end-branch-requires : tie.Need-end-branch-requires
 end-branch-requires c κs =
     let a = c .before .before .before .before .before .before .before .before in
@@ -40,11 +27,9 @@ end-branch-requires c κs =
     let e = c .before .node-of .ensures in
     (omega arith, omega arith, a .pre .most)
 
--- src/fill.rt:89:9
 same-length : tie.Need-same-length
 same-length c = search needs
 
--- src/fill.rt:89:9
 returns-2 : tie.Need-returns-2
 returns-2 c =
     let n = c .before .before .before .before in
@@ -54,11 +39,9 @@ returns-2 c =
     let y = ne-eqb _ _ (p .if2 .left) in
     (rw (x, y), rw (x, y) (c .before .before .end-branch .ensures ∙ ap (λ (i : ℕ). branchStmts (a .t .now) i (eqb (a .s .open_conds % 2) 1) 1 0 (a .s .stmts)) (n .node-of .ensures)))
 
--- src/fill.rt:92:13
 node-of-requires-2 : tie.Need-node-of-requires-2
 node-of-requires-2 c κs = c .before .before .before .before .before .pre .held (c .if3 .taken)
 
--- src/fill.rt:93:13
 fetch-requires : tie.Need-fetch-requires
 fetch-requires c κs =
     let a = c .before .before .before .before .before .before .before in
@@ -68,7 +51,6 @@ fetch-requires c κs =
     let e = c .before .node-of2 .ensures in
     (omega arith, omega arith, omega arith)
 
--- src/fill.rt:94:13
 fetch-requires-2 : tie.Need-fetch-requires-2
 fetch-requires-2 c κs =
     let a = c .before .before .before .before .before .before .before .before .before in
@@ -78,11 +60,9 @@ fetch-requires-2 c κs =
     let e = c .before .before .before .node-of2 .ensures in
     (omega arith, omega arith, omega arith)
 
--- src/fill.rt:95:26
 narrow-requires : tie.Need-narrow-requires
 narrow-requires c κs = search needs
 
--- src/fill.rt:95:9
 store-requires : tie.Need-store-requires
 store-requires c κs =
     let a = c .before .before .before .before .before .before .before .before .before .before .before .before in
@@ -92,7 +72,6 @@ store-requires c κs =
     let e = c .before .before .before .before .before .before .node-of2 .ensures in
     (omega arith, omega arith, omega arith)
 
--- src/fill.rt:98:20
 next-index-requires : tie.Need-next-index-requires
 next-index-requires c κs =
     let a = c .before .before .before .before .before .before .before .before .before .before .before .before .before .before .before in
@@ -101,11 +80,9 @@ next-index-requires c κs =
     let e = c .before .before .before .before .before .fetch2 .ensures ∙ ap (λ (i : ℕ). getD (a .args .t .now) (i * 12 + 3) 0) (n .node-of2 .ensures) in
     omega arith
 
--- src/fill.rt:96:9
 same-length-2 : tie.Need-same-length-2
 same-length-2 c = search needs
 
--- src/fill.rt:96:9
 returns-3 : tie.Need-returns-3
 returns-3 c =
     let n = c .before .before .before .before .before .before .before .before .before .before in
@@ -120,7 +97,6 @@ returns-3 c =
       rw (x, y) (c .before .before .before .store .ensures ∙ ap (λ (i : ℕ). set t (i * 12 + 4) (c .before .before .before .before .narrow .result)) e ∙ ap (set t ((a .w .holder - 1) * 12 + 4)) (c .before .before .before .before .narrow .ensures)),
     )
 
--- src/fill.rt:77:1
 returns-4 : tie.Need-returns-4
 returns-4 c = (rw (ne-eqb _ _ (c .before .before .if1 .left), ne-eqb _ _ (c .if3 .left)), rw (ne-eqb _ _ (c .before .before .if1 .left), ne-eqb _ _ (c .if3 .left)))
 

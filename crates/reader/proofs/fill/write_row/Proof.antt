@@ -1,157 +1,116 @@
 -- By the row. Assumes nothing.
 use borrow.Author.Needs.{needs}
-use native.Mathlib.Omega.{arith}
-use mathlib.Core.Path.{_≡_, refl, sym, ap, _∙_, subst}
-use Rattle.reader.specs.Fill.{Wrote, wrote-as, Ready, walkBy, stmtTable, argTable, lineTable}
+use mathlib.Core.Path.{refl, subst}
+use Rattle.reader.specs.Fill.{wrote-as, Ready}
 use Rattle.reader.proofs.fill.write_row.Statement.{statement}
 use Rattle.reader.proofs.fill.write_row.Tie as tie
-use Rattle.reader.proofs.fill.write_row.Reads as reads
-use Rattle.reader.proofs.fill.write_row.Lts as lts
-use Rattle.reader.proofs.fill.add_cond.Reads as add-cond-reads
-use Rattle.reader.proofs.fill.add_line.Reads as add-line-reads
-use Rattle.reader.proofs.fill.add_simple.Reads as add-simple-reads
-use Rattle.reader.proofs.fill.end_row.Reads as end-row-reads
-use Rattle.reader.proofs.fill.to_row.Reads as to-row-reads
 
--- src/fill.rt:186:24
 enum-told : tie.Need-enum-told
 enum-told c = search needs
 
--- src/fill.rt:187:29
 enum-told-2 : tie.Need-enum-told-2
 enum-told-2 c = search needs
 
--- src/fill.rt:187:21
 end-row-requires : tie.Need-end-row-requires
 end-row-requires c κs =
     let a = c .before .before .before .before .before .before .before in
     subst (Ready (a .args .lines .now) (a .args .stmts .now) (a .args .args .now) (a .args .s) (a .args .w) (a .args .text .now)) (c .before .enum-told2 .given .1) (a .pre)
 
--- src/fill.rt:188:23
 enum-told-3 : tie.Need-enum-told-3
 enum-told-3 c = search needs
 
--- src/fill.rt:189:27
 enum-told-4 : tie.Need-enum-told-4
 enum-told-4 c = search needs
 
--- src/fill.rt:193:29
 enum-told-5 : tie.Need-enum-told-5
 enum-told-5 c = search needs
 
--- src/fill.rt:194:19
 enum-known-row : tie.Need-enum-known-row
 enum-known-row c = search needs
 
--- src/fill.rt:194:25
 add-line-requires : tie.Need-add-line-requires
 add-line-requires c κs =
     let a = c .before .before .before .before .before .before .before .before in
     subst (Ready (a .args .lines .now) (a .args .stmts .now) (a .args .args .now) (a .args .s) (a .args .w) (a .args .text .now)) (c .before .before .row .given .1) (a .pre)
 
--- src/fill.rt:195:27
 enum-told-6 : tie.Need-enum-told-6
 enum-told-6 c = search needs
 
--- src/fill.rt:196:17
 enum-known-row-2 : tie.Need-enum-known-row-2
 enum-known-row-2 c = search needs
 
--- src/fill.rt:196:23
 to-row-requires : tie.Need-to-row-requires
 to-row-requires c κs =
     let a = c .before .before .before .before .before .before .before .before in
     subst (Ready (a .args .lines .now) (a .args .stmts .now) (a .args .args .now) (a .args .s) (a .args .w) (a .args .text .now)) (c .before .before .row2 .given .1) (a .pre)
 
--- src/fill.rt:197:31
 enum-told-7 : tie.Need-enum-told-7
 enum-told-7 c = search needs
 
--- src/fill.rt:198:23
 enum-known-row-3 : tie.Need-enum-known-row-3
 enum-known-row-3 c = search needs
 
--- src/fill.rt:198:43
 add-simple-requires : tie.Need-add-simple-requires
 add-simple-requires c κs =
     let a = c .before .before .before .before .before .before .before .before .before in
     subst (Ready (a .args .lines .now) (a .args .stmts .now) (a .args .args .now) (a .args .s) (a .args .w) (a .args .text .now)) (c .before .before .before .row3 .given .1) (a .pre)
 
--- src/fill.rt:199:19
 enum-known-row-4 : tie.Need-enum-known-row-4
 enum-known-row-4 c = search needs
 
--- src/fill.rt:199:25
 add-cond-requires : tie.Need-add-cond-requires
 add-cond-requires c κs =
     let a = c .before .before .before .before .before .before .before .before in
     subst (Ready (a .args .lines .now) (a .args .stmts .now) (a .args .args .now) (a .args .s) (a .args .w) (a .args .text .now)) (c .before .before .row4 .given .1) (a .pre)
 
--- src/fill.rt:181:1
 returns : tie.Need-returns
 returns c = wrote-as (c .enum-told .given .1) (record { walk = refl; lines = refl; stmts = refl; args = refl })
 
--- src/fill.rt:181:1
 same-length : tie.Need-same-length
 same-length c = search needs
 
--- src/fill.rt:181:1
 returns-2 : tie.Need-returns-2
 returns-2 c = let p = c .before .before .end-row .ensures in wrote-as (c .before .before .before .before .enum-told2 .given .1) (record { walk = p .0; lines = refl; stmts = p .1; args = refl })
 
--- src/fill.rt:181:1
 returns-3 : tie.Need-returns-3
 returns-3 c = wrote-as (c .enum-told3 .given .1) (record { walk = refl; lines = refl; stmts = refl; args = refl })
 
--- src/fill.rt:181:1
 returns-4 : tie.Need-returns-4
 returns-4 c = wrote-as (c .enum-told4 .given .1) (record { walk = refl; lines = refl; stmts = refl; args = refl })
 
--- src/fill.rt:181:1
 returns-5 : tie.Need-returns-5
 returns-5 c = wrote-as (c .enum-told5 .given .1) (record { walk = refl; lines = refl; stmts = refl; args = refl })
 
--- src/fill.rt:181:1
 same-length-2 : tie.Need-same-length-2
 same-length-2 c = search needs
 
--- src/fill.rt:181:1
 returns-6 : tie.Need-returns-6
 returns-6 c = let p = c .before .before .add-line .ensures in wrote-as (c .before .before .before .before .before .row .given .1) (record { walk = p .0; lines = p .1; stmts = refl; args = refl })
 
--- src/fill.rt:181:1
 returns-7 : tie.Need-returns-7
 returns-7 c = wrote-as (c .enum-told6 .given .1) (record { walk = refl; lines = refl; stmts = refl; args = refl })
 
--- src/fill.rt:181:1
 same-length-3 : tie.Need-same-length-3
 same-length-3 c = search needs
 
--- src/fill.rt:181:1
 returns-8 : tie.Need-returns-8
 returns-8 c = let p = c .before .before .to-row .ensures in wrote-as (c .before .before .before .before .before .row2 .given .1) (record { walk = p .0; lines = refl; stmts = p .1; args = refl })
 
--- src/fill.rt:181:1
 returns-9 : tie.Need-returns-9
 returns-9 c = wrote-as (c .enum-told7 .given .1) (record { walk = refl; lines = refl; stmts = refl; args = refl })
 
--- src/fill.rt:181:1
 same-length-4 : tie.Need-same-length-4
 same-length-4 c = search needs
 
--- src/fill.rt:181:1
 same-length-5 : tie.Need-same-length-5
 same-length-5 c = search needs
 
--- src/fill.rt:181:1
 returns-10 : tie.Need-returns-10
 returns-10 c = let p = c .before .before .before .before .add-simple .ensures in wrote-as (c .before .before .before .before .before .before .before .before .row3 .given .1) (record { walk = p .walk; lines = refl; stmts = p .stmts; args = p .args })
 
--- src/fill.rt:181:1
 same-length-6 : tie.Need-same-length-6
 same-length-6 c = search needs
 
--- src/fill.rt:181:1
 returns-11 : tie.Need-returns-11
 returns-11 c = let p = c .before .before .add-cond .ensures in wrote-as (c .before .before .before .before .before .row4 .given .1) (record { walk = p .0; lines = refl; stmts = p .1; args = refl })
 

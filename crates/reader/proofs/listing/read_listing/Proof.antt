@@ -1,48 +1,31 @@
 -- Zeroed, judged, written. Assumes nothing.
 use borrow.Author.Needs.{needs}
-use native.Mathlib.Omega.{arith}
-use mathlib.Core.Path.{_≡_}
 use lib.ListN.{length}
 use Rattle.reader.specs.Listed.{zeroed-judged, zeroed-refused, zeroed-written}
 use Rattle.reader.proofs.listing.read_listing.Statement.{statement}
 use Rattle.reader.proofs.listing.read_listing.Tie as tie
-use Rattle.reader.proofs.listing.read_listing.Reads as reads
-use Rattle.reader.proofs.listing.read_listing.Lts as lts
-use Rattle.reader.proofs.judge.judge.Reads as judge-reads
-use Rattle.reader.proofs.listing.write_listing.Reads as write-listing-reads
-use Rattle.reader.proofs.tables.put_counts.Reads as put-counts-reads
-use Rattle.reader.proofs.tables.zero16.Reads as zero16-reads
-use Rattle.reader.proofs.tables.zero64.Reads as zero64-reads
 
--- src/listing.rt:72:5
 put-counts-requires : tie.Need-put-counts-requires
 put-counts-requires c κs = search needs
 
--- src/listing.rt:73:5
 zero16-requires : tie.Need-zero16-requires
 zero16-requires c κs = search needs
 
--- src/listing.rt:74:5
 zero16-requires-2 : tie.Need-zero16-requires-2
 zero16-requires-2 c κs = search needs
 
--- src/listing.rt:75:5
 zero64-requires : tie.Need-zero64-requires
 zero64-requires c κs = search needs
 
--- src/listing.rt:76:11
 judge-requires : tie.Need-judge-requires
 judge-requires c κs = search needs
 
--- src/listing.rt:77:28
 enum-known-number : tie.Need-enum-known-number
 enum-known-number c = search needs
 
--- src/listing.rt:78:29
 enum-known-handlers : tie.Need-enum-known-handlers
 enum-known-handlers c = search needs
 
--- src/listing.rt:78:65
 write-listing-requires : tie.Need-write-listing-requires
 write-listing-requires c κs =
     let g = c .before .before .before .before .before .handlers .given in
@@ -55,19 +38,15 @@ write-listing-requires c κs =
     zeroed-judged (b .text .now) (k .last .0) (l .last .0) (t .last .0) (a .last .0) (length (b .lines .now)) (length (b .stmts .now)) (length (b .args .now)) (k .ensures) (l .ensures) (t .ensures) (a .ensures) (v .result) (v .ensures)
     (g .0 .0) (g .0 .1 .0) (g .0 .1 .1 .0) (g .1)
 
--- src/listing.rt:69:1
 same-length : tie.Need-same-length
 same-length c = search needs
 
--- src/listing.rt:69:1
 same-length-2 : tie.Need-same-length-2
 same-length-2 c = search needs
 
--- src/listing.rt:69:1
 same-length-3 : tie.Need-same-length-3
 same-length-3 c = search needs
 
--- src/listing.rt:69:1
 returns : tie.Need-returns
 returns c =
     let g = c .before .number .given in
@@ -80,19 +59,15 @@ returns c =
     zeroed-refused (b .text .now) (k .last .0) (l .last .0) (t .last .0) (a .last .0) (length (b .lines .now)) (length (b .stmts .now)) (length (b .args .now)) (k .ensures) (l .ensures) (t .ensures) (a .ensures) (v .result) (v .ensures)
     (g .0 .0) (g .0 .1 .0) (g .1)
 
--- src/listing.rt:69:1
 same-length-4 : tie.Need-same-length-4
 same-length-4 c = search needs
 
--- src/listing.rt:69:1
 same-length-5 : tie.Need-same-length-5
 same-length-5 c = search needs
 
--- src/listing.rt:69:1
 same-length-6 : tie.Need-same-length-6
 same-length-6 c = search needs
 
--- src/listing.rt:69:1
 returns-2 : tie.Need-returns-2
 returns-2 c =
     let w = c .before .before .before .before .before .before .write-listing in

@@ -1,83 +1,55 @@
 -- The name is the first word, the tier the text after it. Assumes nothing.
 use borrow.Author.Needs.{needs}
 use native.Mathlib.Omega.{arith}
-use mathlib.Core.Path.{_≡_, refl, sym, ap, _∙_, subst}
-use mathlib.Core.Bool.{true, false}
-use mathlib.Core.List.{List, _∷_, _++_, map}
-use Prim.Native.Nat.{ℕ, suc, _+_, _*_, _-_, _≤_, _<_}
-use lib.ListN.{length, take, drop, set}
-use borrow.Author.Tests.{not-true, not-false}
-use Rattle.reader.specs.Bytes.{bytes, same}
-use Rattle.reader.specs.Rows.{split, parseName, parseNumber}
-use Rattle.reader.specs.Scan.{pieceAt, next-last, next-more}
-use Rattle.reader.specs.Operands.{entryBy, tierEntry, markEntry, numberAnswer, keyAnswer, number-answer, key-answer, Filling, filling-start, filling-room, filling-next, filling-last, for-alone, for-pair}
+use Prim.Native.Nat.{_-_}
+use Rattle.reader.specs.Operands.{for-alone, for-pair}
 use Rattle.reader.proofs.operands.put_for.Statement.{statement}
 use Rattle.reader.proofs.operands.put_for.Tie as tie
-use Rattle.reader.proofs.operands.put_for.Reads as reads
-use Rattle.reader.proofs.operands.put_for.Lts as lts
-use Rattle.reader.proofs.operands.entry_of.Reads as entry-of-reads
-use Rattle.reader.proofs.operands.tier_of.Reads as tier-of-reads
-use Rattle.reader.proofs.scan.find.Reads as find-reads
 
--- src/arguments.rt:109:9
 find-requires : tie.Need-find-requires
 find-requires c κs = search needs
 
--- src/arguments.rt:110:30
 sub-entry-of : tie.Need-sub-entry-of
 sub-entry-of c = search needs
 
--- src/arguments.rt:110:30
 part-entry-of-start : tie.Need-part-entry-of-start
 part-entry-of-start c = search needs
 
--- src/arguments.rt:110:30
 part-entry-of-end : tie.Need-part-entry-of-end
 part-entry-of-end c = search needs
 
--- src/arguments.rt:110:15
 entry-of-requires : tie.Need-entry-of-requires
 entry-of-requires c κs = search needs
 
--- src/arguments.rt:110:5
 slice-write-part : tie.Need-slice-write-part
 slice-write-part c = search needs
 
--- src/arguments.rt:112:9
 same-length : tie.Need-same-length
 same-length c = search needs
 
--- src/arguments.rt:112:9
 returns : tie.Need-returns
 returns c =
     let a = c .before .before .before .before .before .before .args in
     for-alone (a .s .now) (c .before .before .before .find .result) (c .before .before .before .find .ensures .0) (a .part .now) (c .before .entry-of .result) (c .before .before .before .before .before .before .pre) (c .if1 .taken) (c .before .entry-of .ensures)
 
--- src/arguments.rt:117:16
 add-from : tie.Need-add-from
 add-from c = search needs
 
--- src/arguments.rt:120:25
 sub-tier-of : tie.Need-sub-tier-of
 sub-tier-of c = search needs
 
--- src/arguments.rt:120:25
 part-tier-of-start : tie.Need-part-tier-of-start
 part-tier-of-start c = search needs
 
--- src/arguments.rt:120:25
 part-tier-of-end : tie.Need-part-tier-of-end
 part-tier-of-end c = search needs
 
--- src/arguments.rt:120:17
 tier-of-requires : tie.Need-tier-of-requires
 tier-of-requires c κs = search needs
 
--- src/arguments.rt:105:1
 same-length-2 : tie.Need-same-length-2
 same-length-2 c = search needs
 
--- src/arguments.rt:105:1
 returns-2 : tie.Need-returns-2
 returns-2 c =
     let d = c .before .before in

@@ -1,74 +1,53 @@
 -- By the kind of the opening word. Assumes nothing.
 use borrow.Author.Needs.{needs}
 use native.Mathlib.Omega.{arith}
-use mathlib.Core.Path.{_≡_, refl, sym, ap, _∙_}
-use mathlib.Core.Bool.{true, false}
-use mathlib.Core.List.{List, [], map}
-use Prim.Native.Nat.{ℕ, _+_, _-_, _≤_, _<_}
-use lib.ListN.{length, take, drop}
+use mathlib.Core.Path.{ap, _∙_}
+use mathlib.Core.List.{[]}
+use Prim.Native.Nat.{_-_}
+use lib.ListN.{length}
 use Rattle.reader.specs.Rows.{split}
 use Rattle.reader.specs.WordTable.{kindAt}
 use Rattle.reader.specs.Scan.{after}
-use Rattle.reader.specs.Operands.{next-alone, next-room, next-slots, row-alone, row-words, row-room, entries-for, entries-next, entries-numbers, for-room, slots-room, numbers-room, put-by}
+use Rattle.reader.specs.Operands.{row-alone, row-words, row-room, entries-for, entries-next, entries-numbers, for-room, slots-room, numbers-room, put-by}
 use Rattle.reader.proofs.operands.put_operands.Statement.{statement}
 use Rattle.reader.proofs.operands.put_operands.Tie as tie
-use Rattle.reader.proofs.operands.put_operands.Reads as reads
-use Rattle.reader.proofs.operands.put_operands.Lts as lts
-use Rattle.reader.proofs.operands.put_for.Reads as put-for-reads
-use Rattle.reader.proofs.operands.put_next.Reads as put-next-reads
-use Rattle.reader.proofs.operands.put_words.Reads as put-words-reads
-use Rattle.reader.proofs.scan.find.Reads as find-reads
-use Rattle.reader.proofs.words.kind_of.Reads as kind-of-reads
-use Rattle.reader.proofs.words.word_of.Reads as word-of-reads
 
--- src/operands.rt:152:9
 find-requires : tie.Need-find-requires
 find-requires c κs = search needs
 
--- src/operands.rt:154:9
 returns : tie.Need-returns
 returns c =
     let f = c .before in
     let a = f .before .before .before in
     row-alone (a .args .s .now) (f .find .result) (f .find .ensures .0) (a .args .part .now) (c .if1 .taken)
 
--- src/operands.rt:159:29
 sub-word-of : tie.Need-sub-word-of
 sub-word-of c = search needs
 
--- src/operands.rt:159:29
 part-word-of-start : tie.Need-part-word-of-start
 part-word-of-start c = search needs
 
--- src/operands.rt:159:29
 part-word-of-end : tie.Need-part-word-of-end
 part-word-of-end c = search needs
 
--- src/operands.rt:159:21
 word-of-requires : tie.Need-word-of-requires
 word-of-requires c κs = search needs
 
--- src/operands.rt:159:9
 kind-of-requires : tie.Need-kind-of-requires
 kind-of-requires c κs = search needs
 
--- src/operands.rt:160:16
 add-from : tie.Need-add-from
 add-from c = search needs
 
--- src/operands.rt:162:24
 sub-put-for : tie.Need-sub-put-for
 sub-put-for c = search needs
 
--- src/operands.rt:162:24
 part-put-for-start : tie.Need-part-put-for-start
 part-put-for-start c = search needs
 
--- src/operands.rt:162:24
 part-put-for-end : tie.Need-part-put-for-end
 part-put-for-end c = search needs
 
--- src/operands.rt:162:9
 put-for-requires : tie.Need-put-for-requires
 put-for-requires c κs =
     let k = c .before .before .before in
@@ -79,11 +58,9 @@ put-for-requires c κs =
     for-room (after s e) (k .kind-of .result) (length (a .args .part .now)) (c .before .before .if2 .taken)
     (row-room s e (f .find .ensures .0) [] [] (record { count = 0; detail = 0 }) (k .kind-of .result) (omega arith) (k .kind-of .ensures ∙ ap kindAt (k .before .word-of .ensures)) (length (a .args .part .now)) (a .pre))
 
--- src/operands.rt:162:9
 same-length : tie.Need-same-length
 same-length c = search needs
 
--- src/operands.rt:162:9
 returns-2 : tie.Need-returns-2
 returns-2 c =
     let w = c .before .before in
@@ -96,19 +73,15 @@ returns-2 c =
     row-words s e (f .find .ensures .0) (a .args .part .now) (w .put-for .last .1 .0) (w .put-for .result) (k .kind-of .result) (omega arith) (k .kind-of .ensures ∙ ap kindAt (k .before .word-of .ensures))
     (put-by (a .args .part .now) (w .put-for .last .1 .0) (w .put-for .result) (q .0) (q .1) (w .put-for .ensures))
 
--- src/operands.rt:165:25
 sub-put-next : tie.Need-sub-put-next
 sub-put-next c = search needs
 
--- src/operands.rt:165:25
 part-put-next-start : tie.Need-part-put-next-start
 part-put-next-start c = search needs
 
--- src/operands.rt:165:25
 part-put-next-end : tie.Need-part-put-next-end
 part-put-next-end c = search needs
 
--- src/operands.rt:165:9
 put-next-requires : tie.Need-put-next-requires
 put-next-requires c κs =
     let k = c .before .before .before .before in
@@ -119,11 +92,9 @@ put-next-requires c κs =
     slots-room (after s e) (k .kind-of .result) (length (a .args .part .now)) (c .before .before .if3 .taken)
     (row-room s e (f .find .ensures .0) [] [] (record { count = 0; detail = 0 }) (k .kind-of .result) (omega arith) (k .kind-of .ensures ∙ ap kindAt (k .before .word-of .ensures)) (length (a .args .part .now)) (a .pre))
 
--- src/operands.rt:165:9
 same-length-2 : tie.Need-same-length-2
 same-length-2 c = search needs
 
--- src/operands.rt:165:9
 returns-3 : tie.Need-returns-3
 returns-3 c =
     let w = c .before .before in
@@ -136,19 +107,15 @@ returns-3 c =
     row-words s e (f .find .ensures .0) (a .args .part .now) (w .put-next .last .1 .0) (w .put-next .result) (k .kind-of .result) (omega arith) (k .kind-of .ensures ∙ ap kindAt (k .before .word-of .ensures))
     (put-by (a .args .part .now) (w .put-next .last .1 .0) (w .put-next .result) (q .0) (q .1) (w .put-next .ensures))
 
--- src/operands.rt:167:15
 sub-put-words : tie.Need-sub-put-words
 sub-put-words c = search needs
 
--- src/operands.rt:167:15
 part-put-words-start : tie.Need-part-put-words-start
 part-put-words-start c = search needs
 
--- src/operands.rt:167:15
 part-put-words-end : tie.Need-part-put-words-end
 part-put-words-end c = search needs
 
--- src/operands.rt:167:5
 put-words-requires : tie.Need-put-words-requires
 put-words-requires c κs =
     let k = c .before .before .before .before in
@@ -159,11 +126,9 @@ put-words-requires c κs =
     numbers-room (after s e) (k .kind-of .result) (length (a .args .part .now)) (c .before .before .before .if2 .left) (c .before .before .if3 .left)
     (row-room s e (f .find .ensures .0) [] [] (record { count = 0; detail = 0 }) (k .kind-of .result) (omega arith) (k .kind-of .ensures ∙ ap kindAt (k .before .word-of .ensures)) (length (a .args .part .now)) (a .pre))
 
--- src/operands.rt:148:1
 same-length-3 : tie.Need-same-length-3
 same-length-3 c = search needs
 
--- src/operands.rt:148:1
 returns-4 : tie.Need-returns-4
 returns-4 c =
     let w = c .before .before in

@@ -4,13 +4,11 @@ use native.Mathlib.Omega.{arith}
 use native.Mathlib.Numerals.{add-one}
 use mathlib.Core.Path.{_≡_, refl, sym, ap, _∙_}
 use mathlib.Core.List.{List, _++_, append-nil}
-use Prim.Native.Nat.{ℕ, suc, _+_, _*_, _-_, _≤_, _<_}
-use lib.ListN.{length, take, drop, set, replicate, length-set, length-drop, drop-of-length-le}
-use Rattle.reader.specs.Tables.{zero-next, whole, entryRow, appendRow}
+use Prim.Native.Nat.{ℕ, _+_, _-_, _≤_}
+use lib.ListN.{length, drop, set, replicate, length-set, drop-of-length-le}
+use Rattle.reader.specs.Tables.{zero-next}
 use Rattle.reader.proofs.tables.zero16.Statement.{statement}
 use Rattle.reader.proofs.tables.zero16.Tie as tie
-use Rattle.reader.proofs.tables.zero16.Reads as reads
-use Rattle.reader.proofs.tables.zero16.Lts as lts
 
 abbrev Inv-loop : tie.InvT-loop
 Inv-loop t₀ i₀ t i = (i ≤ length t₀) × (t ≡ replicate i 0 ++ drop i t₀) × (length t ≡ length t₀)
@@ -18,38 +16,30 @@ Inv-loop t₀ i₀ t i = (i ≤ length t₀) × (t ≡ replicate i 0 ++ drop i t
 abbrev μ-loop : tie.MeasureT-loop
 μ-loop t₀ i₀ t i = length t₀ - i
 
--- src/tables.rt:23:5
 loop-holds : tie.Need-loop-holds Inv-loop μ-loop
 loop-holds c = (omega arith, refl, refl)
 
--- src/tables.rt:24:9
 mul-t : tie.Need-mul-t Inv-loop μ-loop
 mul-t c = search needs
 
--- src/tables.rt:24:9
 slice-write-t : tie.Need-slice-write-t Inv-loop μ-loop
 slice-write-t c = search needs
 
--- src/tables.rt:25:9
 add-i : tie.Need-add-i Inv-loop μ-loop
 add-i c = search needs
 
--- src/tables.rt:23:5
 loop-less : tie.Need-loop-less Inv-loop μ-loop
 loop-less c = omega arith
 
--- src/tables.rt:23:5
 loop-again : tie.Need-loop-again Inv-loop μ-loop
 loop-again c =
     let t₀ = c .before .before .args .t .now in
     let i = c .before .loop .i in
     (omega arith, ap (λ (l : List ℕ). set l i 0) (c .before .loop .inv .1) ∙ zero-next t₀ i (omega arith) ∙ ap (λ (n : ℕ). replicate n 0 ++ drop n t₀) (sym (add-one i)), length-set (c .before .loop .t) i 0 ∙ c .before .loop .inv .2)
 
--- src/tables.rt:19:1
 same-length : tie.Need-same-length Inv-loop μ-loop
 same-length c = c .before .loop .inv .2
 
--- src/tables.rt:19:1
 returns : tie.Need-returns Inv-loop μ-loop
 returns c =
     let t₀ = c .before .before .args .t .now in
