@@ -29,7 +29,7 @@ lt-by : (a b : ℕ) (t : Bool) → ltb a b ≡ t → (a < b) ⊎ (b ≤ a)
 lt-by a b true e = inl (ltb-true a b e)
 lt-by a b false e = inr (ltb-false a b e)
 
-lt-or : (a b : ℕ) → (a < b) ⊎ (b ≤ a)
+pub lt-or : (a b : ℕ) → (a < b) ⊎ (b ≤ a)
 lt-or a b = lt-by a b (ltb a b) refl
 
 zeros : (n q : ℕ) → _≡_ {A = ℕ} (getD (replicate n 0) q 0) 0

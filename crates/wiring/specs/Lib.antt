@@ -31,3 +31,10 @@ pub mod PerNodeLaws
 pub mod Theorems
 pub mod FrameStacks
 pub mod FrameStackLaws
+pub mod Frames
+pub mod FrameRows
+pub mod OpenerLaws
+pub mod MoveLaws
+pub mod FramePass
+pub mod FramePassLaws
+pub mod LinkLaws
