@@ -38,3 +38,7 @@ pub mod MoveLaws
 pub mod FramePass
 pub mod FramePassLaws
 pub mod LinkLaws
+pub mod Late
+pub mod FitLaws
+pub mod ChainLaws
+pub mod LateLaws

@@ -206,7 +206,7 @@ module _ (words : List ℕ) (ns : List Node) (worded : Worded words ns) (i : ℕ
   unfolding metOn wordMove
   kind-at = kind-of (getD words (i * 12) 0) f (openAt loopStack ns i) (openAt doStack ns i) (met-word loopStack) (met-word doStack)
 
-  frame-below : MetIs (λ (o : ℕ). o < i) (frameMet f)
+  pub frame-below : MetIs (λ (o : ℕ). o < i) (frameMet f)
   unfolding frameMet metOn
   frame-below = either-is (λ (o : ℕ). o < i) (f .loopMet) (f .doMet) (met-below loopStack ns i f at) (met-below doStack ns i f at)
 

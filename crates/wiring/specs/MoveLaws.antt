@@ -79,7 +79,7 @@ LoopRegion w joins = (19 ≤ w) × (w < 21)
 
 abbrev DoRegion : ℕ → Move → Type 0
 DoRegion w stays = Unit {0}
-DoRegion w opens = Unit {0}
+DoRegion w opens = w ≡ 21
 DoRegion w closes = w ≡ 23
 DoRegion w joins = w ≡ 22
 
@@ -112,7 +112,7 @@ module _ (w : ℕ) where
   unfolding doMove
   do-region =
       elim (ℕ-discrete w 21) [
-        | yes e ↦ rw (eq-eqb w 21 e) tt
+        | yes e ↦ rw (eq-eqb w 21 e) e
         | no e ↦ rest e
       ]
     where
@@ -141,6 +141,9 @@ module _ (w : ℕ) where
   do-closes e =
       let h : w ≡ 23 = rw e at (do-region w) in
       (ne-eqb w 22 (λ q. omega arith), or-none (eqb w 19) (eqb w 20) (ne-eqb w 19 (λ q. omega arith)) (ne-eqb w 20 (λ q. omega arith)))
+
+  pub do-opens : doMove w ≡ opens → w ≡ 21
+  do-opens e = rw e at (do-region w)
 
   pub do-joins : doMove w ≡ joins → eqb w 22 ≡ true
   do-joins e = eq-eqb w 22 (rw e at (do-region w))

@@ -11,13 +11,13 @@ const REPEAT: u16 = 15;
 
 const UNTIL: u16 = 17;
 
-const EXIT: u16 = 19;
+pub(crate) const EXIT: u16 = 19;
 
-const EXITIF: u16 = 20;
+pub(crate) const EXITIF: u16 = 20;
 
-const DOIF: u16 = 21;
+pub(crate) const DOIF: u16 = 21;
 
-const ELSE: u16 = 22;
+pub(crate) const ELSE: u16 = 22;
 
 const DONE: u16 = 23;
 

@@ -1,4 +1,5 @@
 // The wiring: the records of a listing to its graph.
 pub mod frames;
+pub mod late;
 pub mod lists;
 pub mod stacks;
