@@ -1,25 +1,25 @@
 -- The pass over the stacks: one node's step, and the entries that it leaves. Assumes nothing.
-use Prim.Native.Nat.{ℕ, zero, suc, _+_, _*_, _<_, _≤_}
+use Prim.Native.Nat.{ℕ, suc, _+_, _*_, _<_, _≤_}
 use mathlib.Core.Path.{_≡_, refl, sym, ap, _∙_}
 use mathlib.Core.List.{List, [], _∷_}
 use mathlib.Core.Logic.{_⊎_, inl, inr}
-use mathlib.Core.Option.{Option, some}
+use mathlib.Core.Option.{some}
 use native.Mathlib.Omega.{arith}
 use native.Mathlib.Numerals.{add-one}
 use native.Mathlib.Decide.{ℕ-discrete}
-use lib.ListN.{length, length-set, getD, getElem?, set}
+use lib.ListN.{length, length-set, getD, getElem?, set, replicate}
 use lib.Seq.{getD-set-same, getD-set-other}
 use Rattle.wiring.specs.Nodes.{Node}
 use Rattle.wiring.specs.NodeRecords.{stmtNumber}
 use Rattle.wiring.specs.Edges.{Move, stays, opens, closes, joins, nodeMoves, Stack, loopStack, doStack}
 use Rattle.wiring.specs.PerNode.{openersAfter, Met, nothing, closing, joining, meets, moveOn, metOn, noOpeners, Fact, facts}
 use Rattle.wiring.specs.Frames.{loopMove, doMove, wordMove, Worded, eitherMet, metNumber, frameMet, metEntry}
-use Rattle.wiring.specs.FrameStacks.{topOf, Holds, holds[], holds∷, Room, Pushed, PoppedIs, PoppedTo, TopIs}
-use Rattle.wiring.specs.FrameStackLaws.{room}
+use Rattle.wiring.specs.FrameStacks.{topOf, Holds, holds∷, Room, Pushed, PoppedIs, PoppedTo, TopIs}
+use Rattle.wiring.specs.FrameStackLaws.{zeros, room}
 use Rattle.wiring.specs.PerNodeLaws.{length-facts}
 use Rattle.wiring.specs.OpenerLaws.{some-at, in-range, openAt, open-start, open-next, open-desc, desc-top, met-at}
 use Rattle.wiring.specs.MoveLaws.{word-move, one-stack}
-use Rattle.wiring.specs.FramePass.{HoldsBelow, metWritten, Step, Stepped, AllZero, MetUpto, MetBelow, MetFrames}
+use Rattle.wiring.specs.FramePass.{HoldsBelow, metWritten, Stepped, AllZero, MetUpto, MetBelow, MetFrames}
 
 pub room-for : (ws : List ℕ) (i : ℕ) → HoldsBelow ws i → Room ws i
 room-for ws i h = room (h .held) i (h .below)
@@ -81,7 +81,7 @@ written-here opens i l t h z = z
 written-here closes i l t h z = getD-set-same t (i * 3) (topOf l) 0 h ∙ top-met l .0
 written-here joins i l t h z = getD-set-same t (i * 3) (topOf l) 0 h ∙ top-met l .1
 
-either-nothing : (x : Met) → eitherMet x nothing ≡ x
+pub either-nothing : (x : Met) → eitherMet x nothing ≡ x
 unfolding eitherMet
 either-nothing nothing = refl
 either-nothing (closing o) = refl
@@ -137,6 +137,9 @@ pub record Meeting (words : List ℕ) (n : ℕ) (ls ds t : List ℕ) (i : ℕ) :
   pub dos : HoldsBelow ds i
   pub below : MetBelow t
   pub of : (ns : List Node) → length ns ≡ n → Worded words ns → MetBy ns ls ds t i
+
+pub all-zero : (n : ℕ) → AllZero (replicate n 0)
+all-zero n = zeros n
 
 pub meeting-start : (words : List ℕ) (n : ℕ) (ls ds t : List ℕ) → Holds ls [] → Holds ds [] → AllZero t → Meeting words n ls ds t 0
 meeting-start words n ls ds t l d z = record {

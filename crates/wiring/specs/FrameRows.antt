@@ -9,7 +9,7 @@ use lib.ListN.{length, length-append, getD, getElem?, replicate, length-replicat
 use lib.Seq.{getD-append-add, ext-getD}
 use Rattle.reader.specs.Records.{padded}
 use Rattle.wiring.specs.Lists.{each, below}
-use Rattle.wiring.specs.FrameStackLaws.{lt-or}
+use Rattle.wiring.specs.FrameStackLaws.{lt-or, zeros}
 use Rattle.wiring.specs.PerNode.{Fact}
 use Rattle.wiring.specs.Frames.{nextWhere, closesFrame, metEntry, doMetOf, elseEntry, frameRow, frameRows, frameTable}
 
@@ -36,12 +36,6 @@ module _ (f : ℕ → List ℕ) (three : (r : ℕ) → length (f r) ≡ 3) where
             ap (λ (x : ℕ). getD (each f (below n) ++ f n) x 0) z ∙ getD-append-add (each f (below n)) (f n) c 0 ∙ ap (λ (x : ℕ). getD (f x) c 0) (sym e)
         | no e ↦ List·getD-append (each f (below n)) (f n) 0 (r * 3 + c) (omega (arith, rows-length n)) ∙ rows-at n r c (omega arith) g
       ])
-
-zeros : (n q : ℕ) → _≡_ {A = ℕ} (getD (replicate n 0) q 0) 0
-zeros zero zero = refl
-zeros zero (suc q) = refl
-zeros (suc n) zero = refl
-zeros (suc n) (suc q) = zeros n q
 
 padded-at : (n : ℕ) (l : List ℕ) (q : ℕ) → q < length l → getD (padded n l) q 0 ≡ getD l q 0
 unfolding padded

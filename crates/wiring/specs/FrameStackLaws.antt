@@ -32,7 +32,7 @@ lt-by a b false e = inr (ltb-false a b e)
 pub lt-or : (a b : ℕ) → (a < b) ⊎ (b ≤ a)
 lt-or a b = lt-by a b (ltb a b) refl
 
-zeros : (n q : ℕ) → _≡_ {A = ℕ} (getD (replicate n 0) q 0) 0
+pub zeros : (n q : ℕ) → _≡_ {A = ℕ} (getD (replicate n 0) q 0) 0
 zeros zero zero = refl
 zeros zero (suc q) = refl
 zeros (suc n) zero = refl

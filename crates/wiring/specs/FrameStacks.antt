@@ -1,7 +1,7 @@
 -- A stack of frames as marks in words: the opener i is bit i % 64 of word i / 64; openers ascend, so that the highest mark is the top. Assumes nothing.
 use mathlib.Core.Path.{_≡_}
 use mathlib.Core.List.{List, [], _∷_, _++_}
-use Prim.Native.Nat.{ℕ, zero, suc, _+_, _-_, _*_, _/_, _%_, _^_, _≤_, _<_}
+use Prim.Native.Nat.{ℕ, zero, suc, _+_, _*_, _/_, _%_, _^_, _≤_, _<_}
 use lib.ListN.{length, getD, set}
 
 -- one more than the newest, or 0

@@ -1,8 +1,8 @@
 -- The table of frames: for each node the opener of the frame that it closes or joins, the closer of the frame that it opens, the next ELSE of its DOIF.
 -- A node is one more than its id, none is 0. Assumes nothing.
-use Prim.Native.Nat.{ℕ, zero, suc, _*_}
+use Prim.Native.Nat.{ℕ, suc, _*_}
 use mathlib.Core.Path.{_≡_}
-use mathlib.Core.Bool.{Bool, true, false}
+use mathlib.Core.Bool.{Bool}
 use mathlib.Core.List.{List, [], _∷_}
 use mathlib.Core.Option.{Option, none, some}
 use lib.Dec.{eqb, ltb}

@@ -4,13 +4,11 @@ use mathlib.Core.Path.{_≡_, refl, sym, ap, subst, _∙_}
 use mathlib.Core.Bool.{Bool, true, false, _||_}
 use mathlib.Core.List.{List, [], _∷_, _++_, append-nil}
 use mathlib.Core.Logic.{_⊎_, inl, inr}
-use mathlib.Core.Option.{Option, none, some}
+use mathlib.Core.Option.{some}
 use native.Mathlib.Omega.{arith}
-use native.Mathlib.Decide.{ℕ-discrete}
 use lib.Dec.{eqb}
 use lib.ListN.{length, drop, getD, getElem?}
-use lib.Seq.{drop-drop}
-use borrow.Author.Tests.{eq-eqb, ne-eqb, eqb-true}
+use borrow.Author.Tests.{ne-eqb, eqb-true}
 use Rattle.reader.specs.Bytes.{pick}
 use Rattle.reader.specs.Every.{All, all[], all∷}
 use Rattle.wiring.specs.Lists.{each, list}
@@ -19,13 +17,14 @@ use Rattle.wiring.specs.NodeRecords.{stmtNumber}
 use Rattle.wiring.specs.Edges.{Move, stays, opens, closes, joins, nodeMoves, Stack, loopStack, doStack}
 use Rattle.wiring.specs.PerNode.{Met, nothing, closing, joining, meets, isClosing, isJoining, moveOn, metOn, noOpeners, Fact, facts, fallsWhere, someWhere, closerFall, doifFalls, late}
 use Rattle.wiring.specs.Adding.{nodeNumber, decode, decode-number, Added, added-none}
-use Rattle.wiring.specs.Frames.{loopMove, doMove, wordMove, Worded, eitherMet, frameMet, metNumber, metEntry, closesFrame, isElseOf, firstWhere, nextWhere, doMetOf, elseEntry, frameTable}
+use Rattle.wiring.specs.Frames.{loopMove, doMove, wordMove, eitherMet, frameMet, metNumber, metEntry, closesFrame, isElseOf, firstWhere, nextWhere, doMetOf, elseEntry}
 use Rattle.wiring.specs.PerNodeLaws.{length-facts}
-use Rattle.wiring.specs.OpenerLaws.{MetIs, some-at, in-range, OpensHere, openAt, met-at, stmt-at, met-below, met-opened, closed-once, node-of}
+use Rattle.wiring.specs.OpenerLaws.{MetIs, some-at, in-range, OpensHere, openAt, met-at, stmt-at, met-opened, closed-once, node-of}
 use Rattle.wiring.specs.MoveLaws.{word-move, one-stack, isExit, loop-joins, do-joins, do-opens}
 use Rattle.wiring.specs.FrameRows.{met-entry, closer-entry, else-entry}
+use Rattle.wiring.specs.FramePassLaws.{either-nothing}
 use Rattle.wiring.specs.LinkLaws.{met-word, frame-below}
-use Rattle.wiring.specs.Late.{fallBy, fallFrom, FallFits, FallFitsFrom, AboveNode, ElseChain, chain[], chain∷, ElsesFit, elsesOr, DoifFits, DoifAdded, closerFrom, CloserFits, joinsWord, LateTables, LateReady, lateEdges, LateAdded}
+use Rattle.wiring.specs.Late.{fallBy, fallFrom, FallFits, FallFitsFrom, AboveNode, ElseChain, chain[], chain∷, elsesOr, DoifFits, DoifAdded, closerFrom, CloserFits, joinsWord, LateTables, LateReady, lateEdges, LateAdded}
 
 -- ---- the nodes from k on that pass a test
 unfoldable nodesWhere : (Fact → Bool) → ℕ → List Fact → List ℕ
@@ -170,24 +169,18 @@ module _ (ns : List Node) where
         | inr e ↦ inr (met-at doStack ns j (d .0) f (d .1) at ∙ rw e)
       ]
 
-  either-none : (x : Met) → eitherMet x nothing ≡ x
-  unfolding eitherMet
-  either-none nothing = refl
-  either-none (closing o) = refl
-  either-none (joining o) = refl
-
   -- the frame of an opener is closed on its own stack
   same-closer : (s : Stack) (o : ℕ) → OpensHere s ns o → (j : ℕ) (f : Fact) → getElem? F j ≡ some f → closesFrame o f ≡ isClosing o (metOn s f)
   unfolding closesFrame frameMet eitherMet metOn isClosing
   same-closer loopStack o h j f at =
       elim (one-met j f at) [
         | inl e ↦ rw e (no-closing (OpensHere doStack ns) o (opens-one o h) (f .doMet) (met-opened doStack ns j f at))
-        | inr e ↦ rw e (ap (isClosing o) (either-none (f .loopMet)))
+        | inr e ↦ rw e (ap (isClosing o) (either-nothing (f .loopMet)))
       ]
   same-closer doStack o h j f at =
       elim (one-met j f at) [
         | inl e ↦ rw e
-        | inr e ↦ rw e (ap (isClosing o) (either-none (f .loopMet)) ∙ no-closing (OpensHere loopStack ns) o (λ a. opens-one o a h) (f .loopMet) (met-opened loopStack ns j f at))
+        | inr e ↦ rw e (ap (isClosing o) (either-nothing (f .loopMet)) ∙ no-closing (OpensHere loopStack ns) o (λ a. opens-one o a h) (f .loopMet) (met-opened loopStack ns j f at))
       ]
 
   -- two tests that agree on all facts
@@ -298,7 +291,7 @@ module _ (ns : List Node) where
       exit-late a b =
           let m : f .loopMet ≡ meets joins (openAt loopStack ns i) = met-word stmts ns (t .worded) i f at loopStack ∙ rw a in
           let d : f .doMet ≡ nothing = met-word stmts ns (t .worded) i f at doStack ∙ rw b in
-          late-words ∙ rw (a, b, met-is, d, either-none (f .loopMet))
+          late-words ∙ rw (a, b, met-is, d, either-nothing (f .loopMet))
           (append-nil (closerFall loopStack F (f .loopMet)) ∙ closer-met loopStack (openAt loopStack ns i) (f .loopMet) m (met-opened loopStack ns i f at))
 
       else-late : loopMove word ≡ stays → doMove word ≡ joins → lateEdges F i f ≡ closerFrom falls frames (getD frames (i * 3) 0)

@@ -42,3 +42,4 @@ pub mod Late
 pub mod FitLaws
 pub mod ChainLaws
 pub mod LateLaws
+pub mod FrameCases

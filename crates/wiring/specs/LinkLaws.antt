@@ -3,8 +3,8 @@ use Prim.Native.Nat.{ℕ, zero, suc, _+_, _-_, _*_, _/_, _%_, _<_, _≤_}
 use mathlib.Core.Path.{_≡_, refl, sym, ap, _∙_}
 use mathlib.Core.Bool.{Bool, true, false, _||_}
 use mathlib.Core.List.{List, [], _∷_}
-use mathlib.Core.Logic.{_⊎_, inl, inr}
-use mathlib.Core.Option.{Option, none, some}
+use mathlib.Core.Logic.{inl, inr}
+use mathlib.Core.Option.{some}
 use native.Mathlib.Omega.{arith}
 use native.Mathlib.Numerals.{add-one, sub-one}
 use native.Mathlib.Decide.{ℕ-discrete}
@@ -14,14 +14,13 @@ use lib.Seq.{getD-set-same, getD-set-other}
 use borrow.Author.Tests.{eq-eqb, ne-eqb, le-leb, lt-leb}
 use Rattle.reader.specs.Bytes.{pick}
 use Rattle.wiring.specs.Nodes.{Node}
-use Rattle.wiring.specs.NodeRecords.{stmtNumber}
-use Rattle.wiring.specs.Edges.{Move, stays, opens, closes, joins, nodeMoves, Stack, loopStack, doStack}
-use Rattle.wiring.specs.PerNode.{Met, nothing, closing, joining, meets, isClosing, isJoining, moveOn, metOn, noOpeners, Fact, facts}
-use Rattle.wiring.specs.Frames.{loopMove, doMove, wordMove, Worded, eitherMet, frameMet, metNumber, metEntry, closesFrame, isElseOf, firstWhere, nextWhere, doMetOf, elseEntry, frameTable, Framed}
+use Rattle.wiring.specs.Edges.{Move, stays, opens, closes, joins, Stack, loopStack, doStack}
+use Rattle.wiring.specs.PerNode.{Met, nothing, closing, joining, meets, isClosing, isJoining, metOn, noOpeners, Fact, facts}
+use Rattle.wiring.specs.Frames.{loopMove, doMove, wordMove, Worded, eitherMet, frameMet, metNumber, metEntry, closesFrame, isElseOf, firstWhere, nextWhere, doMetOf, elseEntry, Framed}
 use Rattle.wiring.specs.FrameStackLaws.{lt-or}
 use Rattle.wiring.specs.FrameRows.{table-is}
 use Rattle.wiring.specs.PerNodeLaws.{length-facts}
-use Rattle.wiring.specs.OpenerLaws.{MetIs, some-at, in-range, openAt, met-at, met-below, node-of}
+use Rattle.wiring.specs.OpenerLaws.{MetIs, some-at, openAt, met-at, met-below, node-of}
 use Rattle.wiring.specs.MoveLaws.{word-move, one-stack, isExit, loop-closes, loop-joins, do-closes, do-joins}
 use Rattle.wiring.specs.FramePass.{MetUpto, MetBelow, MetFrames, elseLinked, linkedTo, linked, LinkedFrom}
 

@@ -1,6 +1,6 @@
 -- What a statement does to the stacks, by its opening word. Assumes nothing.
 use Prim.Native.Nat.{ℕ, _<_, _≤_}
-use mathlib.Core.Path.{_≡_, refl, sym, _∙_}
+use mathlib.Core.Path.{_≡_, refl}
 use mathlib.Core.Bool.{Bool, true, false, _||_}
 use mathlib.Core.Logic.{_⊎_, inl, inr}
 use native.Mathlib.Omega.{arith}
@@ -9,12 +9,12 @@ use lib.Dec.{eqb}
 use borrow.Author.Tests.{eq-eqb, ne-eqb, lt-ltb, le-ltb}
 use Rattle.reader.specs.Bytes.{same, pick, bytes}
 use Rattle.reader.specs.Rows.{openingWords}
-use Rattle.reader.specs.Listing.{Simple, goto, gosub, return, run, runto, ongoto, ongosub, for, next, repeat, loop, until, endloop, exit, exitif, doif, else, done, clr, stop, any, CondWord, if, ifelse, rcomp}
+use Rattle.reader.specs.Listing.{Simple, goto, gosub, return, run, runto, ongoto, ongosub, for, next, repeat, loop, until, endloop, exit, exitif, doif, else, done, clr, stop, any, if, ifelse, rcomp}
 use Rattle.reader.specs.ListingText.{simpleWord, condWord}
 use Rattle.reader.specs.WordTable.{words, first, wordIndex}
 use Rattle.wiring.specs.Nodes.{NodeStmt, simple, cond}
 use Rattle.wiring.specs.NodeRecords.{stmtWord, stmtNumber}
-use Rattle.wiring.specs.Edges.{Move, stays, opens, closes, joins, Moves, onFors, onLoops, onDos, noMoves, movesOf, nodeMoves, Stack, loopStack, doStack}
+use Rattle.wiring.specs.Edges.{Move, stays, opens, closes, joins, onFors, onLoops, onDos, noMoves, movesOf, nodeMoves, Stack, loopStack, doStack}
 use Rattle.wiring.specs.PerNode.{moveOn}
 use Rattle.wiring.specs.FrameStackLaws.{lt-or}
 use Rattle.wiring.specs.Frames.{loopMove, doMove, wordMove}

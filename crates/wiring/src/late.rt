@@ -12,7 +12,7 @@ use crate::frames::wide;
 use crate::lists::add_some;
 
 // A list of distinct nodes that fills its part has every node already.
-fn add_fitting(part: &mut [u16], n: usize, t: u16) -> usize
+pub(crate) fn add_fitting(part: &mut [u16], n: usize, t: u16) -> usize
     requires { ⌜ FitsPart (now part) n × (t ≤ length (now part)) ⌝ }
     ensures { λ r. ⌜ Added (now (part .entry)) n (now (part .exit)) r (decode t) × FitsPart (now (part .exit)) r ⌝ }
 {

@@ -1,7 +1,5 @@
 -- `add_elses`: the ELSEs that are done, and the rest of the chain. Assumes nothing.
 use borrow.Author.Needs.{needs}
-use Prim.Native.Nat.{ℕ, _<_}
-use mathlib.Core.Path.{sym}
 use native.Mathlib.Omega.{arith}
 use lib.ListN.{length}
 use Rattle.wiring.specs.ChainLaws.{chainLeft, Walk, walk-start, walk-visit, walk-next, walk-end}

@@ -1,5 +1,4 @@
 -- `joins_frame`: by the tests that the word passes. Assumes nothing.
-use borrow.Author.Needs.{needs}
 use borrow.Author.Tests.{eq-eqb, ne-eqb}
 use Rattle.wiring.specs.Late.{joinsWord}
 use Rattle.wiring.proofs.late.joins_frame.Statement.{statement}
