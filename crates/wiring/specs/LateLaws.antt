@@ -4,7 +4,7 @@ use mathlib.Core.Path.{_≡_, refl, sym, ap, subst, _∙_}
 use mathlib.Core.Bool.{Bool, true, false, _||_}
 use mathlib.Core.List.{List, [], _∷_, _++_, append-nil}
 use mathlib.Core.Logic.{_⊎_, inl, inr}
-use mathlib.Core.Option.{some}
+use mathlib.Core.Option.{Option, none, some}
 use native.Mathlib.Omega.{arith}
 use lib.Dec.{eqb}
 use lib.ListN.{length, drop, getD, getElem?}
@@ -14,12 +14,14 @@ use Rattle.reader.specs.Every.{All, all[], all∷}
 use Rattle.wiring.specs.Lists.{each, list}
 use Rattle.wiring.specs.Nodes.{Node}
 use Rattle.wiring.specs.NodeRecords.{stmtNumber}
+use Rattle.wiring.specs.NodeLaws.{Below, NodeFits}
+use Rattle.wiring.specs.Members.{all-at}
 use Rattle.wiring.specs.Edges.{Move, stays, opens, closes, joins, nodeMoves, Stack, loopStack, doStack}
 use Rattle.wiring.specs.PerNode.{Met, nothing, closing, joining, meets, isClosing, isJoining, moveOn, metOn, noOpeners, Fact, facts, fallsWhere, someWhere, closerFall, doifFalls, late}
 use Rattle.wiring.specs.Adding.{nodeNumber, decode, decode-number, Added, added-none}
 use Rattle.wiring.specs.Frames.{loopMove, doMove, wordMove, eitherMet, frameMet, metNumber, metEntry, closesFrame, isElseOf, firstWhere, nextWhere, doMetOf, elseEntry}
 use Rattle.wiring.specs.PerNodeLaws.{length-facts}
-use Rattle.wiring.specs.OpenerLaws.{MetIs, some-at, in-range, OpensHere, openAt, met-at, stmt-at, met-opened, closed-once, node-of}
+use Rattle.wiring.specs.OpenerLaws.{MetIs, some-at, in-range, OpensHere, openAt, met-at, fall-at, stmt-at, met-opened, closed-once, node-of}
 use Rattle.wiring.specs.MoveLaws.{word-move, one-stack, isExit, loop-joins, do-joins, do-opens}
 use Rattle.wiring.specs.FrameRows.{met-entry, closer-entry, else-entry}
 use Rattle.wiring.specs.FramePassLaws.{either-nothing}
@@ -373,6 +375,24 @@ module _ (ns : List Node) where
 
         joined-fits : CloserFits falls frames m (getD frames (i * 3) 0)
         joined-fits = rw met-is (met-fits (frameMet f) (frame-below stmts ns (t .worded) i f at))
+
+-- ---- for the callers: a listing's nodes fall to nodes
+number-below : (n : ℕ) (e : Option ℕ) → Below n e → nodeNumber e ≤ n
+number-below n none h = omega arith
+number-below n (some a) h = h
+
+pub late-ready : (stmts falls frames : List ℕ) (i m : ℕ) (ns : List Node) → LateTables stmts falls frames ns → i < length ns → length ns ≤ m → All (NodeFits (length ns)) ns
+    → LateReady stmts falls frames i m
+late-ready stmts falls frames i m ns t h g a = record {
+  nodes = ns;
+  tables = t;
+  node = h;
+  fall-below = λ j l.
+      let d = some-at ns j l in
+      let f = some-at (facts 0 ns noOpeners) j (omega (arith, length-facts 0 ns noOpeners)) in
+      let b : Below (length ns) (f .0 .fall) = rw (fall-at loopStack ns j (d .0) (f .0) (d .1) (f .1)) (all-at a j (d .0) (d .1) .0) in
+      omega (arith, t .falling j (f .0) (f .1), number-below (length ns) (f .0 .fall) b);
+}
 
 -- ---- for the code
 module _ (stmts falls frames : List ℕ) (i m : ℕ) (r : LateReady stmts falls frames i m) where

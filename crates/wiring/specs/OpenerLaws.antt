@@ -138,6 +138,12 @@ module _ (s : Stack) (ns : List Node) where
       let q : factOf d (openersAt 0 ns noOpeners j) ≡ f = let h = fact-at 0 ns noOpeners j d e in cc in
       ap (metOn s) (sym q) ∙ met-of s d (openersAt 0 ns noOpeners j)
 
+  pub fall-at : (j : ℕ) (d : Node) (f : Fact) → getElem? ns j ≡ some d → getElem? (facts 0 ns noOpeners) j ≡ some f → f .fall ≡ d .fall
+  unfolding factOf
+  fall-at j d f e g =
+      let q : factOf d (openersAt 0 ns noOpeners j) ≡ f = let h = fact-at 0 ns noOpeners j d e in cc in
+      ap (λ (x : Fact). x .fall) (sym q)
+
   pub stmt-at : (j : ℕ) (d : Node) (f : Fact) → getElem? ns j ≡ some d → getElem? (facts 0 ns noOpeners) j ≡ some f → f .stmt ≡ d .stmt
   unfolding factOf
   stmt-at j d f e g =
