@@ -36,3 +36,17 @@ pub mod Sets
 pub mod SetLaws
 pub mod ReturnSets
 pub mod ReturnSetLaws
+pub mod FrameStacks
+pub mod FrameStackLaws
+pub mod Frames
+pub mod FrameRows
+pub mod OpenerLaws
+pub mod MoveLaws
+pub mod FramePass
+pub mod FramePassLaws
+pub mod LinkLaws
+pub mod Late
+pub mod FitLaws
+pub mod ChainLaws
+pub mod LateLaws
+pub mod FrameCases

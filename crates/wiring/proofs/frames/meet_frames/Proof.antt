@@ -1,0 +1,89 @@
+-- `meet_frames`: both stacks and the first column before node i. Assumes nothing.
+use borrow.Author.Needs.{needs}
+use Prim.Native.Nat.{_≤_, _-_}
+use mathlib.Core.Path.{_≡_, refl, _∙_}
+use native.Mathlib.Omega.{arith}
+use lib.ListN.{length}
+use Rattle.wiring.specs.FramePassLaws.{Meeting, meeting-start, meeting-next, meeting-end}
+use Rattle.wiring.proofs.frames.meet_frames.Statement.{statement}
+use Rattle.wiring.proofs.frames.meet_frames.Tie as tie
+
+abbrev Inv-loop : tie.InvT-loop
+Inv-loop stmts n frames₀ loops₀ dos₀ i₀ frames loops dos i = (i ≤ n) × (length frames ≡ length frames₀) × Meeting stmts n (loops .words) (dos .words) frames i
+
+abbrev μ-loop : tie.MeasureT-loop
+μ-loop stmts n frames₀ loops₀ dos₀ i₀ frames loops dos i = n - i
+
+new-requires : tie.Need-new-requires Inv-loop μ-loop
+new-requires c κs = search needs
+
+new-requires-2 : tie.Need-new-requires-2 Inv-loop μ-loop
+new-requires-2 c κs = search needs
+
+loop-holds : tie.Need-loop-holds Inv-loop μ-loop
+loop-holds c = (omega arith, refl, meeting-start _ _ _ _ _ (c .before .new .ensures) (c .new2 .ensures) (c .before .before .before .before .pre .1))
+
+mul-word : tie.Need-mul-word Inv-loop μ-loop
+mul-word c = search needs
+
+mul-word-2 : tie.Need-mul-word-2 Inv-loop μ-loop
+mul-word-2 c = search needs
+
+shared-slice-read-word : tie.Need-shared-slice-read-word Inv-loop μ-loop
+shared-slice-read-word c = search needs
+
+loop-move-requires : tie.Need-loop-move-requires Inv-loop μ-loop
+loop-move-requires c κs = search needs
+
+frame-step-requires : tie.Need-frame-step-requires Inv-loop μ-loop
+frame-step-requires c κs = (omega arith, c .before .before .before .before .loop .inv .2 .loops)
+
+do-move-requires : tie.Need-do-move-requires Inv-loop μ-loop
+do-move-requires c κs = search needs
+
+frame-step-requires-2 : tie.Need-frame-step-requires-2 Inv-loop μ-loop
+frame-step-requires-2 c κs = search needs
+
+add-i : tie.Need-add-i Inv-loop μ-loop
+add-i c = search needs
+
+loop-less : tie.Need-loop-less Inv-loop μ-loop
+loop-less c = search needs
+
+loop-again : tie.Need-loop-again Inv-loop μ-loop
+loop-again c =
+    let l = c .before .before .before .before .before .before .before .before .before .before .before .before .loop in
+    let s = c .before .before .before .before .before .before .before .frame-step in
+    let d = c .before .before .frame-step2 in (
+      omega arith,
+      d .kept .1 .1 .1 .0 ∙ s .kept .1 .1 .1 .0 ∙ l .inv .1,
+      meeting-next _ _ _ _ _ _ _ _ _ (l .i) _ _ _ (c .before .before .before .before .before .before .before .before .before .before .before .loop-test .taken) refl (c .before .before .before .before .before .before .before .before .before .loop-move .ensures) (c .before .before .before .before .do-move .ensures) (omega (arith, l .inv .1, c .before .before .before .before .before .before .before .before .before .before .before .before .before .before .before .before .before .pre .0)) (s .ensures) (d .ensures) (l .inv .2),
+    )
+
+same-length : tie.Need-same-length Inv-loop μ-loop
+same-length c = search needs
+
+returns : tie.Need-returns Inv-loop μ-loop
+returns c = meeting-end _ _ _ _ _ _ (omega arith) (c .before .loop .inv .2)
+
+pub meet-frames-spec : {M : Type 1} → statement M
+meet-frames-spec =
+    tie.close
+    (tie.spec
+    Inv-loop
+    μ-loop
+    new-requires
+    new-requires-2
+    loop-holds
+    mul-word
+    mul-word-2
+    shared-slice-read-word
+    loop-move-requires
+    frame-step-requires
+    do-move-requires
+    frame-step-requires-2
+    add-i
+    loop-less
+    loop-again
+    same-length
+    returns)

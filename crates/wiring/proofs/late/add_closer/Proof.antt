@@ -1,0 +1,54 @@
+-- `add_closer`: nothing, or where the closer falls. Assumes nothing.
+use borrow.Author.Needs.{needs}
+use native.Mathlib.Omega.{arith}
+use Rattle.wiring.specs.ChainLaws.{closer-there, closer-fits, closer-none, closer-some}
+use Rattle.wiring.proofs.late.add_closer.Statement.{statement}
+use Rattle.wiring.proofs.late.add_closer.Tie as tie
+
+returns : tie.Need-returns
+returns c = let s = c .before .before .before .before in (closer-none (s .args .falls .now) (s .args .frames .now) _ _ (s .args .met) (c .if1 .taken), s .pre .0)
+
+sub-opener : tie.Need-sub-opener
+sub-opener c = search needs
+
+mul-wide : tie.Need-mul-wide
+mul-wide c = let s = c .before .before .before .before in omega (arith, closer-there (s .args .falls .now) (s .args .frames .now) _ (s .args .met) (c .if1 .left) (s .pre .1))
+
+add-wide : tie.Need-add-wide
+add-wide c = let s = c .before .before .before .before in omega (arith, closer-there (s .args .falls .now) (s .args .frames .now) _ (s .args .met) (c .if1 .left) (s .pre .1))
+
+mul-wide-2 : tie.Need-mul-wide-2
+mul-wide-2 c = let s = c .before .before .before .before in omega (arith, closer-there (s .args .falls .now) (s .args .frames .now) _ (s .args .met) (c .if1 .left) (s .pre .1))
+
+shared-slice-read-wide : tie.Need-shared-slice-read-wide
+shared-slice-read-wide c = let s = c .before .before .before .before .before in closer-there (s .args .falls .now) (s .args .frames .now) _ (s .args .met) (c .before .if1 .left) (s .pre .1)
+
+wide-requires : tie.Need-wide-requires
+wide-requires c κs = search needs
+
+add-fall-requires : tie.Need-add-fall-requires
+add-fall-requires c κs = let s = c .before .before .before .before .before .before .before in (s .pre .0, closer-fits (s .args .falls .now) (s .args .frames .now) _ (s .args .met) _ (c .before .before .before .if1 .left) (c .before .wide .ensures) (s .pre .1))
+
+same-length : tie.Need-same-length
+same-length c = search needs
+
+returns-2 : tie.Need-returns-2
+returns-2 c =
+    let s = c .before .before .before .before .before .before .before .before .before .before in
+    let a = c .before .before .add-fall .ensures in
+    (closer-some (s .args .falls .now) (s .args .frames .now) _ _ _ _ (s .args .met) _ (c .before .before .before .before .before .before .if1 .left) (c .before .before .before .before .wide .ensures) (a .0), a .1)
+
+pub add-closer-spec : {M : Type 1} → statement M
+add-closer-spec =
+    tie.close
+    (tie.spec
+    returns
+    sub-opener
+    mul-wide
+    add-wide
+    mul-wide-2
+    shared-slice-read-wide
+    wide-requires
+    add-fall-requires
+    same-length
+    returns-2)

@@ -1,0 +1,124 @@
+-- `add_elses`: the ELSEs that are done, and the rest of the chain. Assumes nothing.
+use borrow.Author.Needs.{needs}
+use native.Mathlib.Omega.{arith}
+use lib.ListN.{length}
+use Rattle.wiring.specs.ChainLaws.{chainLeft, Walk, walk-start, walk-visit, walk-next, walk-end}
+use Rattle.wiring.proofs.late.add_elses.Statement.{statement}
+use Rattle.wiring.proofs.late.add_elses.Tie as tie
+
+abbrev Inv-loop : tie.InvT-loop
+Inv-loop falls frames first part₀ n r₀ c₀ part r c = Walk falls frames first part₀ n part r c
+
+abbrev μ-loop : tie.MeasureT-loop
+μ-loop falls frames first part₀ n r₀ c₀ part r c = chainLeft (length frames) c
+
+loop-holds : tie.Need-loop-holds Inv-loop μ-loop
+loop-holds c = let s = c .before .before .before in walk-start _ _ _ _ _ (s .pre .0) (s .pre .1)
+
+sub-j : tie.Need-sub-j Inv-loop μ-loop
+sub-j c = search needs
+
+mul-add-fitting : tie.Need-mul-add-fitting Inv-loop μ-loop
+mul-add-fitting c =
+    let a = c .before .before .before .before .before .before .args in
+    let l = c .before .before .loop in
+    let v = walk-visit (a .falls .now) (a .frames .now) (a .first) (a .part .now) (a .n) (l .part) (l .r) (l .c) (c .before .loop-test .taken) (l .inv) in
+    omega (arith, v .there)
+
+mul-add-fitting-2 : tie.Need-mul-add-fitting-2 Inv-loop μ-loop
+mul-add-fitting-2 c =
+    let a = c .before .before .before .before .before .before .args in
+    let l = c .before .before .loop in
+    let v = walk-visit (a .falls .now) (a .frames .now) (a .first) (a .part .now) (a .n) (l .part) (l .r) (l .c) (c .before .loop-test .taken) (l .inv) in
+    omega (arith, v .there)
+
+shared-slice-read-add-fitting : tie.Need-shared-slice-read-add-fitting Inv-loop μ-loop
+shared-slice-read-add-fitting c =
+    let a = c .before .before .before .before .before .before .before .args in
+    let l = c .before .before .before .loop in
+    let v = walk-visit (a .falls .now) (a .frames .now) (a .first) (a .part .now) (a .n) (l .part) (l .r) (l .c) (c .before .before .loop-test .taken) (l .inv) in
+    v .there
+
+add-fitting-requires : tie.Need-add-fitting-requires Inv-loop μ-loop
+add-fitting-requires c κs =
+    let a = c .before .before .before .before .before .before .before .args in
+    let l = c .before .before .before .loop in
+    let v = walk-visit (a .falls .now) (a .frames .now) (a .first) (a .part .now) (a .n) (l .part) (l .r) (l .c) (c .before .before .loop-test .taken) (l .inv) in
+    (l .inv .fits, v .leads)
+
+mul-wide : tie.Need-mul-wide Inv-loop μ-loop
+mul-wide c =
+    let a = c .before .before .before .before .before .before .before .before .before .before .args in
+    let l = c .before .before .before .before .before .before .loop in
+    let v = walk-visit (a .falls .now) (a .frames .now) (a .first) (a .part .now) (a .n) (l .part) (l .r) (l .c) (c .before .before .before .before .before .loop-test .taken) (l .inv) in
+    omega (arith, v .linked)
+
+add-wide : tie.Need-add-wide Inv-loop μ-loop
+add-wide c =
+    let a = c .before .before .before .before .before .before .before .before .before .before .args in
+    let l = c .before .before .before .before .before .before .loop in
+    let v = walk-visit (a .falls .now) (a .frames .now) (a .first) (a .part .now) (a .n) (l .part) (l .r) (l .c) (c .before .before .before .before .before .loop-test .taken) (l .inv) in
+    omega (arith, v .linked)
+
+mul-wide-2 : tie.Need-mul-wide-2 Inv-loop μ-loop
+mul-wide-2 c =
+    let a = c .before .before .before .before .before .before .before .before .before .before .args in
+    let l = c .before .before .before .before .before .before .loop in
+    let v = walk-visit (a .falls .now) (a .frames .now) (a .first) (a .part .now) (a .n) (l .part) (l .r) (l .c) (c .before .before .before .before .before .loop-test .taken) (l .inv) in
+    omega (arith, v .linked)
+
+shared-slice-read-wide : tie.Need-shared-slice-read-wide Inv-loop μ-loop
+shared-slice-read-wide c =
+    let a = c .before .before .before .before .before .before .before .before .before .before .before .args in
+    let l = c .before .before .before .before .before .before .before .loop in
+    let v = walk-visit (a .falls .now) (a .frames .now) (a .first) (a .part .now) (a .n) (l .part) (l .r) (l .c) (c .before .before .before .before .before .before .loop-test .taken) (l .inv) in
+    v .linked
+
+wide-requires : tie.Need-wide-requires Inv-loop μ-loop
+wide-requires c κs = search needs
+
+loop-less : tie.Need-loop-less Inv-loop μ-loop
+loop-less c =
+    let a = c .before .before .before .before .before .before .before .before .before .before .before .before .args in
+    let l = c .before .before .before .before .before .before .before .before .loop in
+    let v = walk-visit (a .falls .now) (a .frames .now) (a .first) (a .part .now) (a .n) (l .part) (l .r) (l .c) (c .before .before .before .before .before .before .before .loop-test .taken) (l .inv) in
+    rw (c .wide .ensures) (v .less)
+
+loop-again : tie.Need-loop-again Inv-loop μ-loop
+loop-again c =
+    let a = c .before .before .before .before .before .before .before .before .before .before .before .before .args in
+    let l = c .before .before .before .before .before .before .before .before .loop in
+    let s = c .before .before .before .before .add-fitting in
+    walk-next (a .falls .now) (a .frames .now) (a .first) (a .part .now) (a .n) (l .part) (l .r) (l .c) (c .wide .result) (s .result) _ (c .before .before .before .before .before .before .before .loop-test .taken) (s .ensures .0) (s .ensures .1) (s .kept .0)
+    (c .wide .ensures) (l .inv)
+
+same-length : tie.Need-same-length Inv-loop μ-loop
+same-length c = c .before .loop .inv .size
+
+returns : tie.Need-returns Inv-loop μ-loop
+returns c =
+    let a = c .before .before .before .before .before .args in
+    let l = c .before .loop in
+    (walk-end (a .falls .now) (a .frames .now) (a .first) (a .part .now) (a .n) (l .part) (l .r) (l .c) (c .loop-test .left) (l .inv), l .inv .fits)
+
+pub add-elses-spec : {M : Type 1} → statement M
+add-elses-spec =
+    tie.close
+    (tie.spec
+    Inv-loop
+    μ-loop
+    loop-holds
+    sub-j
+    mul-add-fitting
+    mul-add-fitting-2
+    shared-slice-read-add-fitting
+    add-fitting-requires
+    mul-wide
+    add-wide
+    mul-wide-2
+    shared-slice-read-wide
+    wide-requires
+    loop-less
+    loop-again
+    same-length
+    returns)

@@ -1,0 +1,168 @@
+// What each node meets on the loop stack and on the DO stack, and the links from openers to closers and along ELSEs.
+ghost use mathlib.Core.Path.{_≡_};
+ghost use Prim.Native.Nat.{_+_, _*_, _≤_, _<_};
+ghost use lib.ListN.{length, getD};
+ghost use Rattle.wiring.specs.Frames.{loopMove, doMove, Framed};
+ghost use Rattle.wiring.specs.FramePass.{moveOf, HoldsBelow, Stepped, AllZero, MetBelow, MetFrames, linked};
+use crate::stacks::FrameStack;
+
+// The words that move one of the two stacks follow each other in the table of opening words.
+const REPEAT: u16 = 15;
+
+const UNTIL: u16 = 17;
+
+pub(crate) const EXIT: u16 = 19;
+
+pub(crate) const EXITIF: u16 = 20;
+
+pub(crate) const DOIF: u16 = 21;
+
+pub(crate) const ELSE: u16 = 22;
+
+const DONE: u16 = 23;
+
+// What a statement does to a stack.
+pub enum FrameMove {
+    Stays,
+    Opens,
+    Closes,
+    Joins,
+}
+
+pub(crate) fn narrow(x: usize) -> u16
+    requires { ⌜ x < 65536 ⌝ }
+    ensures { λ r. ⌜ r ≡ x ⌝ }
+{
+    x as u16
+}
+
+pub(crate) fn wide(x: u16) -> usize
+    ensures { λ r. ⌜ r ≡ x ⌝ }
+{
+    x as usize
+}
+
+// REPEAT and LOOP open, UNTIL and ENDLOOP close, EXIT and EXITIF join.
+fn loop_move(word: u16) -> FrameMove
+    ensures { λ r. ⌜ moveOf r ≡ loopMove word ⌝ }
+{
+    if word < REPEAT {
+        return FrameMove::Stays;
+    }
+    if word < UNTIL {
+        return FrameMove::Opens;
+    }
+    if word < EXIT {
+        return FrameMove::Closes;
+    }
+    if word < DOIF {
+        return FrameMove::Joins;
+    }
+    FrameMove::Stays
+}
+
+fn do_move(word: u16) -> FrameMove
+    ensures { λ r. ⌜ moveOf r ≡ doMove word ⌝ }
+{
+    if word == DOIF {
+        return FrameMove::Opens;
+    }
+    if word == ELSE {
+        return FrameMove::Joins;
+    }
+    if word == DONE {
+        return FrameMove::Closes;
+    }
+    FrameMove::Stays
+}
+
+// Node i moves one of the two stacks, and writes which frame it closes or joins.
+fn frame_step(s: FrameStack, m: FrameMove, i: usize, frames: &mut [u16]) -> FrameStack
+    requires { ⌜ (i < 4096) × (i * 3 < length (now frames)) ⌝ }
+    requires { ⌜ HoldsBelow (s .words) i ⌝ }
+    ensures { λ r. ⌜ Stepped (moveOf m) i (s .words) (r .words) (now (frames .entry)) (now (frames .exit)) ⌝ }
+{
+    match m {
+        FrameMove::Stays => {
+            return s;
+        }
+        FrameMove::Opens => {
+            return s.push(i);
+        }
+        FrameMove::Closes => {
+            let p = s.pop();
+            frames[i * 3] = narrow(p.frame);
+            let t = p.stack;
+            return t;
+        }
+        FrameMove::Joins => {
+            frames[i * 3] = narrow(s.top());
+            return s;
+        }
+    }
+}
+
+// What each node meets, in reading order.
+fn meet_frames(stmts: &[u16], n: usize, frames: &mut [u16])
+    requires { ⌜ (n ≤ 4096) × (n * 12 ≤ length (now stmts)) × (n * 3 ≤ length (now frames)) ⌝ }
+    requires { ⌜ AllZero (now frames) ⌝ }
+    ensures { λ _. ⌜ MetFrames (now (stmts .entry)) n (now (frames .exit)) ⌝ }
+{
+    let mut loops = FrameStack::new();
+    let mut dos = FrameStack::new();
+    let mut i: usize = 0;
+    while i < n {
+        let word = stmts[i * 12];
+        loops = frame_step(loops, loop_move(word), i, frames);
+        dos = frame_step(dos, do_move(word), i, frames);
+        i += 1;
+    }
+}
+
+// The closer of a frame is written at its opener. Each ELSE is put before the ELSEs after it, so that the opener has the first.
+fn link_node(word: u16, i: usize, frames: &mut [u16])
+    requires { ⌜ (i < 4096) × (i * 3 + 2 < length (now frames)) × (getD (now frames) (i * 3) 0 ≤ i) ⌝ }
+    ensures { λ _. ⌜ now (frames .exit) ≡ linked word i (now (frames .entry)) ⌝ }
+{
+    let met = wide(frames[i * 3]);
+    if met == 0 {
+        return;
+    }
+    let opener = met - 1;
+    let node = narrow(i + 1);
+    if word == ELSE {
+        frames[i * 3 + 2] = frames[opener * 3 + 2];
+        frames[opener * 3 + 2] = node;
+        return;
+    }
+    if word == EXIT {
+        return;
+    }
+    if word == EXITIF {
+        return;
+    }
+    frames[opener * 3 + 1] = node;
+}
+
+// From the last node to the first, so that what is written last is what comes first.
+fn link_frames(stmts: &[u16], n: usize, frames: &mut [u16])
+    requires { ⌜ (n ≤ 4096) × (n * 12 ≤ length (now stmts)) × (n * 3 ≤ length (now frames)) ⌝ }
+    requires { ⌜ MetFrames (now stmts) n (now frames) ⌝ }
+    ensures { λ _. ⌜ Framed (now (stmts .entry)) n (now (frames .exit)) ⌝ }
+{
+    let mut i = n;
+    while 0 < i {
+        i -= 1;
+        link_node(stmts[i * 12], i, frames);
+    }
+}
+
+// The table of the frames of n statements.
+pub(crate) fn stack_frames(stmts: &[u16], n: usize, frames: &mut [u16])
+    requires { ⌜ (n ≤ 4096) × (n * 12 ≤ length (now stmts)) × (n * 3 ≤ length (now frames)) ⌝ }
+    requires { ⌜ AllZero (now frames) ⌝ }
+    ensures { λ _. ⌜ Framed (now (stmts .entry)) n (now (frames .exit)) ⌝ }
+{
+    meet_frames(stmts, n, frames);
+    link_frames(stmts, n, frames);
+}

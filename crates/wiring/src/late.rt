@@ -1,0 +1,111 @@
+// What later nodes add to a node's list: where the closer of its frame falls, and where the ELSEs of a DOIF fall.
+ghost use mathlib.Core.Path.{_≡_};
+ghost use Prim.Native.Nat.{_≤_};
+ghost use lib.ListN.{length};
+ghost use Rattle.wiring.specs.Adding.{Added, decode};
+ghost use Rattle.wiring.specs.Late.{FitsPart, fallFrom, FallFitsFrom, ElsesFit, ElsesAdded, DoifFits, DoifAdded, closerFrom, CloserFits, joinsWord, LateReady, LateAdded};
+use crate::frames::DOIF;
+use crate::frames::ELSE;
+use crate::frames::EXIT;
+use crate::frames::EXITIF;
+use crate::frames::wide;
+use crate::lists::add_some;
+
+// A list of distinct nodes that fills its part has every node already.
+pub(crate) fn add_fitting(part: &mut [u16], n: usize, t: u16) -> usize
+    requires { ⌜ FitsPart (now part) n × (t ≤ length (now part)) ⌝ }
+    ensures { λ r. ⌜ Added (now (part .entry)) n (now (part .exit)) r (decode t) × FitsPart (now (part .exit)) r ⌝ }
+{
+    if n == part.len() {
+        return n;
+    }
+    add_some(part, n, t)
+}
+
+// Adds where the node c - 1 falls, where c is not 0.
+fn add_fall(falls: &[u16], c: usize, part: &mut [u16], n: usize) -> usize
+    requires { ⌜ FitsPart (now part) n × FallFitsFrom (now falls) (length (now part)) c ⌝ }
+    ensures { λ r. ⌜ Added (now (part .entry)) n (now (part .exit)) r (fallFrom (now (falls .entry)) c) × FitsPart (now (part .exit)) r ⌝ }
+{
+    if c == 0 {
+        return n;
+    }
+    let j = c - 1;
+    add_fitting(part, n, falls[j * 3])
+}
+
+// Adds where the ELSEs fall that are linked from the ELSE first - 1 on.
+fn add_elses(falls: &[u16], frames: &[u16], first: usize, part: &mut [u16], n: usize) -> usize
+    requires { ⌜ FitsPart (now part) n × ElsesFit (now frames) (now falls) (length (now part)) first ⌝ }
+    ensures { λ r. ⌜ ElsesAdded (now (falls .entry)) (now (frames .entry)) first (now (part .entry)) n (now (part .exit)) r × FitsPart (now (part .exit)) r ⌝ }
+{
+    let mut r = n;
+    let mut c = first;
+    while c != 0 {
+        let j = c - 1;
+        r = add_fitting(part, r, falls[j * 3]);
+        c = wide(frames[j * 3 + 2]);
+    }
+    r
+}
+
+// A DOIF goes to where its ELSEs fall; where its DONE falls if it has none.
+fn add_doif(falls: &[u16], frames: &[u16], i: usize, part: &mut [u16], n: usize) -> usize
+    requires { ⌜ FitsPart (now part) n × DoifFits (now falls) (now frames) (length (now part)) i ⌝ }
+    ensures { λ r. ⌜ DoifAdded (now (falls .entry)) (now (frames .entry)) i (now (part .entry)) n (now (part .exit)) r × FitsPart (now (part .exit)) r ⌝ }
+{
+    let first = wide(frames[i * 3 + 2]);
+    if first != 0 {
+        return add_elses(falls, frames, first, part, n);
+    }
+    let closer = wide(frames[i * 3 + 1]);
+    add_fall(falls, closer, part, n)
+}
+
+// Where the closer of the frame of opener met - 1 falls, where met is not 0.
+fn add_closer(falls: &[u16], frames: &[u16], met: usize, part: &mut [u16], n: usize) -> usize
+    requires { ⌜ FitsPart (now part) n × CloserFits (now falls) (now frames) (length (now part)) met ⌝ }
+    ensures { λ r. ⌜ Added (now (part .entry)) n (now (part .exit)) r (closerFrom (now (falls .entry)) (now (frames .entry)) met) × FitsPart (now (part .exit)) r ⌝ }
+{
+    if met == 0 {
+        return n;
+    }
+    let opener = met - 1;
+    let closer = wide(frames[opener * 3 + 1]);
+    add_fall(falls, closer, part, n)
+}
+
+fn joins_frame(word: u16) -> bool
+    ensures { λ r. ⌜ r ≡ joinsWord word ⌝ }
+{
+    if word == EXIT {
+        return true;
+    }
+    if word == EXITIF {
+        return true;
+    }
+    word == ELSE
+}
+
+// Adds what later nodes add to node i's list, which is the first n entries.
+pub(crate) fn add_late(
+    stmts: &[u16],
+    falls: &[u16],
+    frames: &[u16],
+    i: usize,
+    part: &mut [u16],
+    n: usize,
+) -> usize
+    requires { ⌜ FitsPart (now part) n × LateReady (now stmts) (now falls) (now frames) i (length (now part)) ⌝ }
+    ensures { λ r. ⌜ LateAdded (now (stmts .entry)) (now (falls .entry)) (now (frames .entry)) i (now (part .entry)) n (now (part .exit)) r × FitsPart (now (part .exit)) r ⌝ }
+{
+    let word = stmts[i * 12];
+    if word == DOIF {
+        return add_doif(falls, frames, i, part, n);
+    }
+    if joins_frame(word) {
+        let met = wide(frames[i * 3]);
+        return add_closer(falls, frames, met, part, n);
+    }
+    n
+}
