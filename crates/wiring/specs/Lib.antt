@@ -29,3 +29,5 @@ pub mod StackLaws
 pub mod ForLaws
 pub mod PerNodeLaws
 pub mod Theorems
+pub mod FrameStacks
+pub mod FrameStackLaws

@@ -1,2 +1,3 @@
 // The wiring: the records of a listing to its graph.
 pub mod lists;
+pub mod stacks;
