@@ -15,3 +15,11 @@ pub mod ShownLaws
 pub mod RoundTrip
 pub mod Records
 pub mod RecordLaws
+pub mod Scan
+pub mod Numbers
+pub mod Names
+pub mod Arguments
+pub mod CodedRows
+pub mod Machine
+pub mod MachineLaws
+pub mod Judge

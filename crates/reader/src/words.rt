@@ -68,6 +68,19 @@ const LENGTHS: [usize; 28] = [
     5,
 ];
 
+// The kinds of forms, by their opening words.
+pub(crate) const MODULE: u8 = 0;
+pub(crate) const LINE: u8 = 1;
+pub(crate) const TO: u8 = 2;
+pub(crate) const STMTS: u8 = 3;
+pub(crate) const COND: u8 = 4;
+pub(crate) const BARE: u8 = 5;
+pub(crate) const NUMBER: u8 = 6;
+pub(crate) const NUMBERS: u8 = 7;
+pub(crate) const RUN: u8 = 8;
+pub(crate) const FOR: u8 = 9;
+pub(crate) const NEXT: u8 = 10;
+
 const KINDS: [u8; 28] = [
     0,
     1,

@@ -1,0 +1,13 @@
+-- `invalid_at`: by position. Assumes nothing.
+use borrow.Author.Tests.{eq-eqb, ne-eqb}
+use Rattle.reader.proofs.machine.invalid_at.Statement.{statement}
+use Rattle.reader.proofs.machine.invalid_at.Tie as tie
+
+returns : tie.Need-returns
+returns c = rw (eq-eqb _ _ (c .if1 .taken))
+
+returns-2 : tie.Need-returns-2
+returns-2 c = rw (ne-eqb _ _ (c .if1 .left))
+
+pub invalid-at-spec : {M : Type 1} → statement M
+invalid-at-spec = tie.close (tie.spec returns returns-2)

@@ -1,0 +1,179 @@
+// What a row says, wherever it stands.
+use super::arguments::are_words;
+use super::arguments::check_kind;
+use super::arguments::single_number;
+use super::arguments::ArgCheck;
+use super::numbers::ParsedNumber;
+use super::scan::equal;
+use super::scan::find;
+use super::words::kind_of;
+use super::words::word_of;
+use super::words::BARE;
+use super::words::COND;
+use super::words::LINE;
+use super::words::MODULE;
+use super::words::NUMBERS;
+use super::words::RUN;
+use super::words::STMTS;
+use super::words::TO;
+ghost use mathlib.Core.Path.{_≡_};
+ghost use Prim.Native.Nat.{_-_};
+ghost use Rattle.reader.specs.Rows.{split, moduleContent, formRow, rowOf, contentOf};
+ghost use Rattle.reader.specs.WordTable.{kindAt};
+ghost use Rattle.reader.specs.CodedRows.{asRow, simpleBy, toByNumber, lineByNumber, argsRow, bareRow};
+
+// NoForm is refused by 2 wherever it stands, the invalid ones by 3 where such a row is due.
+// word: the number of the opening word; count: how many numbers or slots. Cond: 0 IF, 1 IFELSE, 2 RCOMP.
+pub enum Row {
+    NoForm,
+    End,
+    Stmts,
+    Module(bool),
+    InvalidLine,
+    Line(u16),
+    InvalidTo,
+    To(u16),
+    InvalidSimple,
+    Simple { word: usize, count: usize },
+    Cond(usize),
+}
+
+fn simple_row(k: usize, t: ArgCheck) -> Row
+    ensures { λ r. ⌜ r ≡ simpleBy k t ⌝ }
+{
+    if t.severity == 0 {
+        return Row::Simple { word: k, count: t.count };
+    }
+    if t.severity == 1 {
+        return Row::InvalidSimple;
+    }
+    Row::NoForm
+}
+
+fn to_row(n: ParsedNumber) -> Row
+    ensures { λ r. ⌜ r ≡ toByNumber n ⌝ }
+{
+    match n {
+        ParsedNumber::Malformed => Row::NoForm,
+        ParsedNumber::Invalid => Row::InvalidTo,
+        ParsedNumber::Value(v) => Row::To(v),
+    }
+}
+
+fn line_row(n: ParsedNumber) -> Row
+    ensures { λ r. ⌜ r ≡ lineByNumber n ⌝ }
+{
+    match n {
+        ParsedNumber::Malformed => Row::NoForm,
+        ParsedNumber::Invalid => Row::InvalidLine,
+        ParsedNumber::Value(v) => Row::Line(v),
+    }
+}
+
+// `(module H`
+fn module_row(s: &[u8]) -> Row
+    ensures { λ r. ⌜ r ≡ asRow (moduleContent (split 32 (now (s .entry)))) ⌝ }
+{
+    if find(s, 32) < s.len() {
+        return Row::NoForm;
+    }
+    if equal(b"0", s) {
+        return Row::Module(false);
+    }
+    if equal(b"1", s) {
+        return Row::Module(true);
+    }
+    Row::NoForm
+}
+
+// A form with words after its opening word.
+fn args_row(k: usize, closed: bool, s: &[u8]) -> Row
+    ensures { λ r. ⌜ r ≡ argsRow (kindAt k) k closed (split 32 (now (s .entry))) ⌝ }
+{
+    let kind = kind_of(k);
+    if closed {
+        if kind == TO {
+            return to_row(single_number(s));
+        }
+        return simple_row(k, check_kind(kind, s));
+    }
+    if kind == MODULE {
+        return module_row(s);
+    }
+    if kind == LINE {
+        return line_row(single_number(s));
+    }
+    Row::NoForm
+}
+
+// IF, IFELSE and RCOMP are the opening words 2 to 4.
+fn cond_row(k: usize) -> Row
+    ensures { λ r. ⌜ r ≡ Row.Cond (k - 2) ⌝ }
+{
+    if k < 2 {
+        return Row::Cond(0);
+    }
+    Row::Cond(k - 2)
+}
+
+// A form of its opening word alone.
+fn bare_row(k: usize, closed: bool) -> Row
+    ensures { λ r. ⌜ r ≡ bareRow (kindAt k) k closed ⌝ }
+{
+    let kind = kind_of(k);
+    if closed {
+        if kind == BARE {
+            return Row::Simple { word: k, count: 0 };
+        }
+        if kind == NUMBERS {
+            return Row::Simple { word: k, count: 0 };
+        }
+        if kind == RUN {
+            return Row::Simple { word: k, count: 0 };
+        }
+        return Row::NoForm;
+    }
+    if kind == STMTS {
+        return Row::Stmts;
+    }
+    if kind == COND {
+        return cond_row(k);
+    }
+    Row::NoForm
+}
+
+// What stands between the brackets; closed: the row had its closing one.
+fn form_row(s: &[u8], closed: bool) -> Row
+    ensures { λ r. ⌜ r ≡ asRow (contentOf (formRow closed (split 32 (now (s .entry))))) ⌝ }
+{
+    if !are_words(s) {
+        return Row::NoForm;
+    }
+    let e = find(s, 32);
+    let k = word_of(&s[0..e]);
+    if e == s.len() {
+        return bare_row(k, closed);
+    }
+    let from = e + 1;
+    args_row(k, closed, &s[from..])
+}
+
+pub fn row_of(s: &[u8]) -> Row
+    ensures { λ r. ⌜ r ≡ asRow (contentOf (rowOf (now (s .entry)))) ⌝ }
+{
+    let n = s.len();
+    if n == 0 {
+        return Row::NoForm;
+    }
+    if s[0] != 40 {
+        if equal(s, b")") {
+            return Row::End;
+        }
+        return Row::NoForm;
+    }
+    let last = n - 1;
+    if s[last] == 41 {
+        return form_row(&s[1..last], true);
+    }
+    form_row(&s[1..n], false)
+}
