@@ -31,3 +31,8 @@ pub mod PerNodeLaws
 pub mod Theorems
 pub mod FrameStacks
 pub mod FrameStackLaws
+pub mod ListedNodes
+pub mod ForStack
+pub mod ForStackLaws
+pub mod ForLinks
+pub mod ForLinkLaws
