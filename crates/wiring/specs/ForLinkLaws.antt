@@ -11,16 +11,17 @@ use lib.Dec.{eqb}
 use lib.ListN.{length, getD, getElem?, take, drop, length-append, length-drop, take-append-drop, drop-of-length-le}
 use lib.Seq.{take-at, drop-at, drop-drop, length-take-le, take-append-le, drop-append-le, drop-append-add, take-take}
 use Rattle.reader.specs.Bytes.{same, pick}
-use Rattle.reader.specs.Every.{All, all[], all∷}
+use Rattle.reader.specs.Every.{All, all[], all∷, all-append}
 use Rattle.reader.specs.Listing.{Name, Mark, Slot, Simple, for, next}
 use Rattle.reader.specs.ListingText.{NameOk, SlotsOk, SimpleOk}
 use Rattle.reader.specs.Records.{nameKey, slotKey, argsOf}
 use Rattle.wiring.specs.Lists.{each, list}
 use Rattle.wiring.specs.Adding.{nodeNumber, decode, decode-number}
+use Rattle.wiring.specs.Members.{all-map}
 use Rattle.wiring.specs.Nodes.{NodeStmt, simple, cond, Node}
 use Rattle.wiring.specs.NodeRecords.{stmtNumber}
 use Rattle.wiring.specs.Edges.{ForMove, keepFors, pushFor, popFors, onFors, movesOf, nodeMoves}
-use Rattle.wiring.specs.PerNode.{Openers, findOpener, openersUnder, openerFound, popOpener, openersPopped, openersLeft, forOpenersAfter, after, pops, Fact, factOf, facts}
+use Rattle.wiring.specs.PerNode.{Openers, noOpeners, findOpener, openersUnder, openerFound, popOpener, openersPopped, openersLeft, forOpenersAfter, after, pops, Fact, factOf, facts}
 use Rattle.wiring.specs.FrameStacks.{topOf, Holds}
 use Rattle.wiring.specs.ListedNodes.{SimpleListed, StmtListed, NodeListed, Listed, keysAt, keys-are, ForKind, isFor, isNext, isOther, for-kind, for-number, next-number, key-some, key-same, node-at}
 use Rattle.wiring.specs.ForStack.{findKey, foundNumber, underFound, underTop, popKey, keyLinks, keysLeft, pushKey, forsOpen, forsLinked, NodeLinked}
@@ -231,3 +232,147 @@ going-end ts ks n t₀ ws t i a b p ns h e =
     let l : length ns ≤ i = omega arith in
     let z : drop i ns ≡ [] = drop-of-length-le ns l in
     g .made ∙ sym (ap (λ (x : List Node). g .done ++ linkedRows i x (g .fors) (drop (i * 64) t₀)) z) ∙ g .rest
+
+-- ---- the rows by node
+
+each-number : (ss : List Slot) (fs : List (Name × ℕ)) → each decode (slotLinks ss fs) ≡ openersPopped ss fs
+unfolding each slotLinks openersPopped
+each-number [] fs = refl
+each-number (s ∷ ss) fs = let r = popOpener s fs in rw (decode-number (r .0), each-number ss (r .1))
+
+-- the row of node k, by its fact: fors are the FORs open there
+pub record RowLinked (t t′ : List ℕ) (k : ℕ) (f : Fact) : Type 0 where
+  pub fors : List (Name × ℕ)
+  pub row : take 64 (drop (k * 64) t′) ≡ linkedRow ((nodeMoves (f .stmt)) .fors) fors (take 64 (drop (k * 64) t))
+  pub popped : f .popped ≡ pops ((nodeMoves (f .stmt)) .fors) fors
+  pub fits : MoveFits ((nodeMoves (f .stmt)) .fors)
+
+abbrev RowsFit : List Node → Type 0
+RowsFit ns = All (λ (n : Node). MoveFits ((nodeMoves (n .stmt)) .fors)) ns
+
+rows-by : (i : ℕ) {ns : List Node} → RowsFit ns → (st : Openers) (t : List ℕ) → length ns * 64 ≤ length t → (k : ℕ) (f : Fact) → getElem? (facts i ns st) k ≡ some f
+    → RowLinked t (linkedRows i ns (st .fors) t) k f
+unfolding linkedRows facts factOf after
+rows-by i all[] st t h k f e = absurd (let z : _≡_ {A = ℕ} 0 1 = cc in omega arith)
+rows-by i (all∷ {a = n} {l = ns} p ps) st t h zero f e =
+    let m = (nodeMoves (n .stmt)) .fors in
+    let q : factOf n st ≡ f = cc in
+    let l : length (linkedRow m (st .fors) (take 64 t)) ≡ 64 = row-length m (st .fors) t p (omega arith) in
+    rw (← q) (record { fors = st .fors; row = take-at (linkedRow m (st .fors) (take 64 t)) (linkedRows (suc i) ns (forOpenersAfter i m (st .fors)) (drop 64 t)) 64 l; popped = refl; fits = p })
+rows-by i (all∷ {a = n} {l = ns} p ps) st t h (suc k) f e =
+    let m = (nodeMoves (n .stmt)) .fors in
+    let r = rows-by (suc i) ps (after i (nodeMoves (n .stmt)) st) (drop 64 t) (simp length-drop (omega arith)) k f e in
+    let a = linkedRow m (st .fors) (take 64 t) in
+    let b = linkedRows (suc i) ns (forOpenersAfter i m (st .fors)) (drop 64 t) in
+    let z : suc k * 64 ≡ length a + k * 64 = rw (row-length m (st .fors) t p (omega arith)) (omega arith) in
+    let x : drop (suc k * 64) (a ++ b) ≡ drop (k * 64) b = rw z (drop-append-add a b (k * 64)) in
+    let w : 64 + k * 64 ≡ suc k * 64 = omega arith in
+    let y : drop (k * 64) (drop 64 t) ≡ drop (suc k * 64) t = drop-drop (k * 64) 64 t ∙ ap (λ (v : ℕ). drop v t) w in
+    record { fors = r .fors; row = ap (take 64) x ∙ r .row ∙ ap (λ (v : List ℕ). linkedRow ((nodeMoves (f .stmt)) .fors) (r .fors) (take 64 v)) y; popped = r .popped; fits = r .fits }
+
+rows-fit : (ts ks : List ℕ) (ns : List Node) → Listed ts ks ns → RowsFit ns
+rows-fit ts ks ns h = go 0 ns (λ k n e. move-fits ts ks k (n .stmt) (h k n e .stmt) (for-kind (n .stmt)))
+  where
+    go : (i : ℕ) (ms : List Node) → ((k : ℕ) (n : Node) → getElem? ms k ≡ some n → MoveFits ((nodeMoves (n .stmt)) .fors)) → RowsFit ms
+    go i [] g = all[]
+    go i (n ∷ ms) g = all∷ (g 0 n refl) (go (suc i) ms (λ k. g (suc k)))
+
+front : (m : Mark) (ss : List Slot) (fs : List (Name × ℕ)) (row t p : List ℕ) → take 64 t ≡ linkedRow ((nodeMoves (simple (next m ss))) .fors) fs row
+    → p ≡ pops ((nodeMoves (simple (next m ss))) .fors) fs → MoveFits ((nodeMoves (simple (next m ss))) .fors) → each decode (take (length ss) t) ≡ p
+unfolding nodeMoves movesOf onFors linkedRow pops
+front m ss fs row t p r u v =
+    let a : take (length ss) t ≡ slotLinks ss fs = sym (take-take (length ss) 64 t v) ∙ ap (take (length ss)) r ∙ take-at (slotLinks ss fs) (drop (length ss) row) (length ss) (slots-length ss fs) in
+    ap (each decode) a ∙ each-number ss fs ∙ sym u
+
+stays : (s : NodeStmt) (fs : List (Name × ℕ)) (row r : List ℕ) → ForKind s → (stmtNumber s ≡ 14 → ⊥) → r ≡ linkedRow ((nodeMoves s) .fors) fs row → r ≡ row
+unfolding nodeMoves movesOf onFors linkedRow
+stays s fs row r (isFor v t) q e = e
+stays s fs row r (isNext m ss) q e = absurd (q (next-number m ss))
+stays s fs row r (isOther n) q e = rw (n .keeps) at e
+
+module _ (ts ks : List ℕ) (ns : List Node) (h : Listed ts ks ns) (t : List ℕ) (room : length ns * 64 ≤ length t) (k : ℕ) (f : Fact) (e : getElem? (facts 0 ns noOpeners) k ≡ some f) where
+  pub row-linked : RowLinked t (linkedRows 0 ns [] t) k f
+  unfolding noOpeners
+  row-linked = rows-by 0 (rows-fit ts ks ns h) noOpeners t room k f e
+
+  -- "the popped body is added": joined, a NEXT's links are the FORs that it pops
+  pub next-links : (m : Mark) (ss : List Slot) → f .stmt ≡ simple (next m ss) → poppedBy (linkedRows 0 ns [] t) k (length ss) ≡ f .popped
+  unfolding poppedBy
+  next-links m ss q = go (f .stmt) (f .popped) q (row-linked .row) (row-linked .popped) (row-linked .fits)
+    where
+      go : (s : NodeStmt) (p : List ℕ) → s ≡ simple (next m ss) → take 64 (drop (k * 64) (linkedRows 0 ns [] t)) ≡ linkedRow ((nodeMoves s) .fors) (row-linked .fors) (take 64 (drop (k * 64) t))
+          → p ≡ pops ((nodeMoves s) .fors) (row-linked .fors) → MoveFits ((nodeMoves s) .fors) → each decode (take (length ss) (drop (k * 64) (linkedRows 0 ns [] t))) ≡ p
+      go s p q r u v = front m ss (row-linked .fors) (take 64 (drop (k * 64) t)) (drop (k * 64) (linkedRows 0 ns [] t)) p (rw q at r) (rw q at u) (rw q at v)
+
+  -- any other node's links stay
+  pub other-links : (stmtNumber (f .stmt) ≡ 14 → ⊥) → take 64 (drop (k * 64) (linkedRows 0 ns [] t)) ≡ take 64 (drop (k * 64) t)
+  other-links q = stays (f .stmt) (row-linked .fors) (take 64 (drop (k * 64) t)) (take 64 (drop (k * 64) (linkedRows 0 ns [] t))) (for-kind (f .stmt)) q (row-linked .row)
+
+-- ---- what is popped stands before
+
+module _ (b : ℕ) where
+  abbrev Before : List (Name × ℕ) → Type 0
+  Before fs = All (λ (p : Name × ℕ). p .1 < b) fs
+
+  abbrev FoundBefore : Option (ℕ × List (Name × ℕ)) → Type 0
+  FoundBefore none = Unit {0}
+  FoundBefore (some r) = (r .0 < b) × Before (r .1)
+
+  find-before : (v : Name) {fs : List (Name × ℕ)} → Before fs → FoundBefore (findOpener v fs)
+  unfolding findOpener
+  find-before v all[] = tt
+  find-before v (all∷ {a = p} {l = fs} q qs) = go (same v (p .0)) (findOpener v fs) (find-before v qs)
+    where
+      go : (x : Bool) (s : Option (ℕ × List (Name × ℕ))) → FoundBefore s → FoundBefore (pick x (some (p .1, fs)) s)
+      go true s r = (q, qs)
+      go false s r = r
+
+  under-before : {fs : List (Name × ℕ)} → Before fs → (s : Option (ℕ × List (Name × ℕ))) → FoundBefore s → Before (openersUnder fs s)
+  unfolding openersUnder
+  under-before qs none r = qs
+  under-before qs (some x) r = r .1
+
+  pop-before : (s : Slot) {fs : List (Name × ℕ)} → Before fs → All (λ (a : ℕ). a < b) (list ((popOpener s fs) .0)) × Before ((popOpener s fs) .1)
+  unfolding popOpener openerFound list
+  pop-before none all[] = (all[], all[])
+  pop-before none (all∷ q qs) = (all∷ q all[], qs)
+  pop-before (some v) {fs} qs = go (findOpener v fs) (find-before v qs)
+    where
+      go : (s : Option (ℕ × List (Name × ℕ))) → FoundBefore s → All (λ (a : ℕ). a < b) (list ((openerFound fs s) .0)) × Before ((openerFound fs s) .1)
+      go none r = (all[], qs)
+      go (some x) r = (all∷ (r .0) all[], r .1)
+
+  slots-before : (ss : List Slot) {fs : List (Name × ℕ)} → Before fs → All (λ (a : ℕ). a < b) (openersPopped ss fs) × Before (openersLeft ss fs)
+  unfolding openersPopped openersLeft
+  slots-before [] qs = (all[], qs)
+  slots-before (s ∷ ss) qs = let p = pop-before s qs in let r = slots-before ss (p .1) in (all-append (p .0) (r .0), r .1)
+
+pops-before : (b : ℕ) (m : ForMove) {fs : List (Name × ℕ)} → Before b fs → All (λ (a : ℕ). a < b) (pops m fs)
+unfolding pops
+pops-before b keepFors qs = all[]
+pops-before b (pushFor v) qs = all[]
+pops-before b (popFors ss) qs = slots-before b ss qs .0
+
+later : (b : ℕ) {fs : List (Name × ℕ)} → Before b fs → Before (suc b) fs
+later b qs = all-map (λ p h. omega arith) qs
+
+after-before : (b : ℕ) (m : ForMove) {fs : List (Name × ℕ)} → Before b fs → Before (suc b) (forOpenersAfter b m fs)
+unfolding forOpenersAfter
+after-before b keepFors qs = later b qs
+after-before b (pushFor v) {fs} qs = all∷ {a = (v, b)} (omega arith) (later b (under-before b qs (findOpener v fs) (find-before b v qs)))
+after-before b (popFors ss) qs = later b (slots-before b ss qs .1)
+
+popped-from : (i : ℕ) (ns : List Node) (st : Openers) → Before i (st .fors) → (k : ℕ) (f : Fact) → getElem? (facts i ns st) k ≡ some f → All (λ (a : ℕ). a < i + k) (f .popped)
+unfolding facts factOf after
+popped-from i [] st h k f e = absurd (let z : _≡_ {A = ℕ} 0 1 = cc in omega arith)
+popped-from i (n ∷ ns) st h zero f e =
+    let q : factOf n st ≡ f = cc in
+    let z : i ≡ i + 0 = omega arith in
+    rw (← q, ← z) (pops-before i ((nodeMoves (n .stmt)) .fors) h)
+popped-from i (n ∷ ns) st h (suc k) f e =
+    let z : suc i + k ≡ i + suc k = omega arith in
+    rw z at (popped-from (suc i) ns (after i (nodeMoves (n .stmt)) st) (after-before i ((nodeMoves (n .stmt)) .fors) h) k f e)
+
+pub popped-before : (ns : List Node) (k : ℕ) (f : Fact) → getElem? (facts 0 ns noOpeners) k ≡ some f → All (λ (a : ℕ). a < k) (f .popped)
+unfolding noOpeners
+popped-before ns k f e = let z : 0 + k ≡ k = omega arith in rw z at (popped-from 0 ns noOpeners all[] k f e)
