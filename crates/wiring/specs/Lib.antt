@@ -36,3 +36,4 @@ pub mod ForStack
 pub mod ForStackLaws
 pub mod ForLinks
 pub mod ForLinkLaws
+pub mod Dispatched

@@ -9,11 +9,15 @@ ghost use lib.ListN.{length, getD};
 ghost use Rattle.wiring.specs.ListedNodes.{SlotsCounted, AllCounted};
 ghost use Rattle.wiring.specs.ForStack.{OpenBelow, Sought, SlotPopped, ForPushed, SlotsPopped, NodeLinked};
 ghost use Rattle.wiring.specs.ForLinks.{ForsLinked};
+ghost use Rattle.wiring.specs.Dispatched.{isDispatched, DispatchedTo, DispatchedOne};
 
 // Numbers of opening words.
 pub(crate) const FOR: u16 = 13;
 
 pub(crate) const NEXT: u16 = 14;
+
+// A FOR's tier.
+const DISPATCHED: u16 = 2;
 
 pub(crate) fn narrow(x: usize) -> u16
     requires { ⌜ x < 65536 ⌝ }
@@ -124,4 +128,44 @@ pub(crate) fn link_fors(stmts: &[u16], args: &[u64], n: usize, links: &mut [u16]
         s = link_node(stmts, args, s, i, links);
         i += 1;
     }
+}
+
+// Whether node i is a dispatched FOR that has a body.
+fn is_dispatched(stmts: &[u16], falls: &[u16], i: usize) -> bool
+    requires { ⌜ (i * 12 + 12 ≤ length (now stmts)) × (i * 3 < length (now falls)) ⌝ }
+    ensures { λ r. ⌜ r ≡ isDispatched (now (stmts .entry)) (now (falls .entry)) i ⌝ }
+{
+    if stmts[i * 12] != FOR {
+        return false;
+    }
+    if stmts[i * 12 + 11] != DISPATCHED {
+        return false;
+    }
+    falls[i * 3] != 0
+}
+
+// Node i goes to the end of the list of d entries, if it is a dispatched FOR that has a body.
+fn list_one(stmts: &[u16], falls: &[u16], i: usize, dispatched: &mut [u16], d: usize) -> usize
+    requires { ⌜ (i < 4096) × (i * 12 + 12 ≤ length (now stmts)) × (i * 3 < length (now falls)) × (d < length (now dispatched)) ⌝ }
+    ensures { λ r. ⌜ DispatchedOne (now (stmts .entry)) (now (falls .entry)) i (now (dispatched .entry)) d (now (dispatched .exit)) r ⌝ }
+{
+    if is_dispatched(stmts, falls, i) {
+        dispatched[d] = narrow(i);
+        return d + 1;
+    }
+    d
+}
+
+// The dispatched FORs that have a body, in reading order; answers how many.
+pub(crate) fn list_dispatched(stmts: &[u16], falls: &[u16], n: usize, dispatched: &mut [u16]) -> usize
+    requires { ⌜ (n ≤ 4096) × (n * 12 ≤ length (now stmts)) × (n * 3 ≤ length (now falls)) × (n ≤ length (now dispatched)) ⌝ }
+    ensures { λ r. ⌜ DispatchedTo (now (stmts .entry)) (now (falls .entry)) n (now (dispatched .entry)) (now (dispatched .exit)) r ⌝ }
+{
+    let mut d: usize = 0;
+    let mut i: usize = 0;
+    while i < n {
+        d = list_one(stmts, falls, i, dispatched, d);
+        i += 1;
+    }
+    d
 }
