@@ -1,25 +1,25 @@
 -- The dispatched FORs that have a body, in reading order, as the tables have them. Assumes nothing.
 use Prim.Native.Nat.{ℕ, zero, suc, _+_, _*_, _-_, _≤_, _<_}
-use mathlib.Core.Path.{_≡_, refl, sym, ap, subst, _∙_}
+use mathlib.Core.Path.{_≡_, refl, sym, ap, _∙_}
 use mathlib.Core.Bool.{Bool, true, false, not}
-use mathlib.Core.List.{List, [], _∷_, _++_, map, append-assoc, append-nil}
+use mathlib.Core.List.{List, [], _∷_, _++_, append-assoc, append-nil}
 use mathlib.Core.Option.{Option, none, some}
 use native.Mathlib.Omega.{arith}
 use native.Mathlib.Numerals.{add-one}
 use borrow.Author.Tests.{eq-eqb, ne-eqb, eqb-false}
 use lib.Dec.{eqb}
-use lib.ListN.{length, getD, getElem?, set, take, drop, length-append, drop-of-length-le}
+use lib.ListN.{length, getD, getElem?, set, take, drop}
 use lib.Seq.{take-all, take-suc-set, drop-set-lt, drop-drop}
 use Rattle.reader.specs.Bytes.{pick}
-use Rattle.reader.specs.Listing.{Name, Tier, static, framed, dispatched, Mark, Slot, for, next}
+use Rattle.reader.specs.Listing.{Name, Tier, static, framed, dispatched}
 use Rattle.reader.specs.ListingText.{NameOk, SimpleOk}
 use Rattle.reader.specs.Records.{nameKey, argsOf, detailOf, tierNumber}
 use Rattle.wiring.specs.Lists.{each, list}
 use Rattle.wiring.specs.Adding.{nodeNumber}
-use Rattle.wiring.specs.Nodes.{NodeStmt, simple, Node}
+use Rattle.wiring.specs.Nodes.{NodeStmt, Node}
 use Rattle.wiring.specs.NodeRecords.{stmtNumber}
 use Rattle.wiring.specs.Targets.{onFor, onSimple, dispatchTarget, dispatchTargets}
-use Rattle.wiring.specs.ListedNodes.{SimpleListed, StmtListed, Listed, FallsListed, ForKind, isFor, isNext, isOther, for-kind, for-number, next-number, node-at}
+use Rattle.wiring.specs.ListedNodes.{StmtListed, Listed, FallsListed, ForKind, isFor, isNext, isOther, for-kind, for-number, next-number, node-at}
 
 -- ts: the records; es: where nodes fall. A FOR, dispatched, that falls:
 unfoldable pub isDispatched : List ℕ → List ℕ → ℕ → Bool

@@ -6,25 +6,23 @@ use mathlib.Core.List.{List, [], _∷_, _++_, map, append-assoc}
 use mathlib.Core.Option.{Option, none, some}
 use native.Mathlib.Omega.{arith}
 use native.Mathlib.Numerals.{add-one}
-use borrow.Author.Tests.{eq-eqb, ne-eqb}
-use lib.Dec.{eqb}
 use lib.ListN.{length, getD, getElem?, take, drop, length-append, length-drop, take-append-drop, drop-of-length-le}
-use lib.Seq.{take-at, drop-at, drop-drop, length-take-le, take-append-le, drop-append-le, drop-append-add, take-take}
+use lib.Seq.{take-at, drop-at, drop-drop, length-take-le, drop-append-le, drop-append-add, take-take}
 use Rattle.reader.specs.Bytes.{same, pick}
 use Rattle.reader.specs.Every.{All, all[], all∷, all-append}
-use Rattle.reader.specs.Listing.{Name, Mark, Slot, Simple, for, next}
+use Rattle.reader.specs.Listing.{Name, Mark, Slot, next}
 use Rattle.reader.specs.ListingText.{NameOk, SlotsOk, SimpleOk}
 use Rattle.reader.specs.Records.{nameKey, slotKey, argsOf}
 use Rattle.wiring.specs.Lists.{each, list}
 use Rattle.wiring.specs.Adding.{nodeNumber, decode, decode-number}
 use Rattle.wiring.specs.Members.{all-map}
-use Rattle.wiring.specs.Nodes.{NodeStmt, simple, cond, Node}
+use Rattle.wiring.specs.Nodes.{NodeStmt, simple, Node}
 use Rattle.wiring.specs.NodeRecords.{stmtNumber}
 use Rattle.wiring.specs.Edges.{ForMove, keepFors, pushFor, popFors, onFors, movesOf, nodeMoves}
 use Rattle.wiring.specs.PerNode.{Openers, noOpeners, findOpener, openersUnder, openerFound, popOpener, openersPopped, openersLeft, forOpenersAfter, after, pops, Fact, factOf, facts}
 use Rattle.wiring.specs.FrameStacks.{topOf, Holds}
-use Rattle.wiring.specs.ListedNodes.{SimpleListed, StmtListed, NodeListed, Listed, keysAt, keys-are, ForKind, isFor, isNext, isOther, for-kind, for-number, next-number, key-some, key-same, node-at}
-use Rattle.wiring.specs.ForStack.{findKey, foundNumber, underFound, underTop, popKey, keyLinks, keysLeft, pushKey, forsOpen, forsLinked, NodeLinked}
+use Rattle.wiring.specs.ListedNodes.{StmtListed, Listed, keysAt, keys-are, ForKind, isFor, isNext, isOther, for-kind, for-number, next-number, key-some, key-same, node-at}
+use Rattle.wiring.specs.ForStack.{findKey, foundNumber, underFound, popKey, keyLinks, keysLeft, pushKey, forsOpen, forsLinked, NodeLinked}
 use Rattle.wiring.specs.ForStackLaws.{open-le}
 use Rattle.wiring.specs.ForLinks.{slotLinks, linkedRow, linkedRows, ForsLinked, poppedBy}
 

@@ -1,5 +1,5 @@
 -- The rows of links of NEXTs: what each slot pops (document 01, "NEXT per slot"). Assumes nothing.
-use Prim.Native.Nat.{ℕ, zero, suc, _*_}
+use Prim.Native.Nat.{ℕ, suc, _*_}
 use mathlib.Core.Path.{_≡_}
 use mathlib.Core.List.{List, [], _∷_, _++_}
 use lib.ListN.{length, take, drop}

@@ -37,3 +37,6 @@ pub mod ForStackLaws
 pub mod ForLinks
 pub mod ForLinkLaws
 pub mod Dispatched
+pub mod Growing
+pub mod NextBodies
+pub mod NextBodyLaws

@@ -2,26 +2,26 @@
 use Prim.Native.Nat.{ℕ, zero, suc, _+_, _*_, _-_, _<_, _≤_}
 use mathlib.Core.Path.{_≡_, refl, sym, ap, subst, _∙_}
 use mathlib.Core.Bool.{Bool, true, false}
-use mathlib.Core.List.{List, [], _∷_, _++_, map}
-use mathlib.Core.Option.{Option, none, some}
+use mathlib.Core.List.{List, [], _∷_}
+use mathlib.Core.Option.{Option, some}
 use native.Mathlib.Omega.{arith}
 use lib.Dec.{eqb}
-use lib.ListN.{length, getD, getElem?, take, drop, length-take, length-drop}
+use lib.ListN.{length, getD, getElem?, take, drop, length-drop}
 use lib.Seq.{ext-getD, getD-take, getD-drop, length-take-le}
-use borrow.Author.Tests.{eq-eqb, ne-eqb, eqb-true, eqb-false}
-use Rattle.reader.specs.Bytes.{same, pick, bytes}
-use Rattle.reader.specs.Listing.{Name, Tier, dispatched, Mark, orphan, Slot, Simple, goto, gosub, return, run, runto, ongoto, ongosub, for, next, repeat, loop, until, endloop, exit, exitif, doif, else, done, clr, stop, any, CondWord, if, ifelse, rcomp}
-use Rattle.reader.specs.ListingText.{simpleWord, condWord, NameOk, SimpleOk, SlotsOk}
+use borrow.Author.Tests.{eq-eqb, ne-eqb, eqb-false}
+use Rattle.reader.specs.Bytes.{same, bytes}
+use Rattle.reader.specs.Listing.{Name, Tier, Mark, Slot, Simple, goto, gosub, return, run, runto, ongoto, ongosub, for, next, repeat, loop, until, endloop, exit, exitif, doif, else, done, clr, stop, any, if, ifelse, rcomp}
+use Rattle.reader.specs.ListingText.{simpleWord, condWord, NameOk, SimpleOk}
 use Rattle.reader.specs.Rows.{openingWords}
 use Rattle.reader.specs.WordTable.{words, first, wordIndex}
 use Rattle.reader.specs.WordText.{same-equal}
-use Rattle.reader.specs.Records.{nameKey, slotKey, argsOf, detailOf}
+use Rattle.reader.specs.Records.{nameKey, argsOf, detailOf}
 use Rattle.reader.specs.Names.{encode, key-injective, key-not-zero}
 use Rattle.wiring.specs.Adding.{nodeNumber}
 use Rattle.wiring.specs.Nodes.{NodeStmt, simple, cond, Node}
 use Rattle.wiring.specs.NodeRecords.{stmtWord, stmtNumber}
-use Rattle.wiring.specs.Targets.{onFor, onNext, onSimple, dispatchTarget, orphanTargets, orphanEdges}
-use Rattle.wiring.specs.Edges.{ForMove, keepFors, pushFor, popFors, onFors, onLoops, onDos, noMoves, movesOf, nodeMoves}
+use Rattle.wiring.specs.Targets.{onFor, onNext, onSimple, dispatchTarget, orphanEdges}
+use Rattle.wiring.specs.Edges.{keepFors, onFors, onLoops, onDos, noMoves, movesOf, nodeMoves}
 
 -- ts: 12 entries a statement; ks: 64 arguments a statement. Of statement i, which holds no others:
 pub record SimpleListed (ts ks : List ℕ) (i : ℕ) (o : Simple) : Type 0 where

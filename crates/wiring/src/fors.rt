@@ -5,7 +5,7 @@ use super::stacks::below;
 use super::stacks::highest;
 ghost use mathlib.Core.Path.{_≡_};
 ghost use Prim.Native.Nat.{_+_, _*_, _/_, _≤_, _<_};
-ghost use lib.ListN.{length, getD};
+ghost use lib.ListN.{length};
 ghost use Rattle.wiring.specs.ListedNodes.{SlotsCounted, AllCounted};
 ghost use Rattle.wiring.specs.ForStack.{OpenBelow, Sought, SlotPopped, ForPushed, SlotsPopped, NodeLinked};
 ghost use Rattle.wiring.specs.ForLinks.{ForsLinked};
@@ -157,7 +157,12 @@ fn list_one(stmts: &[u16], falls: &[u16], i: usize, dispatched: &mut [u16], d: u
 }
 
 // The dispatched FORs that have a body, in reading order; answers how many.
-pub(crate) fn list_dispatched(stmts: &[u16], falls: &[u16], n: usize, dispatched: &mut [u16]) -> usize
+pub(crate) fn list_dispatched(
+    stmts: &[u16],
+    falls: &[u16],
+    n: usize,
+    dispatched: &mut [u16],
+) -> usize
     requires { ⌜ (n ≤ 4096) × (n * 12 ≤ length (now stmts)) × (n * 3 ≤ length (now falls)) × (n ≤ length (now dispatched)) ⌝ }
     ensures { λ r. ⌜ DispatchedTo (now (stmts .entry)) (now (falls .entry)) n (now (dispatched .entry)) (now (dispatched .exit)) r ⌝ }
 {

@@ -1,7 +1,7 @@
 -- `link_fors`: the rows before node i are done, and the words hold the FORs that are open there. Assumes nothing.
 use borrow.Author.Needs.{needs}
 use native.Mathlib.Omega.{arith}
-use mathlib.Core.Path.{_≡_, refl, _∙_}
+use mathlib.Core.Path.{_≡_, refl}
 use mathlib.Core.List.{[]}
 use Prim.Native.Nat.{_-_, _≤_}
 use lib.ListN.{length}

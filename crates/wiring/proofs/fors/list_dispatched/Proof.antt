@@ -37,7 +37,7 @@ returns c =
     let l = c .before .loop in
     let a = c .before .before .before .before .before .args in
     let e : l .i ≡ a .n = omega arith in
-    subst (λ (x : ℕ). DispatchedTo (a .stmts .now) (a .falls .now) x (a .dispatched .now) _ (l .d)) e (l .inv .2)
+    subst (λ (x : ℕ). DispatchedTo (a .stmts .now) (a .falls .now) x (a .dispatched .now) (l .dispatched) (l .d)) e (l .inv .2)
 
 pub list-dispatched-spec : {M : Type 1} → statement M
 list-dispatched-spec =

@@ -1,9 +1,9 @@
 -- `pop_slots`: the first j slots are popped, and the row holds what they pop. Assumes nothing.
 use borrow.Author.Needs.{needs}
 use native.Mathlib.Omega.{arith}
-use mathlib.Core.Path.{_≡_, refl, _∙_}
+use mathlib.Core.Path.{_≡_, refl}
 use Prim.Native.Nat.{_/_, _-_, _≤_}
-use lib.ListN.{length, length-set}
+use lib.ListN.{length}
 use Rattle.wiring.specs.ForStack.{OpenBelow}
 use Rattle.wiring.specs.ForStackLaws.{open-few, slot-open, slot-fits, PoppingTo, popping-start, popping-on, popping-end}
 use Rattle.wiring.proofs.fors.pop_slots.Statement.{statement}
