@@ -50,3 +50,12 @@ pub mod FitLaws
 pub mod ChainLaws
 pub mod LateLaws
 pub mod FrameCases
+pub mod ListedNodes
+pub mod ForStack
+pub mod ForStackLaws
+pub mod ForLinks
+pub mod ForLinkLaws
+pub mod Dispatched
+pub mod Growing
+pub mod NextBodies
+pub mod NextBodyLaws

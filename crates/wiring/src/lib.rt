@@ -6,4 +6,7 @@ pub mod return_sets;
 pub mod sets;
 pub mod walk;
 pub mod widths;
+pub mod fors;
+pub mod growing;
+pub mod nexts;
 pub mod stacks;

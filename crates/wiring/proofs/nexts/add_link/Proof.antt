@@ -1,0 +1,47 @@
+-- `add_link`: nothing, or where the FOR falls. Assumes nothing.
+use borrow.Author.Needs.{needs}
+use native.Mathlib.Omega.{arith}
+use Rattle.wiring.specs.NextBodies.{link-none, link-one, link-fit}
+use Rattle.wiring.proofs.nexts.add_link.Statement.{statement}
+use Rattle.wiring.proofs.nexts.add_link.Tie as tie
+
+returns : tie.Need-returns
+returns c = link-none _ _ _ _ (c .if1 .taken)
+
+wide-requires : tie.Need-wide-requires
+wide-requires c κs = search needs
+
+sub-o : tie.Need-sub-o
+sub-o c = omega (arith, c .wide .ensures)
+
+mul-add-node : tie.Need-mul-add-node
+mul-add-node c = omega (arith, c .before .wide .ensures, c .before .before .before .before .before .pre .table)
+
+mul-add-node-2 : tie.Need-mul-add-node-2
+mul-add-node-2 c = omega (arith, c .before .wide .ensures, c .before .before .before .before .before .pre .table)
+
+shared-slice-read-add-node : tie.Need-shared-slice-read-add-node
+shared-slice-read-add-node c = omega (arith, c .before .before .wide .ensures, c .before .before .before .before .before .before .pre .table)
+
+add-node-requires : tie.Need-add-node-requires
+add-node-requires c κs = link-fit _ _ _ _ _ (c .before .before .wide .ensures) (c .before .before .before .if1 .left) (c .before .before .before .before .before .before .pre)
+
+same-length : tie.Need-same-length
+same-length c = search needs
+
+returns-2 : tie.Need-returns-2
+returns-2 c = link-one _ _ _ _ _ _ _ (c .before .before .before .before .before .wide .ensures) (c .before .before .before .before .before .before .if1 .left) (c .before .before .add-node .ensures)
+
+pub add-link-spec : {M : Type 1} → statement M
+add-link-spec =
+    tie.close
+    (tie.spec
+    returns
+    wide-requires
+    sub-o
+    mul-add-node
+    mul-add-node-2
+    shared-slice-read-add-node
+    add-node-requires
+    same-length
+    returns-2)

@@ -1,0 +1,63 @@
+-- `add_selected`: the body, or nothing. Assumes nothing.
+use borrow.Author.Needs.{needs}
+use mathlib.Core.Path.{sym, _∙_}
+use Rattle.wiring.specs.NextBodies.{for-fit, for-selected, for-left-out}
+use Rattle.wiring.proofs.nexts.add_selected.Statement.{statement}
+use Rattle.wiring.proofs.nexts.add_selected.Tie as tie
+
+wide-requires : tie.Need-wide-requires
+wide-requires c κs = search needs
+
+mul-selects : tie.Need-mul-selects
+mul-selects c = search needs
+
+mul-selects-2 : tie.Need-mul-selects-2
+mul-selects-2 c = search needs
+
+shared-slice-read-selects : tie.Need-shared-slice-read-selects
+shared-slice-read-selects c = search needs
+
+selects-requires : tie.Need-selects-requires
+selects-requires c κs = search needs
+
+mul-add-node : tie.Need-mul-add-node
+mul-add-node c = search needs
+
+mul-add-node-2 : tie.Need-mul-add-node-2
+mul-add-node-2 c = search needs
+
+shared-slice-read-add-node : tie.Need-shared-slice-read-add-node
+shared-slice-read-add-node c = search needs
+
+add-node-requires : tie.Need-add-node-requires
+add-node-requires c κs = let a = c .before .before .before .before .before .before .before .before .before .args in for-fit (a .args .now) (a .falls .now) _ _ (a .key) (a .o) _ (c .before .before .before .before .before .wide .ensures) (c .before .before .before .before .before .before .before .before .before .pre)
+
+same-length : tie.Need-same-length
+same-length c = search needs
+
+returns : tie.Need-returns
+returns c =
+    let a = c .before .before .before .before .before .before .before .before .before .before .before .before .args in
+    for-selected (a .args .now) (a .falls .now) _ _ (a .key) (a .o) _ (c .before .before .before .before .before .before .before .before .wide .ensures) _ _ (sym (c .before .before .before .before .before .before .selects .ensures) ∙ c .before .before .before .before .before .if1 .taken) (c .before .before .add-node .ensures)
+
+returns-2 : tie.Need-returns-2
+returns-2 c =
+    let a = c .before .before .before .before .before .before .before .args in
+    for-left-out (a .args .now) (a .falls .now) _ _ (a .key) (a .o) _ (c .before .before .before .wide .ensures) (sym (c .before .selects .ensures) ∙ c .if1 .left)
+
+pub add-selected-spec : {M : Type 1} → statement M
+add-selected-spec =
+    tie.close
+    (tie.spec
+    wide-requires
+    mul-selects
+    mul-selects-2
+    shared-slice-read-selects
+    selects-requires
+    mul-add-node
+    mul-add-node-2
+    shared-slice-read-add-node
+    add-node-requires
+    same-length
+    returns
+    returns-2)

@@ -1,0 +1,149 @@
+// What a NEXT's list gets of FORs: the bodies of those that it pops, and of the dispatched ones that an orphan's slots select.
+use super::fors::NEXT;
+use super::fors::wide;
+use super::growing::add_node;
+ghost use mathlib.Core.Path.{_≡_};
+ghost use Prim.Native.Nat.{_+_, _*_, _≤_};
+ghost use lib.ListN.{length, take};
+ghost use Rattle.wiring.specs.Lists.{each};
+ghost use Rattle.wiring.specs.ListedNodes.{SlotsCounted};
+ghost use Rattle.wiring.specs.ForLinks.{poppedBy};
+ghost use Rattle.wiring.specs.Growing.{Grows};
+ghost use Rattle.wiring.specs.NextBodies.{bodyAt, linkBody, selectsKey, selectedBody, slotBodies, orphanBodies, LinksRoom, PoppedRoom, SelectRoom, LinkRoom, ForRoom};
+
+// A NEXT's mark.
+const ORPHAN: u16 = 1;
+
+// Adds where the FOR t - 1 falls, where t is not 0.
+fn add_link(falls: &[u16], t: u16, part: &mut [u16], n: usize) -> usize
+    requires { ⌜ LinkRoom (now falls) t (now part) n ⌝ }
+    ensures { λ r. ⌜ Grows (now (part .entry)) n (now (part .exit)) r (linkBody (now (falls .entry)) t) ⌝ }
+{
+    if t == 0 {
+        return n;
+    }
+    let o = wide(t) - 1;
+    add_node(part, n, falls[o * 3])
+}
+
+// Adds the bodies of the FORs that a row of links names.
+fn add_links(falls: &[u16], row: &[u16], part: &mut [u16], n: usize) -> usize
+    requires { ⌜ LinksRoom (now falls) (now row) (now part) n ⌝ }
+    ensures { λ r. ⌜ Grows (now (part .entry)) n (now (part .exit)) r (each (linkBody (now (falls .entry))) (now (row .entry))) ⌝ }
+{
+    let mut r = n;
+    let mut k: usize = 0;
+    while k < row.len() {
+        r = add_link(falls, row[k], part, r);
+        k += 1;
+    }
+    r
+}
+
+// Adds the bodies of the FORs that NEXT i pops, which has so many slots.
+pub(crate) fn add_popped(
+    falls: &[u16],
+    links: &[u16],
+    i: usize,
+    count: usize,
+    part: &mut [u16],
+    n: usize,
+) -> usize
+    requires { ⌜ PoppedRoom (now falls) (now links) i count (now part) n ⌝ }
+    ensures { λ r. ⌜ Grows (now (part .entry)) n (now (part .exit)) r (each (bodyAt (now (falls .entry))) (poppedBy (now (links .entry)) i count)) ⌝ }
+{
+    let at = i * 64;
+    let end = at + count;
+    add_links(falls, &links[at..end], part, n)
+}
+
+// Whether a slot selects a FOR by its name: key 0 selects all.
+fn selects(key: u64, name: u64) -> bool
+    ensures { λ r. ⌜ r ≡ selectsKey key name ⌝ }
+{
+    if key == 0 {
+        return true;
+    }
+    name == key
+}
+
+// Adds the body of the FOR o, if the slot selects it.
+fn add_selected(args: &[u64], falls: &[u16], o: u16, key: u64, part: &mut [u16], n: usize) -> usize
+    requires { ⌜ ForRoom (now args) (now falls) o (now part) n ⌝ }
+    ensures { λ r. ⌜ Grows (now (part .entry)) n (now (part .exit)) r (selectedBody (now (args .entry)) (now (falls .entry)) key o) ⌝ }
+{
+    let k = wide(o);
+    if selects(key, args[k * 64]) {
+        return add_node(part, n, falls[k * 3]);
+    }
+    n
+}
+
+// Adds the bodies of the FORs that one slot selects among fors.
+fn add_slot(
+    args: &[u64],
+    falls: &[u16],
+    fors: &[u16],
+    key: u64,
+    part: &mut [u16],
+    n: usize,
+) -> usize
+    requires { ⌜ SelectRoom (now args) (now falls) (now fors) (now part) n ⌝ }
+    ensures { λ r. ⌜ Grows (now (part .entry)) n (now (part .exit)) r (slotBodies (now (args .entry)) (now (falls .entry)) (now (fors .entry)) key) ⌝ }
+{
+    let mut r = n;
+    let mut k: usize = 0;
+    while k < fors.len() {
+        r = add_selected(args, falls, fors[k], key, part, r);
+        k += 1;
+    }
+    r
+}
+
+// Adds the bodies that each slot selects, slot by slot.
+fn add_slots(
+    args: &[u64],
+    falls: &[u16],
+    fors: &[u16],
+    keys: &[u64],
+    part: &mut [u16],
+    n: usize,
+) -> usize
+    requires { ⌜ SelectRoom (now args) (now falls) (now fors) (now part) n ⌝ }
+    ensures { λ r. ⌜ Grows (now (part .entry)) n (now (part .exit)) r (each (slotBodies (now (args .entry)) (now (falls .entry)) (now (fors .entry))) (now (keys .entry))) ⌝ }
+{
+    let mut r = n;
+    let mut k: usize = 0;
+    while k < keys.len() {
+        r = add_slot(args, falls, fors, keys[k], part, r);
+        k += 1;
+    }
+    r
+}
+
+// Adds, if node i is an orphan NEXT, the bodies of the dispatched FORs that its slots select; there are d of these.
+pub(crate) fn add_orphan(
+    stmts: &[u16],
+    args: &[u64],
+    falls: &[u16],
+    dispatched: &[u16],
+    d: usize,
+    i: usize,
+    part: &mut [u16],
+    n: usize,
+) -> usize
+    requires { ⌜ (i * 12 + 12 ≤ length (now stmts)) × (i * 64 + 64 ≤ length (now args)) × (d ≤ length (now dispatched)) ⌝ }
+    requires { ⌜ SlotsCounted (now stmts) i ⌝ }
+    requires { ⌜ SelectRoom (now args) (now falls) (take d (now dispatched)) (now part) n ⌝ }
+    ensures { λ r. ⌜ Grows (now (part .entry)) n (now (part .exit)) r (orphanBodies (now (stmts .entry)) (now (args .entry)) (now (falls .entry)) (take d (now (dispatched .entry))) i) ⌝ }
+{
+    if stmts[i * 12] != NEXT {
+        return n;
+    }
+    if stmts[i * 12 + 11] != ORPHAN {
+        return n;
+    }
+    let at = i * 64;
+    let end = at + wide(stmts[i * 12 + 10]);
+    add_slots(args, falls, &dispatched[..d], &args[at..end], part, n)
+}
