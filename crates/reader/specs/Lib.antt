@@ -33,3 +33,4 @@ pub mod FillReady
 pub mod FillLoop
 pub mod Listed
 pub mod ReadBack
+pub mod RecordCases
