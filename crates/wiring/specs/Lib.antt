@@ -36,3 +36,4 @@ pub mod Sets
 pub mod SetLaws
 pub mod ReturnSets
 pub mod ReturnSetLaws
+pub mod EdgeTable

@@ -2,5 +2,6 @@
 pub mod lists;
 pub mod return_sets;
 pub mod sets;
+pub mod store;
 pub mod walk;
 pub mod widths;
