@@ -37,3 +37,6 @@ pub mod SetLaws
 pub mod ReturnSets
 pub mod ReturnSetLaws
 pub mod EdgeTable
+pub mod Counting
+pub mod Predecessors
+pub mod PredecessorLists
