@@ -59,3 +59,7 @@ pub mod Dispatched
 pub mod Growing
 pub mod NextBodies
 pub mod NextBodyLaws
+pub mod EdgeTable
+pub mod Counting
+pub mod Predecessors
+pub mod PredecessorLists

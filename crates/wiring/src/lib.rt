@@ -8,5 +8,7 @@ pub mod nexts;
 pub mod return_sets;
 pub mod sets;
 pub mod stacks;
+pub mod predecessors;
+pub mod store;
 pub mod walk;
 pub mod widths;

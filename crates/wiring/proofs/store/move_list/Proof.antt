@@ -1,0 +1,76 @@
+-- `move_list`: the part that the row names is the list that is appended. Assumes nothing.
+use borrow.Author.Needs.{needs}
+use Rattle.wiring.specs.EdgeTable.{moved}
+use Rattle.wiring.proofs.store.move_list.Statement.{statement}
+use Rattle.wiring.proofs.store.move_list.Tie as tie
+
+mul-row : tie.Need-mul-row
+mul-row c = search needs
+
+mul-wide : tie.Need-mul-wide
+mul-wide c = search needs
+
+slice-read-wide : tie.Need-slice-read-wide
+slice-read-wide c = search needs
+
+wide-requires : tie.Need-wide-requires
+wide-requires c κs = search needs
+
+add-wide : tie.Need-add-wide
+add-wide c = search needs
+
+mul-wide-2 : tie.Need-mul-wide-2
+mul-wide-2 c = search needs
+
+slice-read-wide-2 : tie.Need-slice-read-wide-2
+slice-read-wide-2 c = search needs
+
+wide-requires-2 : tie.Need-wide-requires-2
+wide-requires-2 c κs = search needs
+
+mul-append-list : tie.Need-mul-append-list
+mul-append-list c = search needs
+
+sub-append-list : tie.Need-sub-append-list
+sub-append-list c = search needs
+
+part-append-list-start : tie.Need-part-append-list-start
+part-append-list-start c = search needs
+
+part-append-list-end : tie.Need-part-append-list-end
+part-append-list-end c = search needs
+
+append-list-requires : tie.Need-append-list-requires
+append-list-requires c κs = search needs
+
+same-length : tie.Need-same-length
+same-length c = search needs
+
+same-length-2 : tie.Need-same-length-2
+same-length-2 c = search needs
+
+returns : tie.Need-returns
+returns c =
+    let a = c .before .before .before .before .before .before .before .before .before .before .before .before .before .before .before .args in
+    moved (c .before .before .before .before .before .before .before .before .before .before .wide .result) (c .before .before .before .before .before .before .before .before .wide2 .result) (a .from .now) (c .before .before .before .before .before .before .before .before .before .before .wide .ensures) (c .before .before .before .before .before .before .before .before .wide2 .ensures) (c .before .before .before .before .append-list .ensures)
+
+pub move-list-spec : {M : Type 1} → statement M
+move-list-spec =
+    tie.close
+    (tie.spec
+    mul-row
+    mul-wide
+    slice-read-wide
+    wide-requires
+    add-wide
+    mul-wide-2
+    slice-read-wide-2
+    wide-requires-2
+    mul-append-list
+    sub-append-list
+    part-append-list-start
+    part-append-list-end
+    append-list-requires
+    same-length
+    same-length-2
+    returns)

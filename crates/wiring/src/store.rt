@@ -1,0 +1,55 @@
+// A node's list goes into its own part of the edge table.
+use crate::widths::wide;
+ghost use mathlib.Core.Path.{_≡_};
+ghost use mathlib.Core.List.{_++_};
+ghost use Prim.Native.Nat.{_+_, _*_, _<_, _≤_};
+ghost use lib.ListN.{length, take, drop};
+ghost use Rattle.wiring.specs.EdgeTable.{Appended, succStart, succCount};
+
+// The first count entries of a list go to the front of the part; what stands behind them stays.
+pub(crate) fn store_list(part: &mut [u16], list: &[u16], count: usize)
+    requires { ⌜ (count ≤ length (now list)) × (count ≤ length (now part)) ⌝ }
+    ensures { λ _. ⌜ now (part .exit) ≡ take count (now (list .entry)) ++ drop count (now (part .entry)) ⌝ }
+{
+    let mut i: usize = 0;
+    while i < count {
+        part[i] = list[i];
+        i += 1;
+    }
+}
+
+// A node's list goes behind those stored before it, from entry `at` on, and its row says where; the answer is where the next list begins.
+pub(crate) fn append_list(
+    lists: &mut [u16],
+    succ: &mut [u16],
+    node: usize,
+    at: usize,
+    list: &[u16],
+    count: usize,
+) -> usize
+    requires { ⌜ (count ≤ length (now list)) × (at + count ≤ length (now succ)) × (at + count < 65536) × (node * 4 + 4 ≤ length (now lists)) ⌝ }
+    ensures { λ r. ⌜ Appended node at count (take count (now (list .entry))) (now (lists .entry)) (now (lists .exit)) (now (succ .entry)) (now (succ .exit)) r ⌝ }
+{
+    store_list(&mut succ[at..], list, count);
+    lists[node * 4] = at as u16;
+    lists[node * 4 + 1] = count as u16;
+    at + count
+}
+
+// A node's list, which stands in `from` where its row says, goes behind those stored in succ; then its row says where it stands there.
+pub(crate) fn move_list(
+    lists: &mut [u16],
+    from: &[u16],
+    succ: &mut [u16],
+    node: usize,
+    at: usize,
+) -> usize
+    requires { ⌜ (node * 4 + 4 ≤ length (now lists)) × (succStart (now lists) node + succCount (now lists) node ≤ length (now from)) ⌝ }
+    requires { ⌜ (at + succCount (now lists) node ≤ length (now succ)) × (at + succCount (now lists) node < 65536) ⌝ }
+    ensures { λ r. ⌜ Appended node at (succCount (now (lists .entry)) node) (take (succCount (now (lists .entry)) node) (drop (succStart (now (lists .entry)) node) (now (from .entry)))) (now (lists .entry)) (now (lists .exit)) (now (succ .entry)) (now (succ .exit)) r ⌝ }
+{
+    let row = node * 4;
+    let start = wide(lists[row]);
+    let count = wide(lists[row + 1]);
+    append_list(lists, succ, node, at, &from[start..], count)
+}
