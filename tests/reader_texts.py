@@ -3,13 +3,16 @@
 
   reader_texts.py write FOLDER   stdin and stdout of the program, made anew
   reader_texts.py judge FOLDER   the stored stdout against the second reading
+  reader_texts.py compare PROGRAM KIND SEED COUNT   a run of the program on fresh texts against the second reading
 
 The texts: the reader points with their answers by hand, and small and damaged texts of a fixed seed.
 """
 
 import io
 import os
+import subprocess
 import sys
+from collections import Counter
 
 HERE = os.path.dirname(os.path.abspath(__file__))
 sys.path.insert(0, os.path.join(HERE, "oracle"))
@@ -56,11 +59,28 @@ def check(folder):
     return 1 if wrong or not expected else 0
 
 
+def compare(program, kind, seed, count):
+    oracle = find_oracle() or sys.exit(3)
+    texts = generated(oracle, kind, int(seed), int(count))
+    data = b"".join(b"%d\n" % len(text) + text for text in texts)
+    out = subprocess.run([program], input=data, stdout=subprocess.PIPE, check=True).stdout
+    expected = [answer(text, judge(text)) for text in texts]
+    wrong = [(t, a, b) for t, a, b in zip(texts, expected, out.splitlines(True), strict=True) if a != b]
+    for text, right, found in wrong[:5]:
+        print(f"{text!r}\n  expected {right!r}\n  found    {found!r}")
+    numbers = Counter(row.split()[1] for row in expected if row.startswith(b"(refused"))
+    shown = ", ".join(f"{n.decode()}: {c}" for n, c in sorted(numbers.items()))
+    print(f"{kind} {seed}: {len(texts)} texts, refused {shown}, {len(wrong)} different")
+    return 1 if wrong else 0
+
+
 if __name__ == "__main__":
     match sys.argv[1:]:
         case ["write", folder]:
             write(folder)
         case ["judge", folder]:
             sys.exit(check(folder))
+        case ["compare", program, kind, seed, count]:
+            sys.exit(compare(program, kind, seed, count))
         case _:
             sys.exit(__doc__)
