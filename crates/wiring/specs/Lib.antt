@@ -59,3 +59,6 @@ pub mod Dispatched
 pub mod Growing
 pub mod NextBodies
 pub mod NextBodyLaws
+pub mod Held
+pub mod LineEntries
+pub mod LineSearch

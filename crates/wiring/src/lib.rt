@@ -1,12 +1,13 @@
 // The wiring: the records of a listing to its graph.
+pub mod entries;
+pub mod fors;
 pub mod frames;
+pub mod growing;
 pub mod late;
 pub mod lists;
+pub mod nexts;
 pub mod return_sets;
 pub mod sets;
+pub mod stacks;
 pub mod walk;
 pub mod widths;
-pub mod fors;
-pub mod growing;
-pub mod nexts;
-pub mod stacks;
