@@ -62,3 +62,6 @@ pub mod NextBodyLaws
 pub mod Held
 pub mod LineEntries
 pub mod LineSearch
+pub mod Falls
+pub mod FallLaws
+pub mod Connecting

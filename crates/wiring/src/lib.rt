@@ -1,5 +1,6 @@
 // The wiring: the records of a listing to its graph.
 pub mod entries;
+pub mod falls;
 pub mod fors;
 pub mod frames;
 pub mod growing;
