@@ -65,3 +65,5 @@ pub mod LineSearch
 pub mod Falls
 pub mod FallLaws
 pub mod Connecting
+pub mod Jumps
+pub mod JumpLaws

@@ -4,6 +4,7 @@ pub mod falls;
 pub mod fors;
 pub mod frames;
 pub mod growing;
+pub mod jumps;
 pub mod late;
 pub mod lists;
 pub mod nexts;
