@@ -67,3 +67,5 @@ pub mod FallLaws
 pub mod Connecting
 pub mod Jumps
 pub mod JumpLaws
+pub mod TableReads
+pub mod TableCases
