@@ -63,3 +63,13 @@ pub mod EdgeTable
 pub mod Counting
 pub mod Predecessors
 pub mod PredecessorLists
+pub mod Held
+pub mod LineEntries
+pub mod LineSearch
+pub mod Falls
+pub mod FallLaws
+pub mod Connecting
+pub mod Jumps
+pub mod JumpLaws
+pub mod TableReads
+pub mod TableCases

@@ -10,5 +10,8 @@ pub mod return_sets;
 pub mod sets;
 pub mod stacks;
 pub mod store;
+pub mod entries;
+pub mod falls;
+pub mod jumps;
 pub mod walk;
 pub mod widths;

@@ -1,0 +1,108 @@
+-- `connect_from_last`: the lines from l on are connected, `next` is the entry of the first of them and `end` its first node. Assumes nothing.
+use Prim.Native.Nat.{_≤_}
+use mathlib.Core.Bool.{true}
+use mathlib.Core.Path.{_≡_, refl, _∙_}
+use native.Mathlib.Omega.{arith}
+use borrow.Author.Needs.{needs}
+use lib.ListN.{length}
+use Rattle.wiring.specs.Connecting.{not-both, Ahead, ahead-start, ahead-down, ahead-end}
+use Rattle.wiring.specs.Falls.{fallRows}
+use Rattle.wiring.specs.LineSearch.{EntriesHeld, entry-table}
+use Rattle.wiring.specs.Held.{LinesHeld, StmtsHeld}
+use Rattle.wiring.specs.Nodes as definition
+use Rattle.reader.specs.Listing.{Lines}
+use Rattle.wiring.proofs.falls.connect_from_last.Statement.{statement}
+use Rattle.wiring.proofs.falls.connect_from_last.Tie as tie
+
+abbrev Inv-loop : tie.InvT-loop
+Inv-loop lines entries stmts falls₀ n next₀ end₀ l₀ falls next end l =
+    (l ≤ length lines) × (end ≤ n) × (length falls ≡ length falls₀)
+    × ((ls : Lines) → LinesHeld ls lines (length lines) → EntriesHeld ls entries → StmtsHeld ls stmts n
+    → Ahead (definition.entries ls) (fallRows (definition.entries ls) (definition.nodes ls)) entries stmts falls₀ falls l end next)
+
+abbrev μ-loop : tie.MeasureT-loop
+μ-loop lines entries stmts falls₀ n next₀ end₀ l₀ falls next end l = l
+
+loop-holds : tie.Need-loop-holds Inv-loop μ-loop
+loop-holds c = (search needs, search needs, refl, λ ls lh eh sh. ahead-start _ _ _ _ _ ls lh eh sh)
+
+sub-l : tie.Need-sub-l Inv-loop μ-loop
+sub-l c = search needs
+
+mul-entry : tie.Need-mul-entry Inv-loop μ-loop
+mul-entry c = search needs
+
+shared-slice-read-entry : tie.Need-shared-slice-read-entry Inv-loop μ-loop
+shared-slice-read-entry c = search needs
+
+start-of-requires : tie.Need-start-of-requires Inv-loop μ-loop
+start-of-requires c κs = search needs
+
+same-length : tie.Need-same-length Inv-loop μ-loop
+same-length c = c .before .before .before .before .loop .inv .2
+
+returns : tie.Need-returns Inv-loop μ-loop
+returns c =
+    let a = c .before .before .before .before .before .before .before .before .before .args in
+    let l = c .before .before .before .before .loop in
+    λ ls lh eh sh.
+    let r = ahead-down (a .lines .now) (a .entries .now) (a .stmts .now) (a .falls .now) (definition.entries ls) _ (entry-table ls _ _ _ lh eh) (l .falls) (l .falls) (l .l) (l .end) (l .next) _ true
+    (c .before .before .before .loop-test .taken) (c .before .start-of .ensures) (l .inv .3 ls lh eh sh) (λ h. absurd (omega (arith, c .if1 .taken))) in
+    absurd (omega (arith, r .0, c .if1 .taken))
+
+connect-then-branch-requires : tie.Need-connect-then-branch-requires Inv-loop μ-loop
+connect-then-branch-requires c κs = omega (arith, c .before .if1 .left, c .before .before .before .before .before .before .before .before .before .before .pre, c .before .before .before .before .before .loop .inv .1, c .before .before .before .before .before .loop .inv .2)
+
+same-length-2 : tie.Need-same-length-2 Inv-loop μ-loop
+same-length-2 c = c .before .before .before .connect-then-branch .kept .1 .1 .1 .0 ∙ c .before .before .before .before .before .before .before .before .before .loop .inv .2
+
+returns-2 : tie.Need-returns-2 Inv-loop μ-loop
+returns-2 c =
+    let a = c .before .before .before .before .before .before .before .before .before .before .before .before .before .before .args in
+    let l = c .before .before .before .before .before .before .before .before .before .loop in
+    λ ls lh eh sh.
+    let r = ahead-down (a .lines .now) (a .entries .now) (a .stmts .now) (a .falls .now) (definition.entries ls) _ (entry-table ls _ _ _ lh eh) (l .falls) _ (l .l) (l .end) (l .next) _ _
+    (c .before .before .before .before .before .before .before .before .loop-test .taken) (c .before .before .before .before .before .before .start-of .ensures) (l .inv .3 ls lh eh sh) (λ h. c .before .before .before .connect-then-branch .ensures) in
+    not-both (c .before .before .before .connect-then-branch .result) (r .1) (c .if2 .taken)
+
+loop-less : tie.Need-loop-less Inv-loop μ-loop
+loop-less c = search needs
+
+loop-again : tie.Need-loop-again Inv-loop μ-loop
+loop-again c =
+    let a = c .before .before .before .before .before .before .before .before .before .before .before .before .before .before .args in
+    let l = c .before .before .before .before .before .before .before .before .before .loop in (
+      omega (arith, l .inv .0),
+      omega (arith, l .inv .1, c .before .before .before .before .before .if1 .left),
+      c .before .before .before .connect-then-branch .kept .1 .1 .1 .0 ∙ l .inv .2,
+      λ ls lh eh sh.
+          ahead-down (a .lines .now) (a .entries .now) (a .stmts .now) (a .falls .now) (definition.entries ls) _ (entry-table ls _ _ _ lh eh) (l .falls) _ (l .l) (l .end) (l .next) _ _
+          (c .before .before .before .before .before .before .before .before .loop-test .taken) (c .before .before .before .before .before .before .start-of .ensures) (l .inv .3 ls lh eh sh) (λ h. c .before .before .before .connect-then-branch .ensures) .2,
+    )
+
+same-length-3 : tie.Need-same-length-3 Inv-loop μ-loop
+same-length-3 c = c .before .loop .inv .2
+
+returns-3 : tie.Need-returns-3 Inv-loop μ-loop
+returns-3 c = λ ls lh eh sh. ahead-end _ _ _ _ _ _ _ _ _ (omega arith) (c .before .loop .inv .3 ls lh eh sh)
+
+pub connect-from-last-spec : {M : Type 1} → statement M
+connect-from-last-spec =
+    tie.close
+    (tie.spec
+    Inv-loop
+    μ-loop
+    loop-holds
+    sub-l
+    mul-entry
+    shared-slice-read-entry
+    start-of-requires
+    same-length
+    returns
+    connect-then-branch-requires
+    same-length-2
+    returns-2
+    loop-less
+    loop-again
+    same-length-3
+    returns-3)

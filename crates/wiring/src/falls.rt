@@ -1,0 +1,234 @@
+// Where statements fall and where branches lead.
+use crate::entries::entry_of;
+use crate::widths::narrow;
+use crate::widths::wide;
+use reader::tables::END;
+use reader::tables::FORM1;
+use reader::tables::FORM2;
+use reader::tables::NUMBER1;
+use reader::tables::NUMBER2;
+use reader::tables::SECOND;
+use reader::tables::STMT_ENTRIES;
+ghost use mathlib.Core.Path.{_≡_};
+ghost use mathlib.Core.Bool.{true, false};
+ghost use mathlib.Core.List.{[], _∷_};
+ghost use Prim.Native.Nat.{_+_, _*_, _≤_, _<_};
+ghost use lib.ListN.{length};
+ghost use lib.Seq.{sets};
+ghost use Rattle.wiring.specs.Falls.{targetOf, BranchLed, RowConnected, StmtConnected, BranchConnected, LinesConnected, AllLines};
+ghost use Rattle.wiring.specs.Connecting.{startOf};
+
+// Forms of a branch.
+const NO_BRANCH: u16 = 0;
+
+const TO_LINE: u16 = 2;
+
+// Statements nest to depth 16, and those of a line have depth 0.
+const DEPTHS: usize = 17;
+
+// Where a statement falls that ends at e, in a list that ends at `end` and then comes to `next`.
+fn target_of(e: usize, end: usize, next: u16) -> u16
+    requires { ⌜ e < 65535 ⌝ }
+    ensures { λ r. ⌜ r ≡ targetOf e end next ⌝ }
+{
+    if e < end { narrow(e + 1) } else { next }
+}
+
+// Whether no depth is left, or the middle does not lie between the first and the last.
+fn out_of_order(depth: usize, first: usize, middle: usize, last: usize) -> bool
+    ensures { λ r. ⌜ (r ≡ false → (0 < depth) × (first ≤ middle) × (middle ≤ last)) × (r ≡ true → (0 < depth) × (first ≤ middle) × (middle ≤ last) → ⊥) ⌝ }
+{
+    if depth == 0 {
+        return true;
+    }
+    if middle < first {
+        return true;
+    }
+    if last < middle {
+        return true;
+    }
+    false
+}
+
+// Where a branch leads: to its line's entry, to its first statement, or, without one, to where its IF falls. `lines` ends with the last line.
+fn branch_target(
+    lines: &[u16],
+    entries: &[u16],
+    form: u16,
+    number: u16,
+    from: usize,
+    end: usize,
+    next: u16,
+) -> u16
+    requires { ⌜ (length (now lines) ≤ length (now entries)) × (from < 65535) ⌝ }
+    ensures { λ r. ⌜ BranchLed (now (lines .entry)) (now (entries .entry)) form number from end next r ⌝ }
+{
+    if form == TO_LINE {
+        return entry_of(lines, entries, lines.len(), number);
+    }
+    if form == NO_BRANCH {
+        return next;
+    }
+    if from < end { narrow(from + 1) } else { next }
+}
+
+fn put_row(falls: &mut [u16], i: usize, fall: u16, first: u16, second: u16)
+    requires { ⌜ i * 3 + 3 ≤ length (now falls) ⌝ }
+    ensures { λ r. ⌜ now (falls .exit) ≡ sets (now (falls .entry)) (i * 3) (fall ∷ first ∷ second ∷ []) ⌝ }
+{
+    falls[i * 3] = fall;
+    falls[i * 3 + 1] = first;
+    falls[i * 3 + 2] = second;
+}
+
+// The row of an IF whose second branch begins at m and that ends at `end`.
+fn connect_row(
+    lines: &[u16],
+    entries: &[u16],
+    stmts: &[u16],
+    falls: &mut [u16],
+    i: usize,
+    m: usize,
+    end: usize,
+    next: u16,
+)
+    requires { ⌜ (length (now lines) ≤ length (now entries)) × (i < 4096) × (m ≤ 4096) ⌝ }
+    requires { ⌜ (i * 12 + 12 ≤ length (now stmts)) × (i * 3 + 3 ≤ length (now falls)) ⌝ }
+    ensures { λ r. ⌜ RowConnected (now (lines .entry)) (now (entries .entry)) (now (stmts .entry)) i m end next (now (falls .entry)) (now (falls .exit)) ⌝ }
+{
+    let row = i * STMT_ENTRIES;
+    let first = branch_target(
+        lines,
+        entries,
+        stmts[row + FORM1],
+        stmts[row + NUMBER1],
+        i + 1,
+        m,
+        next,
+    );
+    let second = branch_target(
+        lines,
+        entries,
+        stmts[row + FORM2],
+        stmts[row + NUMBER2],
+        m,
+        end,
+        next,
+    );
+    put_row(falls, i, next, first, second);
+}
+
+// Statement i, which ends at `end`, and those in its branches fall to `next`; false if its record does not say where they are (27).
+pub(crate) fn connect_stmt(
+    lines: &[u16],
+    entries: &[u16],
+    stmts: &[u16],
+    falls: &mut [u16],
+    depth: usize,
+    i: usize,
+    end: usize,
+    next: u16,
+) -> bool
+    requires { ⌜ (length (now lines) ≤ length (now entries)) × (i < end) × (end ≤ 4096) ⌝ }
+    requires { ⌜ (end * 12 ≤ length (now stmts)) × (end * 3 ≤ length (now falls)) ⌝ }
+    ensures { λ r. ⌜ StmtConnected (now (lines .entry)) (now (entries .entry)) (now (stmts .entry)) depth i end next (now (falls .entry)) (now (falls .exit)) r ⌝ }
+{
+    let row = i * STMT_ENTRIES;
+    if stmts[row + FORM1] == NO_BRANCH {
+        put_row(falls, i, next, 0, 0);
+        return true;
+    }
+    let m = wide(stmts[row + SECOND]);
+    if out_of_order(depth, i + 1, m, end) {
+        return false;
+    }
+    connect_row(lines, entries, stmts, falls, i, m, end, next);
+    if !connect_then_branch(lines, entries, stmts, falls, depth - 1, i + 1, m, next) {
+        return false;
+    }
+    connect_then_branch(lines, entries, stmts, falls, depth - 1, m, end, next)
+}
+
+// The statements from `from` up to `end`: each falls to the one after it, the last to `next`.
+pub(crate) fn connect_then_branch(
+    lines: &[u16],
+    entries: &[u16],
+    stmts: &[u16],
+    falls: &mut [u16],
+    depth: usize,
+    from: usize,
+    end: usize,
+    next: u16,
+) -> bool
+    requires { ⌜ (length (now lines) ≤ length (now entries)) × (from ≤ end) × (end ≤ 4096) ⌝ }
+    requires { ⌜ (end * 12 ≤ length (now stmts)) × (end * 3 ≤ length (now falls)) ⌝ }
+    ensures { λ r. ⌜ BranchConnected (now (lines .entry)) (now (entries .entry)) (now (stmts .entry)) depth from end next (now (falls .entry)) (now (falls .exit)) r ⌝ }
+{
+    let mut i = from;
+    while i < end {
+        let e = wide(stmts[i * STMT_ENTRIES + END]);
+        if out_of_order(1, i + 1, e, end) {
+            return false;
+        }
+        let target = target_of(e, end, next);
+        if !connect_stmt(lines, entries, stmts, falls, depth, i, e, target) {
+            return false;
+        }
+        i = e;
+    }
+    true
+}
+
+// The node where a line's statements begin: its entry, or `end` where it has none.
+fn start_of(entry: u16, end: usize) -> usize
+    ensures { λ r. ⌜ r ≡ startOf entry end ⌝ }
+{
+    if entry == 0 { end } else { wide(entry) - 1 }
+}
+
+// Each line's statements fall to the next line's entry. From the last line up, where that entry is at hand.
+fn connect_from_last(
+    lines: &[u16],
+    entries: &[u16],
+    stmts: &[u16],
+    falls: &mut [u16],
+    n: usize,
+) -> bool
+    requires { ⌜ (length (now lines) ≤ length (now entries)) × (n ≤ 4096) ⌝ }
+    requires { ⌜ (n * 12 ≤ length (now stmts)) × (n * 3 ≤ length (now falls)) ⌝ }
+    ensures { λ r. ⌜ AllLines (now (lines .entry)) (now (entries .entry)) (now (stmts .entry)) n (now (falls .entry)) (now (falls .exit)) r ⌝ }
+{
+    let mut next: u16 = 0;
+    let mut end = n;
+    let mut l = lines.len();
+    while 0 < l {
+        l -= 1;
+        let entry = entries[l];
+        let from = start_of(entry, end);
+        if end < from {
+            return false;
+        }
+        if !connect_then_branch(lines, entries, stmts, falls, DEPTHS, from, end, next) {
+            return false;
+        }
+        next = entry;
+        end = from;
+    }
+    true
+}
+
+// Where the n statements of `count` lines fall, and where their branches lead; false if a record does not say where statements are (27).
+pub(crate) fn connect_lines(
+    lines: &[u16],
+    entries: &[u16],
+    stmts: &[u16],
+    falls: &mut [u16],
+    count: usize,
+    n: usize,
+) -> bool
+    requires { ⌜ (count ≤ length (now lines)) × (count ≤ length (now entries)) × (n ≤ 4096) ⌝ }
+    requires { ⌜ (n * 12 ≤ length (now stmts)) × (n * 3 ≤ length (now falls)) ⌝ }
+    ensures { λ r. ⌜ LinesConnected (now (lines .entry)) (now (entries .entry)) (now (stmts .entry)) count n (now (falls .entry)) (now (falls .exit)) r ⌝ }
+{
+    connect_from_last(&lines[..count], entries, stmts, falls, n)
+}
