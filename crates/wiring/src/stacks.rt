@@ -45,7 +45,7 @@ fn height(w: u64) -> usize
 }
 
 // One more than the highest mark in the first n words, or 0.
-pub fn highest(words: &[u64; 64], n: usize) -> usize
+pub(crate) fn highest(words: &[u64; 64], n: usize) -> usize
     requires { ⌜ n ≤ 64 ⌝ }
     ensures { λ r. ⌜ Highest (now (words .entry)) n r ⌝ }
 {
@@ -67,7 +67,7 @@ impl FrameStack {
         FrameStack { words: no_words() }
     }
 
-    pub fn push(mut self, id: usize) -> FrameStack
+    pub(crate) fn push(mut self, id: usize) -> FrameStack
         requires { ⌜ id < 4096 ⌝ }
         requires { ⌜ Room (self .words) id ⌝ }
         ensures { λ r. ⌜ Pushed (self .words) id (r .words) ⌝ }
@@ -108,7 +108,7 @@ impl FrameStack {
     }
 
     // Drops the frame of opener id and all above it.
-    pub fn cut(mut self, id: usize) -> FrameStack
+    pub(crate) fn cut(mut self, id: usize) -> FrameStack
         requires { ⌜ id < 4096 ⌝ }
         ensures { λ r. ⌜ CutAt (self .words) id (r .words) ⌝ }
     {
@@ -126,7 +126,7 @@ impl FrameStack {
 }
 
 // One more than the highest mark below mark id, or 0: the frame under the frame of opener id.
-pub fn below(words: &[u64; 64], id: usize) -> usize
+pub(crate) fn below(words: &[u64; 64], id: usize) -> usize
     requires { ⌜ id < 4096 ⌝ }
     ensures { λ r. ⌜ (r ≤ id) × BelowIs (now (words .entry)) id r ⌝ }
 {
