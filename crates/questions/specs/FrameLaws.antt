@@ -7,7 +7,7 @@ use native.Mathlib.Omega.{arith}
 use lib.ListN.{length, getD, take}
 use lib.Seq.{take-all}
 use Rattle.reader.specs.Bytes.{pick}
-use Rattle.wiring.specs.Lists.{has, keep}
+use Rattle.graph.specs.Lists.{has, keep}
 use Rattle.questions.specs.Questions.{kept}
 
 -- how many are kept of the first i, and of one more

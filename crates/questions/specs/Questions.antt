@@ -8,11 +8,11 @@ use lib.ListN.{length, getElem?}
 use Rattle.reader.specs.Bytes.{same, pick}
 use Rattle.reader.specs.Listing.{Name, Simple, Listing}
 use Rattle.reader.specs.Rows.{isName}
-use Rattle.wiring.specs.Lists.{has, keep}
-use Rattle.wiring.specs.Nodes.{NodeStmt, simple, cond, Node, nodes, entries, entryOf}
-use Rattle.wiring.specs.NodeRecords.{stmtWord}
-use Rattle.wiring.specs.Targets.{onFor, onNext, onSimple}
-use Rattle.wiring.specs.Graph.{Role, call, returns, forgets, steps, noNode, wire, role, continuation, successors}
+use Rattle.graph.specs.Lists.{has, keep}
+use Rattle.graph.specs.Nodes.{NodeStmt, simple, cond, Node, nodes, entries, entryOf}
+use Rattle.graph.specs.NodeRecords.{stmtWord}
+use Rattle.graph.specs.Targets.{onFor, onNext, onSimple}
+use Rattle.graph.specs.Graph.{Role, call, returns, forgets, steps, noNode, wire, role, continuation, successors}
 
 -- an answer, or a refusal with its number and place
 pub data Reply (A : Type 0) : Type 0 where

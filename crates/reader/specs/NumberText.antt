@@ -124,12 +124,12 @@ decimal-fuel (suc k) (suc j) n h g = go (ltb n 10) refl (λ p q. decimal-fuel k 
     go true e f = refl
     go false e f = let p = ltb-false n 10 e in rw (f (omega arith) (omega arith))
 
-decimal-small : (n : ℕ) → n < 10 → decimal n ≡ (48 + n) ∷ []
+pub decimal-small : (n : ℕ) → n < 10 → decimal n ≡ (48 + n) ∷ []
 unfolding decimal decimalIn
 decimal-small n h = rw (lt-ltb n 10 h)
 
 -- one more digit
-decimal-more : (a d : ℕ) → 0 < a → d < 10 → decimal (a * 10 + d) ≡ decimal a ++ ((48 + d) ∷ [])
+pub decimal-more : (a d : ℕ) → 0 < a → d < 10 → decimal (a * 10 + d) ≡ decimal a ++ ((48 + d) ∷ [])
 unfolding decimal
 decimal-more a d h g =
     let q : (a * 10 + d) / 10 ≡ a = omega arith in

@@ -7,8 +7,8 @@ use lib.Dec.{eqb}
 use Rattle.reader.specs.Bytes.{bytes, same}
 use Rattle.reader.specs.Listing.{Listing}
 use Rattle.reader.specs.Read.{Answer, listing, refusal, read}
-use Rattle.wiring.specs.Build.{flowlist}
-use Rattle.wiring.specs.Opened as wiring
+use Rattle.graph.specs.Build.{flowlist}
+use Rattle.graph.specs.Opened as wiring
 use Rattle.questions.specs.Opened as questions
 use Rattle.questions.specs.Questions.{Reply, answer, refused, askStatement, askPath, askFrame}
 

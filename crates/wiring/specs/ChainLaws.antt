@@ -6,8 +6,8 @@ use native.Mathlib.Omega.{arith}
 use native.Mathlib.Numerals.{sub-one}
 use lib.ListN.{length, getD}
 use Rattle.reader.specs.Every.{All, all∷}
-use Rattle.wiring.specs.Lists.{each}
-use Rattle.wiring.specs.Adding.{decode, Added, added-none, added-both}
+use Rattle.graph.specs.Lists.{each}
+use Rattle.graph.specs.Adding.{decode, Added, added-none, added-both}
 use Rattle.wiring.specs.Late.{FitsPart, fallBy, fallFrom, FallFits, FallFitsFrom, AboveNode, ElseChain, chain[], chain∷, ElsesFit, ElsesAdded, elsesOr, DoifAdded, closerFrom, CloserFits}
 
 -- ---- one node

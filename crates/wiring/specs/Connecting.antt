@@ -12,9 +12,9 @@ use lib.Seq.{sets, getD-at}
 use Rattle.reader.specs.Listing.{BranchForm, to, stmts, absent, Stmts, ∅, _▸_, branching, Lines, nolines, line, size, total, count}
 use Rattle.reader.specs.ListingText.{StmtsOk, LinesOk}
 use Rattle.reader.specs.Records.{branchNumber, branchLine, stmtRecs, lineRecs}
-use Rattle.wiring.specs.Adding.{nodeNumber}
-use Rattle.wiring.specs.NodeLaws.{length-nodes}
-use Rattle.wiring.specs.Nodes.{branchTarget, allocate, lineEntry, nodesBefore, nodes, Entries, entryOf, entriesBefore, entries}
+use Rattle.graph.specs.Adding.{nodeNumber}
+use Rattle.graph.specs.NodeLaws.{length-nodes}
+use Rattle.graph.specs.Nodes.{branchTarget, allocate, lineEntry, nodesBefore, nodes, Entries, entryOf, entriesBefore, entries}
 use Rattle.wiring.specs.Held.{LinesHeld, StmtsHeld}
 use Rattle.wiring.specs.LineEntries.{entryNumbers, entryRows, numbers-append, numbers-length, entries-length, recs-total}
 use Rattle.wiring.specs.LineSearch.{EntryTable, EntriesHeld, EntryFound, lines-exact}

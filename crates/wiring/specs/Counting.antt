@@ -9,9 +9,9 @@ use borrow.Author.Tests.{eqb-true, eq-eqb, ne-eqb}
 use lib.Dec.{eqb}
 use lib.ListN.{length}
 use Rattle.reader.specs.Every.{all[], all∷}
-use Rattle.wiring.specs.Lists.{has}
-use Rattle.wiring.specs.Distinct.{Distinct, dist[], dist∷}
-use Rattle.wiring.specs.EdgeBounds.{Ids}
+use Rattle.graph.specs.Lists.{has}
+use Rattle.graph.specs.Distinct.{Distinct, dist[], dist∷}
+use Rattle.graph.specs.EdgeBounds.{Ids}
 use Rattle.wiring.specs.EdgeTable.{joinedLists, startOf, start-zero, start-end, start-next, listsTo, length-lists, lists-at}
 
 abbrev pub one : Bool → ℕ

@@ -14,11 +14,11 @@ use Rattle.reader.specs.Bytes.{pick}
 use Rattle.reader.specs.Listing.{Name, Tier, static, framed, dispatched}
 use Rattle.reader.specs.ListingText.{NameOk, SimpleOk}
 use Rattle.reader.specs.Records.{nameKey, argsOf, detailOf, tierNumber}
-use Rattle.wiring.specs.Lists.{each, list}
-use Rattle.wiring.specs.Adding.{nodeNumber}
-use Rattle.wiring.specs.Nodes.{NodeStmt, Node}
-use Rattle.wiring.specs.NodeRecords.{stmtNumber}
-use Rattle.wiring.specs.Targets.{onFor, onSimple, dispatchTarget, dispatchTargets}
+use Rattle.graph.specs.Lists.{each, list}
+use Rattle.graph.specs.Adding.{nodeNumber}
+use Rattle.graph.specs.Nodes.{NodeStmt, Node}
+use Rattle.graph.specs.NodeRecords.{stmtNumber}
+use Rattle.graph.specs.Targets.{onFor, onSimple, dispatchTarget, dispatchTargets}
 use Rattle.wiring.specs.ListedNodes.{StmtListed, Listed, FallsListed, ForKind, isFor, isNext, isOther, for-kind, for-number, next-number, node-at}
 
 -- ts: the records; es: where nodes fall. A FOR, dispatched, that falls:
@@ -108,7 +108,7 @@ module _ (ts ks es : List ℕ) (k : ℕ) where
   for-bodies v dispatched none h n w d f = rw (by-fall ts es k w d, f) bodies[]
   for-bodies v dispatched (some b) h n w d f = rw (by-fall ts es k w d, f, ne-eqb (suc b) 0 (λ q. omega arith)) (bodies∷ h n f bodies[])
 
-  node-bodies : (s : NodeStmt) (e : Option ℕ) → getD ts (k * 12) 0 ≡ stmtNumber s → StmtListed ts ks k s → getD es (k * 3) 0 ≡ nodeNumber e → ForKind s
+  pub node-bodies : (s : NodeStmt) (e : Option ℕ) → getD ts (k * 12) 0 ≡ stmtNumber s → StmtListed ts ks k s → getD es (k * 3) 0 ≡ nodeNumber e → ForKind s
       → Bodies ks es (pick (isDispatched ts es k) (k ∷ []) []) (target s e)
   unfolding onSimple onFor argsOf detailOf SimpleOk
   node-bodies s e w h f (isFor v t) =
@@ -122,7 +122,7 @@ unfolding each
 each-snoc f [] a = append-nil (f a)
 each-snoc f (x ∷ l) a = rw (each-snoc f l a, append-assoc)
 
-take-node : {A : Type 0} (l : List A) (k : ℕ) (a : A) → getElem? l k ≡ some a → take (suc k) l ≡ take k l ++ (a ∷ [])
+pub take-node : {A : Type 0} (l : List A) (k : ℕ) (a : A) → getElem? l k ≡ some a → take (suc k) l ≡ take k l ++ (a ∷ [])
 take-node [] k a e = absurd (let z : _≡_ {A = ℕ} 0 1 = cc in omega arith)
 take-node (x ∷ l) zero a e = let q : x ≡ a = cc in rw q
 take-node (x ∷ l) (suc k) a e = ap (λ y. x ∷ y) (take-node l k a e)

@@ -11,7 +11,7 @@ use lib.ListN.{length, length-append, length-drop, length-set, take, drop, getD,
 use lib.Seq.{take-append-seam, drop-append-add, take-append-le, drop-append-le, take-add, drop-cons, drop-drop, take-all, take-at, drop-at, length-take-le, getD-take, getD-drop, getD-append-seam, getD-append-add, getD-set-same, getD-set-other, ext-getD, take-suc, append-snoc, set-at}
 use Rattle.reader.specs.Bytes.{pick}
 use Rattle.reader.specs.Every.{All, all[], all∷, all-append}
-use Rattle.wiring.specs.Lists.{below}
+use Rattle.graph.specs.Lists.{below}
 
 -- ---- lists one after the other, and where each begins
 

@@ -13,8 +13,8 @@ use Rattle.reader.specs.ListingText.{BranchOk, BranchesOk, StmtsOk}
 use Rattle.reader.specs.Records.{Rec, branchNumber, simpleRec, condRec, stmtRecs, recRow, recRows, padded, joined}
 use Rattle.reader.specs.Tables.{drop-zeros}
 use Rattle.reader.specs.RecordLaws as records
-use Rattle.wiring.specs.Adding.{nodeNumber}
-use Rattle.wiring.specs.Nodes.{NodeStmt, simple, cond, Node, allocate, nodes, Entries}
+use Rattle.graph.specs.Adding.{nodeNumber}
+use Rattle.graph.specs.Nodes.{NodeStmt, simple, cond, Node, allocate, nodes, Entries}
 use Rattle.wiring.specs.Falls.{stmtRow, fallRow, fallRows, Head, leaf, fork, headSize, headRow, fallsOf, headFalls, Spans, HeadAt, HeadOk}
 
 -- ---- the definition's nodes

@@ -11,10 +11,10 @@ use Rattle.reader.specs.Bytes.{pick}
 use Rattle.reader.specs.Listing.{BranchForm, to, stmts, Stmts, ∅, _▸_, branching, Lines, size}
 use Rattle.reader.specs.ListingText.{StmtsOk}
 use Rattle.reader.specs.Records.{branchNumber, branchLine, padded}
-use Rattle.wiring.specs.Adding.{nodeNumber, decode, decode-number}
-use Rattle.wiring.specs.Lists.{list}
-use Rattle.wiring.specs.Nodes.{BranchTarget, toLine, toNode, falls, NodeStmt, simple, cond, Node, branchTarget, Entries, entryOf, entries, nodes}
-use Rattle.wiring.specs.Targets.{branchEdges}
+use Rattle.graph.specs.Adding.{nodeNumber, decode, decode-number}
+use Rattle.graph.specs.Lists.{list}
+use Rattle.graph.specs.Nodes.{BranchTarget, toLine, toNode, falls, NodeStmt, simple, cond, Node, branchTarget, Entries, entryOf, entries, nodes}
+use Rattle.graph.specs.Targets.{branchEdges}
 use Rattle.wiring.specs.Held.{LinesHeld, StmtsHeld}
 use Rattle.wiring.specs.LineSearch.{EntryTable, EntriesHeld}
 

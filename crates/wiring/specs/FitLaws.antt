@@ -7,11 +7,11 @@ use native.Mathlib.Omega.{arith}
 use lib.ListN.{length, take}
 use lib.Seq.{length-take-le}
 use Rattle.reader.specs.Every.{All, all[], all∷}
-use Rattle.wiring.specs.Lists.{has, addAll}
-use Rattle.wiring.specs.ListLaws.{add-old}
-use Rattle.wiring.specs.EdgeBounds.{addAll-ids}
-use Rattle.wiring.specs.Adding.{decode, Added, added-none}
-use Rattle.wiring.specs.Distinct.{Distinct, room, distinct-all}
+use Rattle.graph.specs.Lists.{has, addAll}
+use Rattle.graph.specs.ListLaws.{add-old}
+use Rattle.graph.specs.EdgeBounds.{addAll-ids}
+use Rattle.graph.specs.Adding.{decode, Added, added-none}
+use Rattle.graph.specs.Distinct.{Distinct, room, distinct-all}
 use Rattle.wiring.specs.Late.{FitsPart}
 
 pub decode-below : (m t : ℕ) → t ≤ m → All (λ (a : ℕ). a < m) (decode t)

@@ -13,13 +13,13 @@ use Rattle.reader.specs.Every.{All, all[], all∷, all-append}
 use Rattle.reader.specs.Listing.{Name, Mark, Slot, next}
 use Rattle.reader.specs.ListingText.{NameOk, SlotsOk, SimpleOk}
 use Rattle.reader.specs.Records.{nameKey, slotKey, argsOf}
-use Rattle.wiring.specs.Lists.{each, list}
-use Rattle.wiring.specs.Adding.{nodeNumber, decode, decode-number}
-use Rattle.wiring.specs.Members.{all-map}
-use Rattle.wiring.specs.Nodes.{NodeStmt, simple, Node}
-use Rattle.wiring.specs.NodeRecords.{stmtNumber}
-use Rattle.wiring.specs.Edges.{ForMove, keepFors, pushFor, popFors, onFors, movesOf, nodeMoves}
-use Rattle.wiring.specs.PerNode.{Openers, noOpeners, findOpener, openersUnder, openerFound, popOpener, openersPopped, openersLeft, forOpenersAfter, after, pops, Fact, factOf, facts}
+use Rattle.graph.specs.Lists.{each, list}
+use Rattle.graph.specs.Adding.{nodeNumber, decode, decode-number}
+use Rattle.graph.specs.Members.{all-map}
+use Rattle.graph.specs.Nodes.{NodeStmt, simple, Node}
+use Rattle.graph.specs.NodeRecords.{stmtNumber}
+use Rattle.graph.specs.Edges.{ForMove, keepFors, pushFor, popFors, onFors, movesOf, nodeMoves}
+use Rattle.graph.specs.PerNode.{Openers, noOpeners, findOpener, openersUnder, openerFound, popOpener, openersPopped, openersLeft, forOpenersAfter, after, pops, Fact, factOf, facts}
 use Rattle.wiring.specs.FrameStacks.{topOf, Holds}
 use Rattle.wiring.specs.ListedNodes.{StmtListed, Listed, keysAt, keys-are, ForKind, isFor, isNext, isOther, for-kind, for-number, next-number, key-some, key-same, node-at}
 use Rattle.wiring.specs.ForStack.{findKey, foundNumber, underFound, popKey, keyLinks, keysLeft, pushKey, forsOpen, forsLinked, NodeLinked}

@@ -4,10 +4,10 @@ use mathlib.Core.Path.{_≡_, refl}
 use mathlib.Core.List.{List, [], _∷_, map}
 use mathlib.Core.Option.{none}
 use Rattle.reader.specs.Listing.{Simple, repeat, loop, until, endloop, exit, exitif, doif, else, done}
-use Rattle.wiring.specs.Lists.{each, below}
-use Rattle.wiring.specs.Nodes.{simple}
-use Rattle.wiring.specs.Edges.{noMoves, onFors, onLoops, onDos, movesOf, nodeMoves}
-use Rattle.wiring.specs.PerNode.{noOpeners, forOpenersAfter, openersAfter, after, meets, pops, factOf, facts, isClosing, isJoining}
+use Rattle.graph.specs.Lists.{each, below}
+use Rattle.graph.specs.Nodes.{simple}
+use Rattle.graph.specs.Edges.{noMoves, onFors, onLoops, onDos, movesOf, nodeMoves}
+use Rattle.graph.specs.PerNode.{noOpeners, forOpenersAfter, openersAfter, after, meets, pops, factOf, facts, isClosing, isJoining}
 use Rattle.wiring.specs.Frames.{eitherMet, frameMet, metNumber, closesFrame, isElseOf, firstWhere, nextWhere, metEntry, doMetOf, elseEntry, frameRow, frameRows}
 
 abbrev rowsOf : List Simple → List ℕ

@@ -6,9 +6,9 @@ use mathlib.Core.List.{List}
 use lib.Dec.{eqb, leb}
 use lib.ListN.{length, getD, getElem?, set}
 use Rattle.reader.specs.Bytes.{pick}
-use Rattle.wiring.specs.Nodes.{Node}
-use Rattle.wiring.specs.Edges.{Move, stays, opens, closes, joins}
-use Rattle.wiring.specs.PerNode.{openersAfter, noOpeners, Fact, facts, nothing}
+use Rattle.graph.specs.Nodes.{Node}
+use Rattle.graph.specs.Edges.{Move, stays, opens, closes, joins}
+use Rattle.graph.specs.PerNode.{openersAfter, noOpeners, Fact, facts, nothing}
 use Rattle.wiring.specs.FrameStacks.{topOf, Holds}
 use Rattle.wiring.specs.Frames.{Worded, metEntry, nextWhere, closesFrame, doMetOf, elseEntry}
 use Rattle.wiring.specs.declared.frames.FrameMove.{FrameMove}

@@ -9,14 +9,14 @@ use native.Mathlib.Numerals.{add-one}
 use native.Mathlib.Decide.{ℕ-discrete}
 use lib.ListN.{length, length-set, getD, getElem?, set, replicate}
 use lib.Seq.{getD-set-same, getD-set-other}
-use Rattle.wiring.specs.Nodes.{Node}
-use Rattle.wiring.specs.NodeRecords.{stmtNumber}
-use Rattle.wiring.specs.Edges.{Move, stays, opens, closes, joins, nodeMoves, Stack, loopStack, doStack}
-use Rattle.wiring.specs.PerNode.{openersAfter, Met, nothing, closing, joining, meets, moveOn, metOn, noOpeners, Fact, facts}
+use Rattle.graph.specs.Nodes.{Node}
+use Rattle.graph.specs.NodeRecords.{stmtNumber}
+use Rattle.graph.specs.Edges.{Move, stays, opens, closes, joins, nodeMoves, Stack, loopStack, doStack}
+use Rattle.graph.specs.PerNode.{openersAfter, Met, nothing, closing, joining, meets, moveOn, metOn, noOpeners, Fact, facts}
 use Rattle.wiring.specs.Frames.{loopMove, doMove, wordMove, Worded, eitherMet, metNumber, frameMet, metEntry}
 use Rattle.wiring.specs.FrameStacks.{topOf, Holds, holds∷, Room, Pushed, PoppedIs, PoppedTo, TopIs}
 use Rattle.wiring.specs.FrameStackLaws.{zeros, room}
-use Rattle.wiring.specs.PerNodeLaws.{length-facts}
+use Rattle.graph.specs.PerNodeLaws.{length-facts}
 use Rattle.wiring.specs.OpenerLaws.{some-at, in-range, openAt, open-start, open-next, open-desc, desc-top, met-at}
 use Rattle.wiring.specs.MoveLaws.{word-move, one-stack}
 use Rattle.wiring.specs.FramePass.{HoldsBelow, metWritten, Stepped, AllZero, MetUpto, MetBelow, MetFrames}

@@ -8,9 +8,9 @@ use native.Mathlib.Decide.{ℕ-discrete}
 use lib.ListN.{length, length-append, getD, getElem?, replicate, length-replicate, List·getD-append}
 use lib.Seq.{getD-append-add, ext-getD}
 use Rattle.reader.specs.Records.{padded}
-use Rattle.wiring.specs.Lists.{each, below}
+use Rattle.graph.specs.Lists.{each, below}
 use Rattle.wiring.specs.FrameStackLaws.{lt-or, zeros}
-use Rattle.wiring.specs.PerNode.{Fact}
+use Rattle.graph.specs.PerNode.{Fact}
 use Rattle.wiring.specs.Frames.{nextWhere, closesFrame, metEntry, doMetOf, elseEntry, frameRow, frameRows, frameTable}
 
 each-snoc : (f : ℕ → List ℕ) (l : List ℕ) (a : ℕ) → each f (l ++ (a ∷ [])) ≡ each f l ++ f a

@@ -9,11 +9,11 @@ use lib.Dec.{eqb, ltb}
 use lib.ListN.{length, drop, getD, getElem?}
 use Rattle.reader.specs.Bytes.{pick}
 use Rattle.reader.specs.Records.{padded}
-use Rattle.wiring.specs.Lists.{each, below}
-use Rattle.wiring.specs.Nodes.{Node}
-use Rattle.wiring.specs.NodeRecords.{stmtNumber}
-use Rattle.wiring.specs.Edges.{Move, stays, opens, closes, joins, Stack, loopStack, doStack}
-use Rattle.wiring.specs.PerNode.{Met, nothing, closing, joining, noOpeners, Fact, facts, isClosing, isJoining}
+use Rattle.graph.specs.Lists.{each, below}
+use Rattle.graph.specs.Nodes.{Node}
+use Rattle.graph.specs.NodeRecords.{stmtNumber}
+use Rattle.graph.specs.Edges.{Move, stays, opens, closes, joins, Stack, loopStack, doStack}
+use Rattle.graph.specs.PerNode.{Met, nothing, closing, joining, noOpeners, Fact, facts, isClosing, isJoining}
 
 -- ---- what a statement does to each stack, by the number of its opening word
 

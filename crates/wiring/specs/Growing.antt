@@ -8,11 +8,11 @@ use native.Mathlib.Numerals.{add-one}
 use lib.ListN.{length, getD, set, take, length-set}
 use lib.Seq.{take-suc, take-all, take-suc-set, drop-set-lt, length-take-le}
 use Rattle.reader.specs.Every.{all[], all∷}
-use Rattle.wiring.specs.Lists.{has, add, each}
-use Rattle.wiring.specs.ListLaws.{add-old, add-new}
-use Rattle.wiring.specs.Adding.{Added, decode, added-none, added-both, added-one}
-use Rattle.wiring.specs.Distinct.{Distinct, room as room-new, distinct-all}
-use Rattle.wiring.specs.EdgeBounds.{Ids, addAll-ids}
+use Rattle.graph.specs.Lists.{has, add, each}
+use Rattle.graph.specs.ListLaws.{add-old, add-new}
+use Rattle.graph.specs.Adding.{Added, decode, added-none, added-both, added-one}
+use Rattle.graph.specs.Distinct.{Distinct, room as room-new, distinct-all}
+use Rattle.graph.specs.EdgeBounds.{Ids, addAll-ids}
 
 -- the first n entries of the part are distinct nodes below m, and the part has room for m
 pub record Grown (m : ℕ) (part : List ℕ) (n : ℕ) : Type 0 where
@@ -37,11 +37,11 @@ grown-room m part n t g h =
 
 -- ---- pieces
 
-ids-left : (m : ℕ) (k l : List ℕ) → Ids m (k ++ l) → Ids m k
+pub ids-left : (m : ℕ) (k l : List ℕ) → Ids m (k ++ l) → Ids m k
 ids-left m [] l h = all[]
 ids-left m (a ∷ k) l (all∷ p h) = all∷ p (ids-left m k l h)
 
-ids-right : (m : ℕ) (k l : List ℕ) → Ids m (k ++ l) → Ids m l
+pub ids-right : (m : ℕ) (k l : List ℕ) → Ids m (k ++ l) → Ids m l
 ids-right m [] l h = h
 ids-right m (a ∷ k) l (all∷ p h) = ids-right m k l h
 
@@ -51,7 +51,7 @@ grows-none p n = record { added = added-none p n; grown = λ m g h. g }
 pub grows-both : (p q s : List ℕ) (n m r : ℕ) (k l : List ℕ) → Grows p n q m k → Grows q m s r l → Grows p n s r (k ++ l)
 grows-both p q s n m r k l a b = record { added = added-both p q s n m r k l (a .added) (b .added); grown = λ x g h. b .grown x (a .grown x g (ids-left x k l h)) (ids-right x k l h) }
 
-grown-added : (m : ℕ) (p q : List ℕ) (n r : ℕ) (l : List ℕ) → Added p n q r l → length q ≡ length p → r ≤ length q → Grown m p n → Ids m l → Grown m q r
+pub grown-added : (m : ℕ) (p q : List ℕ) (n r : ℕ) (l : List ℕ) → Added p n q r l → length q ≡ length p → r ≤ length q → Grown m p n → Ids m l → Grown m q r
 grown-added m p q n r l a s w g h =
     record { room = omega (arith, g .room); within = w; distinct = rw (a .list) (distinct-all l (g .distinct)); below = rw (a .list) (addAll-ids m (g .below) h) }
 
@@ -75,7 +75,7 @@ module _ (p : List ℕ) (n t : ℕ) (z : t ≡ 0 → ⊥) where
 
 -- ---- a loop over a list: the pieces of the first k
 
-each-snoc : {A B : Type 0} (f : A → List B) (l : List A) (a : A) → each f (l ++ (a ∷ [])) ≡ each f l ++ f a
+pub each-snoc : {A B : Type 0} (f : A → List B) (l : List A) (a : A) → each f (l ++ (a ∷ [])) ≡ each f l ++ f a
 unfolding each
 each-snoc f [] a = append-nil (f a)
 each-snoc f (x ∷ l) a = rw (each-snoc f l a, append-assoc)

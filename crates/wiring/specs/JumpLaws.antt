@@ -20,11 +20,11 @@ use Rattle.reader.specs.ReadBack.{lines-wide}
 use Rattle.reader.specs.RecordLaws.{rec-at}
 use Rattle.reader.specs.Rows.{openingWords}
 use Rattle.reader.specs.WordTable.{words, first, wordIndex}
-use Rattle.wiring.specs.Adding.{nodeNumber}
-use Rattle.wiring.specs.Nodes.{NodeStmt, simple, cond, Node, Entries, entryOf, entries, nodesBefore, nodes}
-use Rattle.wiring.specs.NodeLaws.{length-nodes}
-use Rattle.wiring.specs.NodeRecords.{stmtWord, stmtNumber, StmtIs, lines-match, match-at}
-use Rattle.wiring.specs.Targets.{onSimple}
+use Rattle.graph.specs.Adding.{nodeNumber}
+use Rattle.graph.specs.Nodes.{NodeStmt, simple, cond, Node, Entries, entryOf, entries, nodesBefore, nodes}
+use Rattle.graph.specs.NodeLaws.{length-nodes}
+use Rattle.graph.specs.NodeRecords.{stmtWord, stmtNumber, StmtIs, lines-match, match-at}
+use Rattle.graph.specs.Targets.{onSimple}
 use Rattle.wiring.specs.Held.{LinesHeld, StmtsHeld, ArgsHeld}
 use Rattle.wiring.specs.LineEntries.{at-place}
 use Rattle.wiring.specs.LineSearch.{EntriesHeld, EntryFound, numbersOf, entry-table}
@@ -139,7 +139,7 @@ sets-part t at w l h g =
 -- ---- the reader's arguments
 
 -- the row of statement i
-args-row : (rs : List Rec) (rest : List ℕ) (i : ℕ) (r : Rec) → Wide argRow 64 rs → getElem? rs i ≡ some r → take 64 (drop (i * 64) (argRows rs ++ rest)) ≡ argRow r
+pub args-row : (rs : List Rec) (rest : List ℕ) (i : ℕ) (r : Rec) → Wide argRow 64 rs → getElem? rs i ≡ some r → take 64 (drop (i * 64) (argRows rs ++ rest)) ≡ argRow r
 unfolding joined
 args-row [] rest i r w e = absurd (let z : _≡_ {A = ℕ} 0 1 = cc in omega arith)
 args-row (q ∷ rs) rest zero r (all∷ h hs) e = let p : q ≡ r = cc in rw append-assoc (take-at (argRow q) (argRows rs ++ rest) 64 h ∙ ap argRow p)
@@ -152,7 +152,7 @@ pub row-few : (r : Rec) → length (argRow r) ≡ 64 → length (r .args) ≤ 64
 unfolding argRow padded
 row-few r h = omega (arith, h, length-append (r .args) (replicate (64 - length (r .args)) 0), length-replicate {A = ℕ} (64 - length (r .args)) 0)
 
-few-at : {rs : List Rec} (i : ℕ) (r : Rec) → Wide argRow 64 rs → getElem? rs i ≡ some r → length (r .args) ≤ 64
+pub few-at : {rs : List Rec} (i : ℕ) (r : Rec) → Wide argRow 64 rs → getElem? rs i ≡ some r → length (r .args) ≤ 64
 few-at i r all[] e = absurd (let z : _≡_ {A = ℕ} 0 1 = cc in omega arith)
 few-at zero r (all∷ {a = q} h hs) e = let p : q ≡ r = cc in rw (← p) (row-few q h)
 few-at (suc i) r (all∷ h hs) e = few-at i r hs e

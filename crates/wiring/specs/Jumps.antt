@@ -8,9 +8,9 @@ use lib.ListN.{take}
 use lib.Seq.{sets}
 use Rattle.reader.specs.Bytes.{pick}
 use Rattle.reader.specs.Listing.{Simple, goto, gosub, return, run, runto, ongoto, ongosub, for, next, repeat, loop, until, endloop, exit, exitif, doif, else, done, clr, stop, any, Lines}
-use Rattle.wiring.specs.Adding.{nodeNumber}
-use Rattle.wiring.specs.Nodes.{NodeStmt, Node, Entries, entryOf, entries, nodes}
-use Rattle.wiring.specs.Targets.{onSimple}
+use Rattle.graph.specs.Adding.{nodeNumber}
+use Rattle.graph.specs.Nodes.{NodeStmt, Node, Entries, entryOf, entries, nodes}
+use Rattle.graph.specs.Targets.{onSimple}
 use Rattle.wiring.specs.Held.{LinesHeld, StmtsHeld, ArgsHeld}
 use Rattle.wiring.specs.LineSearch.{EntryTable, EntriesHeld}
 

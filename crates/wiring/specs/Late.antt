@@ -7,12 +7,12 @@ use mathlib.Core.Option.{some}
 use lib.Dec.{eqb}
 use lib.ListN.{length, take, getD, getElem?}
 use Rattle.reader.specs.Every.{All}
-use Rattle.wiring.specs.Lists.{each}
-use Rattle.wiring.specs.Nodes.{Node}
-use Rattle.wiring.specs.Edges.{nodeMoves, loopStack, doStack}
-use Rattle.wiring.specs.PerNode.{noOpeners, Fact, facts, late}
-use Rattle.wiring.specs.Adding.{nodeNumber, decode, Added}
-use Rattle.wiring.specs.Distinct.{Distinct}
+use Rattle.graph.specs.Lists.{each}
+use Rattle.graph.specs.Nodes.{Node}
+use Rattle.graph.specs.Edges.{nodeMoves, loopStack, doStack}
+use Rattle.graph.specs.PerNode.{noOpeners, Fact, facts, late}
+use Rattle.graph.specs.Adding.{nodeNumber, decode, Added}
+use Rattle.graph.specs.Distinct.{Distinct}
 use Rattle.wiring.specs.Frames.{Worded, frameTable}
 
 -- a list of distinct ids at the front of a part, which is as long as there are ids

@@ -11,16 +11,16 @@ use lib.ListN.{length, drop, getD, getElem?}
 use borrow.Author.Tests.{ne-eqb, eqb-true}
 use Rattle.reader.specs.Bytes.{pick}
 use Rattle.reader.specs.Every.{All, all[], all∷}
-use Rattle.wiring.specs.Lists.{each, list}
-use Rattle.wiring.specs.Nodes.{Node}
-use Rattle.wiring.specs.NodeRecords.{stmtNumber}
-use Rattle.wiring.specs.NodeLaws.{Below, NodeFits}
-use Rattle.wiring.specs.Members.{all-at}
-use Rattle.wiring.specs.Edges.{Move, stays, opens, closes, joins, nodeMoves, Stack, loopStack, doStack}
-use Rattle.wiring.specs.PerNode.{Met, nothing, closing, joining, meets, isClosing, isJoining, moveOn, metOn, noOpeners, Fact, facts, fallsWhere, someWhere, closerFall, doifFalls, late}
-use Rattle.wiring.specs.Adding.{nodeNumber, decode, decode-number, Added, added-none}
+use Rattle.graph.specs.Lists.{each, list}
+use Rattle.graph.specs.Nodes.{Node}
+use Rattle.graph.specs.NodeRecords.{stmtNumber}
+use Rattle.graph.specs.NodeLaws.{Below, NodeFits}
+use Rattle.graph.specs.Members.{all-at}
+use Rattle.graph.specs.Edges.{Move, stays, opens, closes, joins, nodeMoves, Stack, loopStack, doStack}
+use Rattle.graph.specs.PerNode.{Met, nothing, closing, joining, meets, isClosing, isJoining, moveOn, metOn, noOpeners, Fact, facts, fallsWhere, someWhere, closerFall, doifFalls, late}
+use Rattle.graph.specs.Adding.{nodeNumber, decode, decode-number, Added, added-none}
 use Rattle.wiring.specs.Frames.{loopMove, doMove, wordMove, eitherMet, frameMet, metNumber, metEntry, closesFrame, isElseOf, firstWhere, nextWhere, doMetOf, elseEntry}
-use Rattle.wiring.specs.PerNodeLaws.{length-facts}
+use Rattle.graph.specs.PerNodeLaws.{length-facts}
 use Rattle.wiring.specs.OpenerLaws.{MetIs, some-at, in-range, OpensHere, openAt, met-at, fall-at, stmt-at, met-opened, closed-once, node-of}
 use Rattle.wiring.specs.MoveLaws.{word-move, one-stack, isExit, loop-joins, do-joins, do-opens}
 use Rattle.wiring.specs.FrameRows.{met-entry, closer-entry, else-entry}
@@ -377,7 +377,7 @@ module _ (ns : List Node) where
         joined-fits = rw met-is (met-fits (frameMet f) (frame-below stmts ns (t .worded) i f at))
 
 -- ---- for the callers: a listing's nodes fall to nodes
-number-below : (n : ℕ) (e : Option ℕ) → Below n e → nodeNumber e ≤ n
+pub number-below : (n : ℕ) (e : Option ℕ) → Below n e → nodeNumber e ≤ n
 number-below n none h = omega arith
 number-below n (some a) h = h
 

@@ -11,10 +11,10 @@ use Rattle.reader.specs.Listing.{Stmts, ∅, _▸_, branching, Lines, nolines, 
 use Rattle.reader.specs.Records.{Rec, recRow, recRows, padded, stmtRecs, lineRecs, simpleRec, condRec}
 use Rattle.reader.specs.RecordLaws.{rec-at}
 use Rattle.reader.specs.Every.{All, all[], all∷, all-append}
-use Rattle.wiring.specs.Nodes.{lineEntry, Entries, entriesBefore, entries}
-use Rattle.wiring.specs.NodeLaws.{length-nodes}
-use Rattle.wiring.specs.NodeRecords.{Match, match[], match∷, lines-match}
-use Rattle.wiring.specs.Adding.{nodeNumber}
+use Rattle.graph.specs.Nodes.{lineEntry, Entries, entriesBefore, entries}
+use Rattle.graph.specs.NodeLaws.{length-nodes}
+use Rattle.graph.specs.NodeRecords.{Match, match[], match∷, lines-match}
+use Rattle.graph.specs.Adding.{nodeNumber}
 use Rattle.wiring.specs.Held.{StmtsHeld}
 
 -- the entries of lines after which comes e, as the table has them

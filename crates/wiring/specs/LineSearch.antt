@@ -16,8 +16,8 @@ use Rattle.reader.specs.Listing.{Lines, nolines, line, total, count}
 use Rattle.reader.specs.ListingText.{lastNumber, Above, LinesOk}
 use Rattle.reader.specs.Records.{lineNumbers, padded}
 use Rattle.wiring.specs.Compare.{lt-or}
-use Rattle.wiring.specs.Adding.{nodeNumber}
-use Rattle.wiring.specs.Nodes.{lineEntry, Entries, entriesBefore, entries, entryOf}
+use Rattle.graph.specs.Adding.{nodeNumber}
+use Rattle.graph.specs.Nodes.{lineEntry, Entries, entriesBefore, entries, entryOf}
 use Rattle.wiring.specs.Held.{LinesHeld}
 use Rattle.wiring.specs.LineEntries.{entryNumbers, entryRows, numbers-length, entries-length}
 

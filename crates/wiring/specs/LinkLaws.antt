@@ -13,13 +13,13 @@ use lib.ListN.{length, length-set, drop, drop-of-length-le, getD, getElem?, set}
 use lib.Seq.{getD-set-same, getD-set-other}
 use borrow.Author.Tests.{eq-eqb, ne-eqb, le-leb, lt-leb}
 use Rattle.reader.specs.Bytes.{pick}
-use Rattle.wiring.specs.Nodes.{Node}
-use Rattle.wiring.specs.Edges.{Move, stays, opens, closes, joins, Stack, loopStack, doStack}
-use Rattle.wiring.specs.PerNode.{Met, nothing, closing, joining, meets, isClosing, isJoining, metOn, noOpeners, Fact, facts}
+use Rattle.graph.specs.Nodes.{Node}
+use Rattle.graph.specs.Edges.{Move, stays, opens, closes, joins, Stack, loopStack, doStack}
+use Rattle.graph.specs.PerNode.{Met, nothing, closing, joining, meets, isClosing, isJoining, metOn, noOpeners, Fact, facts}
 use Rattle.wiring.specs.Frames.{loopMove, doMove, wordMove, Worded, eitherMet, frameMet, metNumber, metEntry, closesFrame, isElseOf, firstWhere, nextWhere, doMetOf, elseEntry, Framed}
 use Rattle.wiring.specs.FrameStackLaws.{lt-or}
 use Rattle.wiring.specs.FrameRows.{table-is}
-use Rattle.wiring.specs.PerNodeLaws.{length-facts}
+use Rattle.graph.specs.PerNodeLaws.{length-facts}
 use Rattle.wiring.specs.OpenerLaws.{MetIs, some-at, openAt, met-at, met-below, node-of}
 use Rattle.wiring.specs.MoveLaws.{word-move, one-stack, isExit, loop-closes, loop-joins, do-closes, do-joins}
 use Rattle.wiring.specs.FramePass.{MetUpto, MetBelow, MetFrames, elseLinked, linkedTo, linked, LinkedFrom}

@@ -17,11 +17,11 @@ use Rattle.reader.specs.WordTable.{words, first, wordIndex}
 use Rattle.reader.specs.WordText.{same-equal}
 use Rattle.reader.specs.Records.{nameKey, argsOf, detailOf}
 use Rattle.reader.specs.Names.{encode, key-injective, key-not-zero}
-use Rattle.wiring.specs.Adding.{nodeNumber}
-use Rattle.wiring.specs.Nodes.{NodeStmt, simple, cond, Node}
-use Rattle.wiring.specs.NodeRecords.{stmtWord, stmtNumber}
-use Rattle.wiring.specs.Targets.{onFor, onNext, onSimple, dispatchTarget, orphanEdges}
-use Rattle.wiring.specs.Edges.{keepFors, onFors, onLoops, onDos, noMoves, movesOf, nodeMoves}
+use Rattle.graph.specs.Adding.{nodeNumber}
+use Rattle.graph.specs.Nodes.{NodeStmt, simple, cond, Node}
+use Rattle.graph.specs.NodeRecords.{stmtWord, stmtNumber}
+use Rattle.graph.specs.Targets.{onFor, onNext, onSimple, dispatchTarget, orphanEdges}
+use Rattle.graph.specs.Edges.{keepFors, onFors, onLoops, onDos, noMoves, movesOf, nodeMoves}
 
 -- ts: 12 entries a statement; ks: 64 arguments a statement. Of statement i, which holds no others:
 pub record SimpleListed (ts ks : List ℕ) (i : ℕ) (o : Simple) : Type 0 where

@@ -12,10 +12,10 @@ use Rattle.reader.specs.Rows.{openingWords}
 use Rattle.reader.specs.Listing.{Simple, goto, gosub, return, run, runto, ongoto, ongosub, for, next, repeat, loop, until, endloop, exit, exitif, doif, else, done, clr, stop, any, if, ifelse, rcomp}
 use Rattle.reader.specs.ListingText.{simpleWord, condWord}
 use Rattle.reader.specs.WordTable.{words, first, wordIndex}
-use Rattle.wiring.specs.Nodes.{NodeStmt, simple, cond}
-use Rattle.wiring.specs.NodeRecords.{stmtWord, stmtNumber}
-use Rattle.wiring.specs.Edges.{Move, stays, opens, closes, joins, onFors, onLoops, onDos, noMoves, movesOf, nodeMoves, Stack, loopStack, doStack}
-use Rattle.wiring.specs.PerNode.{moveOn}
+use Rattle.graph.specs.Nodes.{NodeStmt, simple, cond}
+use Rattle.graph.specs.NodeRecords.{stmtWord, stmtNumber}
+use Rattle.graph.specs.Edges.{Move, stays, opens, closes, joins, onFors, onLoops, onDos, noMoves, movesOf, nodeMoves, Stack, loopStack, doStack}
+use Rattle.graph.specs.PerNode.{moveOn}
 use Rattle.wiring.specs.FrameStackLaws.{lt-or}
 use Rattle.wiring.specs.Frames.{loopMove, doMove, wordMove}
 

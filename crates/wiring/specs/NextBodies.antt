@@ -11,10 +11,10 @@ use lib.ListN.{length, getD, take, drop}
 use Rattle.reader.specs.Bytes.{pick}
 use Rattle.reader.specs.Every.{All, all[], all∷, all-append}
 use Rattle.reader.specs.Listing.{for}
-use Rattle.wiring.specs.Lists.{each, list}
-use Rattle.wiring.specs.Adding.{decode}
-use Rattle.wiring.specs.Members.{all-each}
-use Rattle.wiring.specs.EdgeBounds.{Ids}
+use Rattle.graph.specs.Lists.{each, list}
+use Rattle.graph.specs.Adding.{decode}
+use Rattle.graph.specs.Members.{all-each}
+use Rattle.graph.specs.EdgeBounds.{Ids}
 use Rattle.wiring.specs.ListedNodes.{keysAt}
 use Rattle.wiring.specs.ForLinks.{poppedBy}
 use Rattle.wiring.specs.Growing.{Grown, Grows, RoomFor, grown-room, grows-none}
@@ -86,7 +86,7 @@ all-take zero h = all[]
 all-take (suc k) all[] = all[]
 all-take (suc k) (all∷ p h) = all∷ p (all-take k h)
 
-all-get : {P : ℕ → Type 0} {l : List ℕ} → All P l → (j : ℕ) → j < length l → P (getD l j 0)
+pub all-get : {P : ℕ → Type 0} {l : List ℕ} → All P l → (j : ℕ) → j < length l → P (getD l j 0)
 all-get all[] j h = absurd (omega arith)
 all-get (all∷ p ps) zero h = p
 all-get (all∷ p ps) (suc j) h = all-get ps j (omega arith)

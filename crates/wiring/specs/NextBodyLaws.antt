@@ -12,15 +12,15 @@ use Rattle.reader.specs.Every.{all[], all∷, all-append}
 use Rattle.reader.specs.Listing.{Name, Mark, orphan, Slot, next}
 use Rattle.reader.specs.ListingText.{NameOk, SlotsOk, SimpleOk}
 use Rattle.reader.specs.Records.{nameKey, slotKey, argsOf, detailOf, markNumber}
-use Rattle.wiring.specs.Lists.{each, list}
-use Rattle.wiring.specs.Adding.{decode, decode-number}
-use Rattle.wiring.specs.Members.{all-map}
-use Rattle.wiring.specs.Nodes.{NodeStmt, simple, Node}
-use Rattle.wiring.specs.NodeRecords.{stmtNumber}
-use Rattle.wiring.specs.Targets.{onNext, onSimple, dispatchTargets, selectable, orphanTargets, orphanEdges}
-use Rattle.wiring.specs.Edges.{nodeMoves}
-use Rattle.wiring.specs.EdgeBounds.{Ids}
-use Rattle.wiring.specs.PerNode.{Openers, noOpeners, after, Fact, factOf, facts, fallOf, fallAt}
+use Rattle.graph.specs.Lists.{each, list}
+use Rattle.graph.specs.Adding.{decode, decode-number}
+use Rattle.graph.specs.Members.{all-map}
+use Rattle.graph.specs.Nodes.{NodeStmt, simple, Node}
+use Rattle.graph.specs.NodeRecords.{stmtNumber}
+use Rattle.graph.specs.Targets.{onNext, onSimple, dispatchTargets, selectable, orphanTargets, orphanEdges}
+use Rattle.graph.specs.Edges.{nodeMoves}
+use Rattle.graph.specs.EdgeBounds.{Ids}
+use Rattle.graph.specs.PerNode.{Openers, noOpeners, after, Fact, factOf, facts, fallOf, fallAt}
 use Rattle.wiring.specs.ListedNodes.{StmtListed, Listed, FallsListed, keysAt, keys-are, ForKind, isFor, isNext, isOther, for-kind, for-number, next-number, key-some, key-same, node-at}
 use Rattle.wiring.specs.ForLinks.{linkedRows, poppedBy}
 use Rattle.wiring.specs.ForLinkLaws.{next-links, popped-before}
@@ -36,7 +36,7 @@ facts-fall i (m ∷ ns) st zero n e = let q : m ≡ n = cc in rw q
 facts-fall i (m ∷ ns) st (suc k) n e = facts-fall (suc i) ns (after i (nodeMoves (m .stmt)) st) k n e
 
 module _ (es : List ℕ) (ns : List Node) (h : FallsListed es ns) (st : Openers) where
-  body-is : (o : ℕ) → o < length ns → bodyAt es o ≡ fallAt (facts 0 ns st) o
+  pub body-is : (o : ℕ) → o < length ns → bodyAt es o ≡ fallAt (facts 0 ns st) o
   unfolding bodyAt
   body-is o lt =
       let d = node-at ns o lt in

@@ -12,11 +12,11 @@ use lib.ListN.{length, length-append, length-set, length-drop, getD, set, take, 
 use lib.Seq.{take-append-seam, getD-set-same, getD-set-other, getD-append-seam, take-suc, take-all, take-take, length-take-le, ext-getD, getD-take, getD-drop}
 use Rattle.reader.specs.Every.{All, all[], all∷}
 use Rattle.reader.specs.Listing.{Listing}
-use Rattle.wiring.specs.Lists.{has}
-use Rattle.wiring.specs.ListLaws.{has-found}
-use Rattle.wiring.specs.EdgeBounds.{Ids}
-use Rattle.wiring.specs.Graph.{allSuccessors, predecessorsIn, predecessors}
-use Rattle.wiring.specs.GraphLaws.{nodeCount}
+use Rattle.graph.specs.Lists.{has}
+use Rattle.graph.specs.ListLaws.{has-found}
+use Rattle.graph.specs.EdgeBounds.{Ids}
+use Rattle.graph.specs.Graph.{allSuccessors, predecessorsIn, predecessors}
+use Rattle.graph.specs.GraphLaws.{nodeCount}
 use Rattle.wiring.specs.Walk.{Stored, storedList}
 use Rattle.wiring.specs.EdgeTable.{joinedLists, startOf, part-law, part-in, part-within, parts-apart, joined-ext, listsTo, listRows, succStart, succCount, predStart, predCount, Columns, columns-rows, rows-columns, columns-ext, columns-then, columns-self, columns-past, ListsStored, stored-part}
 use Rattle.wiring.specs.Counting.{one, occurs, occurs-le, occurs-once, sumTo, sum-ext, sum-occurs}

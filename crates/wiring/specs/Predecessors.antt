@@ -13,12 +13,12 @@ use lib.Seq.{take-suc, length-take-le}
 use Rattle.reader.specs.Bytes.{pick}
 use Rattle.reader.specs.Every.{All, all[], all∷, all-append}
 use Rattle.reader.specs.Listing.{Listing}
-use Rattle.wiring.specs.Lists.{has, below}
-use Rattle.wiring.specs.ListLaws.{has-found}
-use Rattle.wiring.specs.Distinct.{Distinct, dist[], dist∷}
-use Rattle.wiring.specs.EdgeBounds.{Ids}
-use Rattle.wiring.specs.Graph.{wire, successorsIn, successors, allSuccessors, predecessorsIn}
-use Rattle.wiring.specs.GraphLaws.{nodeCount, lists-ok}
+use Rattle.graph.specs.Lists.{has, below}
+use Rattle.graph.specs.ListLaws.{has-found}
+use Rattle.graph.specs.Distinct.{Distinct, dist[], dist∷}
+use Rattle.graph.specs.EdgeBounds.{Ids}
+use Rattle.graph.specs.Graph.{wire, successorsIn, successors, allSuccessors, predecessorsIn}
+use Rattle.graph.specs.GraphLaws.{nodeCount, lists-ok}
 use Rattle.wiring.specs.EdgeTable.{joinedLists, startOf, start-end, listsTo, length-lists, lists-at, lists-map, lists-all, succStart, succCount, predStart, predCount, Columns, columns-self, columns-ext, changed, changed-here, changed-other, columns-set2, columns-set3}
 use Rattle.wiring.specs.Counting.{one, occurs, occurs-append, occurs-snoc, occurs-le, occurs-once, sumTo, sum-ext, sum-occurs, start-sum}
 

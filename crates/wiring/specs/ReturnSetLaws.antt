@@ -72,13 +72,13 @@ module _ (xs ys : List ℕ) (a k : ℕ) (ly : length ys ≡ k) (fits : a + k ≤
   front : length (take a xs) ≡ a
   front = length-take-le a xs (omega arith)
 
-  put-size : length (take a xs ++ (ys ++ drop k (drop a xs))) ≡ length xs
+  pub put-size : length (take a xs ++ (ys ++ drop k (drop a xs))) ≡ length xs
   put-size = simp (length-append, length-drop) (omega (arith, front))
 
   put-before : (e : ℕ) → e < a → getD (take a xs ++ (ys ++ drop k (drop a xs))) e 0 ≡ getD xs e 0
   put-before e h = List·getD-append (take a xs) (ys ++ drop k (drop a xs)) 0 e (omega (arith, front)) ∙ getD-take a xs e 0 h
 
-  put-in : (r : ℕ) → r < k → getD (take a xs ++ (ys ++ drop k (drop a xs))) (a + r) 0 ≡ getD ys r 0
+  pub put-in : (r : ℕ) → r < k → getD (take a xs ++ (ys ++ drop k (drop a xs))) (a + r) 0 ≡ getD ys r 0
   put-in r h =
       ap (λ (x : ℕ). getD (take a xs ++ (ys ++ drop k (drop a xs))) (x + r) 0) (sym front) ∙ getD-append-add (take a xs) (ys ++ drop k (drop a xs)) r 0
       ∙ List·getD-append ys (drop k (drop a xs)) 0 r (omega arith)
@@ -89,7 +89,7 @@ module _ (xs ys : List ℕ) (a k : ℕ) (ly : length ys ≡ k) (fits : a + k ≤
       ∙ getD-append-add (take a xs) (ys ++ drop k (drop a xs)) (k + d) 0 ∙ ap (λ (x : ℕ). getD (ys ++ drop k (drop a xs)) (x + d) 0) (sym ly)
       ∙ getD-append-add ys (drop k (drop a xs)) d 0 ∙ getD-drop k (drop a xs) d 0 ∙ getD-drop a xs (k + d) 0
 
-  put-other : (e : ℕ) → (e < a) ⊎ (a + k ≤ e) → getD (take a xs ++ (ys ++ drop k (drop a xs))) e 0 ≡ getD xs e 0
+  pub put-other : (e : ℕ) → (e < a) ⊎ (a + k ≤ e) → getD (take a xs ++ (ys ++ drop k (drop a xs))) e 0 ≡ getD xs e 0
   put-other e (inl h) = put-before e h
   put-other e (inr h) = let q : a + (k + (e - (a + k))) ≡ e = omega arith in rw (← q) (put-after (e - (a + k)))
 

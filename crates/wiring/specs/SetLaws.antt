@@ -15,7 +15,7 @@ use lib.ListN.{length, length-set, length-append, getD, set, take, drop, replica
 use lib.Pow.{pow-pos, pow-mono, pow-lt, pow-add, shl-shr, shl-exact, shr-shr, mod-pow-add}
 use lib.Seq.{getD-set-same, getD-set-other, take-suc-set, drop-set-lt, drop-drop}
 use Rattle.wiring.specs.Compare.{eq-or, lt-or}
-use Rattle.wiring.specs.Members.{Ascending, asc[], asc∷, asc-ext}
+use Rattle.graph.specs.Members.{Ascending, asc[], asc∷, asc-ext}
 use Rattle.wiring.specs.Sets.{bit, In, inserted, joinedTo, joined, oneIf, wordMembers, membersTo, membersOf, Put}
 
 -- ---- bits

@@ -4,11 +4,11 @@ use mathlib.Core.Path.{_≡_, refl}
 use mathlib.Core.List.{List, [], _∷_}
 use lib.ListN.{replicate, take}
 use Rattle.reader.specs.Listing.{gosub, return, ongoto, stop, Simple, if, ifelse, to, stmts, absent, ∅, _▸_, branching, Lines, nolines, line}
-use Rattle.wiring.specs.Nodes.{entries, nodes}
+use Rattle.graph.specs.Nodes.{entries, nodes}
 use Rattle.wiring.specs.LineEntries.{entryNumbers, entryRows}
 use Rattle.wiring.specs.Falls.{leads, stmtRow, fallRow, fallRows}
 use Rattle.wiring.specs.Jumps.{jumpTargets, stmtTargets, linkRow, linked}
-use Rattle.wiring.specs.Opened.{opened}
+use Rattle.graph.specs.Opened.{opened}
 
 -- C2: 10 and 20 enter at node 0, 30 has no entry
 unfoldable pub c2 : Lines

@@ -13,11 +13,11 @@ use Rattle.reader.specs.ListingText.{LinesOk}
 use Rattle.reader.specs.Records.{Rec, argRow, padded}
 use Rattle.reader.specs.Tables.{Wide}
 use Rattle.reader.specs.ReadBack.{lines-wide}
-use Rattle.wiring.specs.Adding.{nodeNumber, decode, decode-number}
-use Rattle.wiring.specs.Lists.{each}
-use Rattle.wiring.specs.Nodes.{BranchTarget, NodeStmt, simple, cond, Node, Entries, entryOf, entries, nodes}
-use Rattle.wiring.specs.Targets.{targetEntries, branchEdges}
-use Rattle.wiring.specs.NodeRecords.{Match, match[], match∷, lines-match}
+use Rattle.graph.specs.Adding.{nodeNumber, decode, decode-number}
+use Rattle.graph.specs.Lists.{each}
+use Rattle.graph.specs.Nodes.{BranchTarget, NodeStmt, simple, cond, Node, Entries, entryOf, entries, nodes}
+use Rattle.graph.specs.Targets.{targetEntries, branchEdges}
+use Rattle.graph.specs.NodeRecords.{Match, match[], match∷, lines-match}
 use Rattle.wiring.specs.ListedNodes.{FallsListed}
 use Rattle.wiring.specs.Falls.{leads, stmtRow, fallRow, fallRows, leads-edges}
 use Rattle.wiring.specs.FallLaws.{fall-at}

@@ -6,8 +6,8 @@ use mathlib.Core.List.{List, [], _∷_, List·Memᴰ}
 use mathlib.Core.Logic.{_⊎_}
 use Prim.Native.Nat.{ℕ, suc, _+_, _*_, _≤_, _<_}
 use lib.ListN.{length, getD, take, drop}
-use Rattle.wiring.specs.EdgeBounds.{Ids}
-use Rattle.wiring.specs.Reach.{Reach}
+use Rattle.graph.specs.EdgeBounds.{Ids}
+use Rattle.graph.specs.Reach.{Reach}
 
 -- ---- what a walk promises
 

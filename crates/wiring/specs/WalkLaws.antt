@@ -11,9 +11,9 @@ use native.Mathlib.Omega.{arith}
 use lib.ListN.{length, getD, take, drop, set, replicate, length-set, length-replicate}
 use lib.Seq.{getD-set-same, getD-set-other, take-suc}
 use Rattle.wiring.specs.Compare.{eq-or, lt-or}
-use Rattle.wiring.specs.EdgeBounds.{Ids}
-use Rattle.wiring.specs.Members.{all-mem, all-map}
-use Rattle.wiring.specs.Reach.{Reach, here, on}
+use Rattle.graph.specs.EdgeBounds.{Ids}
+use Rattle.graph.specs.Members.{all-mem, all-map}
+use Rattle.graph.specs.Reach.{Reach, here, on}
 use Rattle.wiring.specs.Walk.{Marked, storedList, Stored, RegionMarked, free, On, Markable, ListMarked, Walk}
 
 clash : {A : Type 0} → true ≡ false → A
@@ -34,16 +34,16 @@ unfolding free
 free-all zero = refl
 free-all (suc n) = ap suc (free-all n)
 
-no-mark : (n v : ℕ) → getD (replicate n false) v false ≡ false
+pub no-mark : (n v : ℕ) → getD (replicate n false) v false ≡ false
 no-mark zero zero = refl
 no-mark zero (suc v) = refl
 no-mark (suc n) zero = refl
 no-mark (suc n) (suc v) = no-mark n v
 
-mark-old : (m : List Bool) (x v : ℕ) → x < length m → getD m v false ≡ true → getD (set m x true) v false ≡ true
+pub mark-old : (m : List Bool) (x v : ℕ) → x < length m → getD m v false ≡ true → getD (set m x true) v false ≡ true
 mark-old m x v h e = ⊎-elim (λ q. rw q (getD-set-same m x true false h)) (λ q. getD-set-other m x v true false q ∙ e) (eq-or v x)
 
-mark-cases : (m : List Bool) (x v : ℕ) → getD (set m x true) v false ≡ true → (v ≡ x) ⊎ (getD m v false ≡ true)
+pub mark-cases : (m : List Bool) (x v : ℕ) → getD (set m x true) v false ≡ true → (v ≡ x) ⊎ (getD m v false ≡ true)
 mark-cases m x v e = ⊎-elim (λ q. inl q) (λ q. inr (sym (getD-set-other m x v true false q) ∙ e)) (eq-or v x)
 
 pub mem-getD : (l : List ℕ) (k : ℕ) → k < length l → List·Memᴰ (getD l k 0) l

@@ -1,6 +1,6 @@
 // A node's list while it grows in a part that has room for all nodes.
 use super::lists::holds;
-ghost use Rattle.wiring.specs.Adding.{decode};
+ghost use Rattle.graph.specs.Adding.{decode};
 ghost use Rattle.wiring.specs.Growing.{RoomFor, Grows};
 
 // Adds the node t - 1 once, where t is not 0. The list may fill the part if that node is in it.

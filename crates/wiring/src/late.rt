@@ -2,7 +2,7 @@
 ghost use mathlib.Core.Path.{_≡_};
 ghost use Prim.Native.Nat.{_≤_};
 ghost use lib.ListN.{length};
-ghost use Rattle.wiring.specs.Adding.{Added, decode};
+ghost use Rattle.graph.specs.Adding.{Added, decode};
 ghost use Rattle.wiring.specs.Late.{FitsPart, fallFrom, FallFitsFrom, ElsesFit, ElsesAdded, DoifFits, DoifAdded, closerFrom, CloserFits, joinsWord, LateReady, LateAdded};
 use crate::frames::DOIF;
 use crate::frames::ELSE;

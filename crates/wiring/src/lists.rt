@@ -2,8 +2,8 @@
 ghost use mathlib.Core.Path.{_≡_};
 ghost use Prim.Native.Nat.{_+_, _<_, _≤_};
 ghost use lib.ListN.{length, take, drop};
-ghost use Rattle.wiring.specs.Lists.{has, add};
-ghost use Rattle.wiring.specs.Adding.{Added, decode};
+ghost use Rattle.graph.specs.Lists.{has, add};
+ghost use Rattle.graph.specs.Adding.{Added, decode};
 
 // Whether a list has the node a.
 pub fn holds(l: &[u16], a: u16) -> bool

@@ -5,7 +5,7 @@ use super::growing::add_node;
 ghost use mathlib.Core.Path.{_≡_};
 ghost use Prim.Native.Nat.{_+_, _*_, _≤_};
 ghost use lib.ListN.{length, take};
-ghost use Rattle.wiring.specs.Lists.{each};
+ghost use Rattle.graph.specs.Lists.{each};
 ghost use Rattle.wiring.specs.ListedNodes.{SlotsCounted};
 ghost use Rattle.wiring.specs.ForLinks.{poppedBy};
 ghost use Rattle.wiring.specs.Growing.{Grows};
@@ -14,8 +14,8 @@ ghost use Rattle.wiring.specs.NextBodies.{bodyAt, linkBody, selectsKey, 
 // A NEXT's mark.
 const ORPHAN: u16 = 1;
 
-// Adds where the FOR t - 1 falls, where t is not 0.
-fn add_link(falls: &[u16], t: u16, part: &mut [u16], n: usize) -> usize
+// Adds where the opener t - 1 falls, where t is not 0: the body of a FOR, or of a loop.
+pub(crate) fn add_link(falls: &[u16], t: u16, part: &mut [u16], n: usize) -> usize
     requires { ⌜ LinkRoom (now falls) t (now part) n ⌝ }
     ensures { λ r. ⌜ Grows (now (part .entry)) n (now (part .exit)) r (linkBody (now (falls .entry)) t) ⌝ }
 {

@@ -6,7 +6,7 @@ ghost use lib.ListN.{length};
 ghost use Rattle.wiring.specs.ReturnSets.{ReturnJoined, ReturnsJoined};
 
 // The number of `return` in the table of opening words.
-const RETURN: u16 = 9;
+pub(crate) const RETURN: u16 = 9;
 
 // Joins `backs` into the set of node i, where that is a marked RETURN.
 fn join_return(stmts: &[u16], i: usize, marks: &[bool; 4096], backs: &[u64], sets: &mut [u64])

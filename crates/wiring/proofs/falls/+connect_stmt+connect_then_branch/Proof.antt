@@ -10,7 +10,7 @@ use lib.ListN.{length}
 use Rattle.wiring.specs.Connecting.{not-both, Gone, branch-start, branch-in, branch-step, branch-end, stmt-leaf, stmt-false, stmt-first, stmt-both}
 use Rattle.wiring.specs.Falls.{Spans}
 use Rattle.wiring.specs.LineSearch.{EntryTable}
-use Rattle.wiring.specs.Nodes.{Entries}
+use Rattle.graph.specs.Nodes.{Entries}
 use Rattle.reader.specs.ListingText.{StmtsOk}
 use Rattle.reader.specs.Listing.{Stmts, size}
 use Rattle.wiring.proofs.falls.connect_stmt.Reads as connect-stmt

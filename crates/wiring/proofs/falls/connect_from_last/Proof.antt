@@ -9,7 +9,7 @@ use Rattle.wiring.specs.Connecting.{not-both, Ahead, ahead-start, ahead-
 use Rattle.wiring.specs.Falls.{fallRows}
 use Rattle.wiring.specs.LineSearch.{EntriesHeld, entry-table}
 use Rattle.wiring.specs.Held.{LinesHeld, StmtsHeld}
-use Rattle.wiring.specs.Nodes as definition
+use Rattle.graph.specs.Nodes as definition
 use Rattle.reader.specs.Listing.{Lines}
 use Rattle.wiring.proofs.falls.connect_from_last.Statement.{statement}
 use Rattle.wiring.proofs.falls.connect_from_last.Tie as tie

@@ -8,7 +8,7 @@ use Rattle.wiring.specs.JumpLaws.{count-few, lent-length, jumps-start, j
 use Rattle.wiring.specs.Jumps.{linked}
 use Rattle.wiring.specs.LineSearch.{EntriesHeld}
 use Rattle.wiring.specs.Held.{LinesHeld, StmtsHeld, ArgsHeld}
-use Rattle.wiring.specs.Nodes as definition
+use Rattle.graph.specs.Nodes as definition
 use Rattle.reader.specs.Listing.{Lines}
 use Rattle.wiring.proofs.jumps.link_jumps.Statement.{statement}
 use Rattle.wiring.proofs.jumps.link_jumps.Tie as tie

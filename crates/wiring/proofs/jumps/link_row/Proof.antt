@@ -8,7 +8,7 @@ use lib.ListN.{length, take, length-set}
 use Rattle.wiring.specs.JumpLaws.{link-start, link-step, link-end}
 use Rattle.wiring.specs.Jumps.{linkRow}
 use Rattle.wiring.specs.LineSearch.{EntryTable}
-use Rattle.wiring.specs.Nodes.{Entries}
+use Rattle.graph.specs.Nodes.{Entries}
 use Rattle.wiring.proofs.jumps.link_row.Statement.{statement}
 use Rattle.wiring.proofs.jumps.link_row.Tie as tie
 

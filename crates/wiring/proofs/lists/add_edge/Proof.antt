@@ -6,7 +6,7 @@ use native.Mathlib.Numerals.{add-one}
 use native.Mathlib.Omega.{arith}
 use lib.ListN.{length-take}
 use lib.Seq.{take-suc-set, drop-set-lt}
-use Rattle.wiring.specs.ListLaws.{add-old, add-new}
+use Rattle.graph.specs.ListLaws.{add-old, add-new}
 use Rattle.wiring.proofs.lists.add_edge.Statement.{statement}
 use Rattle.wiring.proofs.lists.add_edge.Tie as tie
 

@@ -1,6 +1,6 @@
 -- `add_some`: nothing, or one edge. Assumes nothing.
 use borrow.Author.Needs.{needs}
-use Rattle.wiring.specs.Adding.{added-zero, added-one}
+use Rattle.graph.specs.Adding.{added-zero, added-one}
 use Rattle.wiring.proofs.lists.add_some.Statement.{statement}
 use Rattle.wiring.proofs.lists.add_some.Tie as tie
 

@@ -5,7 +5,7 @@ use borrow.Author.Count.{below-more}
 use borrow.Author.Needs.{needs}
 use native.Mathlib.Omega.{arith}
 use lib.ListN.{length, getD}
-use Rattle.wiring.specs.ListLaws.{has-found, has-none}
+use Rattle.graph.specs.ListLaws.{has-found, has-none}
 use Rattle.wiring.proofs.lists.holds.Statement.{statement}
 use Rattle.wiring.proofs.lists.holds.Tie as tie
 

@@ -1,0 +1,55 @@
+// The listing on standard input; its graph or its refusal on standard output.
+use libc::STDIN_FILENO;
+use libc::STDOUT_FILENO;
+use printing::list::list_graph;
+ghost use Rattle.graph.specs.Build.{flowlist};
+ghost use Rattle.wiring.specs.Printing.{Puts};
+
+// With tables that suffice at all limits.
+fn list_text(text: &[u8], out: &mut [u8]) -> usize
+    ensures { λ r. ⌜ Puts (now (out .entry)) 0 (now (out .exit)) r (flowlist (now (text .entry))) ⌝ }
+{
+    let mut counts = [0u32; 5];
+    let mut lines = [0u16; 1024];
+    let mut stmts = [0u16; 49152];
+    let mut args = [0u64; 262144];
+    let mut entries = [0u16; 1024];
+    let mut falls = [0u16; 12288];
+    let mut links = [0u16; 262144];
+    let mut frames = [0u16; 12288];
+    let mut dispatched = [0u16; 4096];
+    let mut lists = [0u16; 16384];
+    let mut returns = [0u16; 4096];
+    let mut succ = [0u16; 32768];
+    let mut pred = [0u16; 32768];
+    list_graph(
+        text,
+        &mut counts,
+        &mut lines,
+        &mut stmts,
+        &mut args,
+        &mut entries,
+        &mut falls,
+        &mut links,
+        &mut frames,
+        &mut dispatched,
+        &mut lists,
+        &mut returns,
+        &mut succ,
+        &mut pred,
+        out,
+    )
+}
+
+// The text ends where the input does; one that goes on past the room for it is refused by its length.
+fn list_input(text: &mut [u8], out: &mut [u8]) {
+    let n = io::read_full(STDIN_FILENO, text);
+    let r = list_text(&text[..n], out);
+    io::write_all(STDOUT_FILENO, &out[..r]);
+}
+
+fn main() {
+    let mut text = [0u8; 65537];
+    let mut out = [0u8; 1048576];
+    list_input(&mut text, &mut out);
+}

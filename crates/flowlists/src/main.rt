@@ -1,0 +1,119 @@
+// Framed texts on standard input (a row with the byte count, then the bytes); for each its graph or its refusal, framed in the same way.
+ghost use mathlib.Core.Path.{_≡_};
+ghost use Prim.Native.Nat.{_≤_};
+ghost use lib.ListN.{length};
+use libc::STDIN_FILENO;
+use libc::STDOUT_FILENO;
+use printing::list::list_graph;
+
+enum Byte {
+    Got(u8),
+    End,
+}
+
+fn next_byte() -> Byte {
+    let mut byte = [0u8; 1];
+    if io::read_full(STDIN_FILENO, &mut byte) == 0 {
+        return Byte::End;
+    }
+    Byte::Got(byte[0])
+}
+
+fn wide(b: u8) -> usize
+    ensures { λ r. ⌜ r ≡ b ⌝ }
+{
+    b as usize
+}
+
+enum Next {
+    Length(usize),
+    End,
+}
+
+// The row before a text: its byte count.
+fn next_length() -> Next {
+    let mut n: usize = 0;
+    let mut k: usize = 0;
+    while k < 9 {
+        let Byte::Got(b) = next_byte() else {
+            return Next::End;
+        };
+        if b == 10 {
+            return Next::Length(n);
+        }
+        n = n % 10000000 * 10 + wide(b % 48);
+        k += 1;
+    }
+    Next::End
+}
+
+// With tables that suffice at all limits.
+fn list_text(text: &[u8], out: &mut [u8]) -> usize
+    ensures { λ r. ⌜ r ≤ length (now (out .exit)) ⌝ }
+{
+    let mut counts = [0u32; 5];
+    let mut lines = [0u16; 1024];
+    let mut stmts = [0u16; 49152];
+    let mut args = [0u64; 262144];
+    let mut entries = [0u16; 1024];
+    let mut falls = [0u16; 12288];
+    let mut links = [0u16; 262144];
+    let mut frames = [0u16; 12288];
+    let mut dispatched = [0u16; 4096];
+    let mut lists = [0u16; 16384];
+    let mut returns = [0u16; 4096];
+    let mut succ = [0u16; 32768];
+    let mut pred = [0u16; 32768];
+    list_graph(
+        text,
+        &mut counts,
+        &mut lines,
+        &mut stmts,
+        &mut args,
+        &mut entries,
+        &mut falls,
+        &mut links,
+        &mut frames,
+        &mut dispatched,
+        &mut lists,
+        &mut returns,
+        &mut succ,
+        &mut pred,
+        out,
+    )
+}
+
+fn print_framed(answer: &[u8]) {
+    io::print_decimal(STDOUT_FILENO, answer.len() as u64);
+    io::write_all(STDOUT_FILENO, b"\n");
+    io::write_all(STDOUT_FILENO, answer);
+}
+
+// A text of that length.
+fn answer_part(text: &mut [u8], n: usize, out: &mut [u8]) {
+    if text.len() < n {
+        return;
+    }
+    let part = &mut text[..n];
+    io::read_full(STDIN_FILENO, part);
+    let r = list_text(part, out);
+    print_framed(&out[..r]);
+}
+
+fn answer_text(n: usize) {
+    let mut text = [0u8; 131072];
+    let mut out = [0u8; 1048576];
+    answer_part(&mut text, n, &mut out);
+}
+
+// A proved loop has to end, so it counts its turns down, from a number that no run uses up.
+fn main() {
+    let mut turns = u64::MAX;
+    while turns > 0 {
+        let Next::Length(n) = next_length() else {
+            return;
+        };
+        answer_text(n);
+        turns -= 1;
+    }
+}

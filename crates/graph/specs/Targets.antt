@@ -1,0 +1,102 @@
+-- Where edges lead: line entries, branches, the bodies of dispatched FORs. Assumes nothing.
+use Prim.Native.Nat.{ℕ}
+use mathlib.Core.List.{List, [], _∷_, map}
+use mathlib.Core.Option.{Option, none, some}
+use Rattle.reader.specs.Bytes.{same, pick}
+use Rattle.reader.specs.Listing.{Name, Tier, static, framed, dispatched, Mark, orphan, Slot, Simple, goto, gosub, return, run, runto, ongoto, ongosub, for, next, repeat, loop, until, endloop, exit, exitif, doif, else, done, clr, stop, any}
+use Rattle.graph.specs.Lists.{each, list}
+use Rattle.graph.specs.Nodes.{BranchTarget, toLine, toNode, falls, NodeStmt, simple, cond, Node, Entries, entryOf}
+
+-- "jumps without an entry add none"
+unfoldable pub targetEntries : Entries → List ℕ → List ℕ
+targetEntries es ts = each (λ t. list (entryOf es t)) ts
+
+-- "RUN without number: the first line's entry"
+unfoldable pub firstEntry : Entries → List ℕ
+firstEntry [] = []
+firstEntry (d ∷ es) = list (d .1)
+
+-- "`any`: all line entries, ascending"
+unfoldable pub allEntries : Entries → List ℕ
+allEntries es = each (λ (d : ℕ × Option ℕ). list (d .1)) es
+
+unfoldable pub branchEdges : Entries → Option ℕ → BranchTarget → List ℕ
+branchEdges es e (toLine t) = list (entryOf es t)
+branchEdges es e (toNode j) = j ∷ []
+branchEdges es e falls = list e
+
+-- by a FOR, or else d; by a NEXT, or else d
+unfoldable pub onFor {ℓ} : {A : Type ℓ} → (Name → Tier → A) → A → Simple → A
+onFor f d (for v t) = f v t
+onFor f d (goto t) = d
+onFor f d (gosub t) = d
+onFor f d return = d
+onFor f d run = d
+onFor f d (runto t) = d
+onFor f d (ongoto ts) = d
+onFor f d (ongosub ts) = d
+onFor f d (next m ss) = d
+onFor f d repeat = d
+onFor f d loop = d
+onFor f d until = d
+onFor f d endloop = d
+onFor f d exit = d
+onFor f d exitif = d
+onFor f d doif = d
+onFor f d else = d
+onFor f d done = d
+onFor f d clr = d
+onFor f d stop = d
+onFor f d any = d
+onFor f d Simple.plain = d
+
+unfoldable pub onNext {ℓ} : {A : Type ℓ} → (Mark → List Slot → A) → A → Simple → A
+onNext f d (next m ss) = f m ss
+onNext f d (for v t) = d
+onNext f d (goto t) = d
+onNext f d (gosub t) = d
+onNext f d return = d
+onNext f d run = d
+onNext f d (runto t) = d
+onNext f d (ongoto ts) = d
+onNext f d (ongosub ts) = d
+onNext f d repeat = d
+onNext f d loop = d
+onNext f d until = d
+onNext f d endloop = d
+onNext f d exit = d
+onNext f d exitif = d
+onNext f d doif = d
+onNext f d else = d
+onNext f d done = d
+onNext f d clr = d
+onNext f d stop = d
+onNext f d any = d
+onNext f d Simple.plain = d
+
+unfoldable pub onSimple {ℓ} : {A : Type ℓ} → (Simple → A) → A → NodeStmt → A
+onSimple f d (simple o) = f o
+onSimple f d (cond w a b) = d
+
+-- a dispatched FOR that has a body: its name and that
+unfoldable pub dispatchTarget : Name → Tier → Option ℕ → List (Name × ℕ)
+dispatchTarget v dispatched e = map (λ b. (v, b)) (list e)
+dispatchTarget v static e = []
+dispatchTarget v framed e = []
+
+-- "the bodies of dispatched FORs in reading order"
+unfoldable pub dispatchTargets : List Node → List (Name × ℕ)
+dispatchTargets ns = each (λ (n : Node). onSimple (onFor (λ v t. dispatchTarget v t (n .fall)) []) [] (n .stmt)) ns
+
+-- "all for `*`, else those of its name"
+unfoldable pub selectable : List (Name × ℕ) → Slot → List ℕ
+selectable ds none = map (λ d. d .1) ds
+selectable ds (some v) = each (λ (d : Name × ℕ). pick (same v (d .0)) (d .1 ∷ []) []) ds
+
+-- "Then each orphan NEXT, per slot"
+unfoldable pub orphanTargets : List (Name × ℕ) → Mark → List Slot → List ℕ
+orphanTargets ds orphan ss = each (selectable ds) ss
+orphanTargets ds Mark.plain ss = []
+
+unfoldable pub orphanEdges : List (Name × ℕ) → NodeStmt → List ℕ
+orphanEdges ds s = onSimple (onNext (orphanTargets ds) []) [] s

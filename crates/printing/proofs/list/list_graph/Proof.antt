@@ -1,0 +1,167 @@
+-- `list_graph`: built, then printed by its answer. Assumes nothing.
+use borrow.Author.Needs.{needs}
+use Rattle.printing.specs.ListGraph.{some-graph, graph-listed, refusal-listed}
+use Rattle.printing.proofs.list.list_graph.Statement.{statement}
+use Rattle.printing.proofs.list.list_graph.Tie as tie
+
+build-requires : tie.Need-build-requires
+build-requires c κs = search needs
+
+enum-known-built : tie.Need-enum-known-built
+enum-known-built c = search needs
+
+cast-print-refusal : tie.Need-cast-print-refusal
+cast-print-refusal c = search needs
+
+print-refusal-requires : tie.Need-print-refusal-requires
+print-refusal-requires c κs = search needs
+
+enum-told : tie.Need-enum-told
+enum-told c = search needs
+
+element-copy-out-print-counted : tie.Need-element-copy-out-print-counted
+element-copy-out-print-counted c = search needs
+
+element-copy-out-print-counted-2 : tie.Need-element-copy-out-print-counted-2
+element-copy-out-print-counted-2 c = search needs
+
+element-copy-out-print-counted-3 : tie.Need-element-copy-out-print-counted-3
+element-copy-out-print-counted-3 c = search needs
+
+print-counted-requires : tie.Need-print-counted-requires
+print-counted-requires c κs =
+    let b = c .before .before .before .before .before .before .before .before .before .before .before .before .before .before .before .before .before .before .before .before .before .before .before .before .before .before .before .before .before .before .before .before .before .before .before .before .before .before .before .before .before .before .before .before .before .before .before .before .before .before .before .before .before .before .before .before .before .before .before .before .before .before .before .before .before .before .args in
+    let w = c .before .before .before .before .before .before .before .before .before .before .before .before .before .before .before .before .before .before .before .before .before .before .before .before .before .before .before .before .before .before .before .before .before .before .before .before .before .before .build in
+    some-graph (b .text .now) _ _ _ _ _ _ _ _ _ _ _ _ _ _ (w .result) (w .ensures) (c .before .before .before .before .before .before .before .before .before .before .before .before .enum-told .given .1)
+
+same-length : tie.Need-same-length
+same-length c = search needs
+
+same-length-2 : tie.Need-same-length-2
+same-length-2 c = search needs
+
+same-length-3 : tie.Need-same-length-3
+same-length-3 c = search needs
+
+same-length-4 : tie.Need-same-length-4
+same-length-4 c = search needs
+
+same-length-5 : tie.Need-same-length-5
+same-length-5 c = search needs
+
+same-length-6 : tie.Need-same-length-6
+same-length-6 c = search needs
+
+same-length-7 : tie.Need-same-length-7
+same-length-7 c = search needs
+
+same-length-8 : tie.Need-same-length-8
+same-length-8 c = search needs
+
+same-length-9 : tie.Need-same-length-9
+same-length-9 c = search needs
+
+same-length-10 : tie.Need-same-length-10
+same-length-10 c = search needs
+
+same-length-11 : tie.Need-same-length-11
+same-length-11 c = search needs
+
+same-length-12 : tie.Need-same-length-12
+same-length-12 c = search needs
+
+same-length-13 : tie.Need-same-length-13
+same-length-13 c = search needs
+
+returns : tie.Need-returns
+returns c =
+    let b = c .before .before .before .before .before .before .before .before .before .before .before .before .before .before .before .before .before .before .before .before .before .before .before .before .before .before .before .before .before .before .before .before .before .before .before .before .before .before .before .before .before .before .before .before .before .before .before .before .before .before .before .before .before .before .before .before .before .before .before .args in
+    let w = c .before .before .before .before .before .before .before .before .before .before .before .before .before .before .before .before .before .before .before .before .before .before .before .before .before .before .before .before .before .before .before .build in
+    refusal-listed (b .text .now) _ _ _ _ _ _ _ _ _ _ _ _ _ _ (w .result) (w .ensures) _ _ _ (c .before .before .before .before .before .built .given .0 .0) (c .before .before .before .before .before .built .given .0 .1 .0) (c .before .before .before .before .before .built .given .1) (c .before .before .print-refusal .ensures)
+
+same-length-14 : tie.Need-same-length-14
+same-length-14 c = search needs
+
+same-length-15 : tie.Need-same-length-15
+same-length-15 c = search needs
+
+same-length-16 : tie.Need-same-length-16
+same-length-16 c = search needs
+
+same-length-17 : tie.Need-same-length-17
+same-length-17 c = search needs
+
+same-length-18 : tie.Need-same-length-18
+same-length-18 c = search needs
+
+same-length-19 : tie.Need-same-length-19
+same-length-19 c = search needs
+
+same-length-20 : tie.Need-same-length-20
+same-length-20 c = search needs
+
+same-length-21 : tie.Need-same-length-21
+same-length-21 c = search needs
+
+same-length-22 : tie.Need-same-length-22
+same-length-22 c = search needs
+
+same-length-23 : tie.Need-same-length-23
+same-length-23 c = search needs
+
+same-length-24 : tie.Need-same-length-24
+same-length-24 c = search needs
+
+same-length-25 : tie.Need-same-length-25
+same-length-25 c = search needs
+
+same-length-26 : tie.Need-same-length-26
+same-length-26 c = search needs
+
+returns-2 : tie.Need-returns-2
+returns-2 c =
+    let b = c .before .before .before .before .before .before .before .before .before .before .before .before .before .before .before .before .before .before .before .before .before .before .before .before .before .before .before .before .before .before .before .before .before .before .before .before .before .before .before .before .before .before .before .before .before .before .before .before .before .before .before .before .before .before .before .before .before .before .before .before .before .before .before .before .before .before .before .before .before .args in
+    let w = c .before .before .before .before .before .before .before .before .before .before .before .before .before .before .before .before .before .before .before .before .before .before .before .before .before .before .before .before .before .before .before .before .before .before .before .before .before .before .before .before .before .build in
+    graph-listed (b .text .now) _ _ _ _ _ _ _ _ _ _ _ _ _ _ (w .result) (w .ensures) _ _ _ (c .before .before .before .before .before .before .before .before .before .before .before .before .before .before .before .enum-told .given .1) (c .before .before .print-counted .ensures)
+
+pub list-graph-spec : {M : Type 1} → statement M
+list-graph-spec =
+    tie.close
+    (tie.spec
+    build-requires
+    enum-known-built
+    cast-print-refusal
+    print-refusal-requires
+    enum-told
+    element-copy-out-print-counted
+    element-copy-out-print-counted-2
+    element-copy-out-print-counted-3
+    print-counted-requires
+    same-length
+    same-length-2
+    same-length-3
+    same-length-4
+    same-length-5
+    same-length-6
+    same-length-7
+    same-length-8
+    same-length-9
+    same-length-10
+    same-length-11
+    same-length-12
+    same-length-13
+    returns
+    same-length-14
+    same-length-15
+    same-length-16
+    same-length-17
+    same-length-18
+    same-length-19
+    same-length-20
+    same-length-21
+    same-length-22
+    same-length-23
+    same-length-24
+    same-length-25
+    same-length-26
+    returns-2)

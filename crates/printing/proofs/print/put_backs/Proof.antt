@@ -1,0 +1,52 @@
+-- `put_backs`: the rows of the calls before i are there. Assumes nothing.
+use borrow.Author.Needs.{needs}
+use Prim.Native.Nat.{_≤_, _-_}
+use native.Mathlib.Omega.{arith}
+use mathlib.Core.Path.{_≡_, refl}
+use lib.ListN.{length}
+use Rattle.graph.specs.Lists.{each, below}
+use Rattle.wiring.specs.Printing.{Puts, below-start, below-on, below-end}
+use Rattle.wiring.specs.PrintedTables.{backText}
+use Rattle.printing.proofs.print.put_backs.Statement.{statement}
+use Rattle.printing.proofs.print.put_backs.Tie as tie
+
+abbrev Inv-loop : tie.InvT-loop
+Inv-loop out₀ at stmts falls n r₀ i₀ out r i = (i ≤ n) × (length out ≡ length out₀) × Puts out₀ at out r (each (backText stmts falls) (below i))
+
+abbrev μ-loop : tie.MeasureT-loop
+μ-loop out₀ at stmts falls n r₀ i₀ out r i = n - i
+
+loop-holds : tie.Need-loop-holds Inv-loop μ-loop
+loop-holds c = let a = c .before .before .before .args in (omega arith, refl, below-start (backText (a .stmts .now) (a .falls .now)) _ _)
+
+put-back-requires : tie.Need-put-back-requires Inv-loop μ-loop
+put-back-requires c κs = search needs
+
+add-i : tie.Need-add-i Inv-loop μ-loop
+add-i c = search needs
+
+loop-less : tie.Need-loop-less Inv-loop μ-loop
+loop-less c = search needs
+
+loop-again : tie.Need-loop-again Inv-loop μ-loop
+loop-again c = let a = c .before .before .before .before .before .before .before .before .before .args in let l = c .before .before .before .before .before .loop in (search needs, search needs, below-on (backText (a .stmts .now) (a .falls .now)) _ _ _ _ _ _ (l .i) (l .inv .2) (c .before .before .put-back .ensures))
+
+same-length : tie.Need-same-length Inv-loop μ-loop
+same-length c = search needs
+
+returns : tie.Need-returns Inv-loop μ-loop
+returns c = let a = c .before .before .before .before .before .args in let l = c .before .loop in below-end (backText (a .stmts .now) (a .falls .now)) _ _ _ _ (l .i) (a .n) (l .inv .0) (c .loop-test .left) (l .inv .2)
+
+pub put-backs-spec : {M : Type 1} → statement M
+put-backs-spec =
+    tie.close
+    (tie.spec
+    Inv-loop
+    μ-loop
+    loop-holds
+    put-back-requires
+    add-i
+    loop-less
+    loop-again
+    same-length
+    returns)

@@ -1,0 +1,52 @@
+-- `put_nodes`: the rows of the nodes before i are there. Assumes nothing.
+use borrow.Author.Needs.{needs}
+use Prim.Native.Nat.{_≤_, _-_}
+use native.Mathlib.Omega.{arith}
+use mathlib.Core.Path.{_≡_, refl}
+use lib.ListN.{length}
+use Rattle.graph.specs.Lists.{each, below}
+use Rattle.wiring.specs.Printing.{Puts, below-start, below-on, below-end}
+use Rattle.wiring.specs.PrintedTables.{nodeText}
+use Rattle.printing.proofs.print_nodes.put_nodes.Statement.{statement}
+use Rattle.printing.proofs.print_nodes.put_nodes.Tie as tie
+
+abbrev Inv-loop : tie.InvT-loop
+Inv-loop out₀ at lines stmts lists succ pred n r₀ i₀ out r i = (i ≤ n) × (length out ≡ length out₀) × Puts out₀ at out r (each (nodeText lines stmts lists succ pred) (below i))
+
+abbrev μ-loop : tie.MeasureT-loop
+μ-loop out₀ at lines stmts lists succ pred n r₀ i₀ out r i = n - i
+
+loop-holds : tie.Need-loop-holds Inv-loop μ-loop
+loop-holds c = let a = c .before .before .before .before .before .before .args in (omega arith, refl, below-start (nodeText (a .lines .now) (a .stmts .now) (a .lists .now) (a .succ .now) (a .pred .now)) _ _)
+
+put-node-requires : tie.Need-put-node-requires Inv-loop μ-loop
+put-node-requires c κs = (c .before .loop-test .taken, c .before .before .before .before .before .before .before .before .before .pre)
+
+add-i : tie.Need-add-i Inv-loop μ-loop
+add-i c = search needs
+
+loop-less : tie.Need-loop-less Inv-loop μ-loop
+loop-less c = search needs
+
+loop-again : tie.Need-loop-again Inv-loop μ-loop
+loop-again c = let a = c .before .before .before .before .before .before .before .before .before .before .before .before .args in let l = c .before .before .before .before .before .loop in (search needs, search needs, below-on (nodeText (a .lines .now) (a .stmts .now) (a .lists .now) (a .succ .now) (a .pred .now)) _ _ _ _ _ _ (l .i) (l .inv .2) (c .before .before .put-node .ensures))
+
+same-length : tie.Need-same-length Inv-loop μ-loop
+same-length c = search needs
+
+returns : tie.Need-returns Inv-loop μ-loop
+returns c = let a = c .before .before .before .before .before .before .before .before .args in let l = c .before .loop in below-end (nodeText (a .lines .now) (a .stmts .now) (a .lists .now) (a .succ .now) (a .pred .now)) _ _ _ _ (l .i) (a .n) (l .inv .0) (c .loop-test .left) (l .inv .2)
+
+pub put-nodes-spec : {M : Type 1} → statement M
+put-nodes-spec =
+    tie.close
+    (tie.spec
+    Inv-loop
+    μ-loop
+    loop-holds
+    put-node-requires
+    add-i
+    loop-less
+    loop-again
+    same-length
+    returns)

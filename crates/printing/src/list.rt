@@ -1,0 +1,97 @@
+// A text's graph, printed.
+use crate::print::print_graph;
+use crate::print::print_refusal;
+use wiring::build::Built;
+use wiring::build::build;
+ghost use Rattle.wiring.specs.GraphTables.{sizesOf};
+ghost use Rattle.wiring.specs.GraphHeld.{SomeGraph, GraphPrinted};
+ghost use Rattle.printing.specs.ListGraph.{GraphListed};
+
+// Prints the graph that the tables hold, with the counts as their table has them.
+fn print_counted(
+    lines: &[u16],
+    stmts: &[u16],
+    entries: &[u16],
+    falls: &[u16],
+    lists: &[u16],
+    returns: &[u16],
+    succ: &[u16],
+    pred: &[u16],
+    count: u32,
+    n: u32,
+    targets: u32,
+    out: &mut [u8],
+) -> usize
+    requires { ⌜ SomeGraph (now lines) (now stmts) (now entries) (now falls) (now lists) (now returns) (now succ) (now pred) count n targets ⌝ }
+    ensures { λ r. ⌜ GraphPrinted (now (lines .entry)) (now (stmts .entry)) (now (entries .entry)) (now (falls .entry)) (now (lists .entry)) (now (returns .entry)) (now (succ .entry)) (now (pred .entry)) count n targets (now (out .entry)) (now (out .exit)) r ⌝ }
+{
+    print_graph(
+        lines,
+        stmts,
+        entries,
+        falls,
+        lists,
+        returns,
+        succ,
+        pred,
+        count as usize,
+        n as usize,
+        targets as usize,
+        out,
+    )
+}
+
+// Builds the graph of a text in the lent tables and prints it, or its refusal; answers where the next byte would go (the length of `out` if it did not fit).
+pub fn list_graph(
+    text: &[u8],
+    counts: &mut [u32; 5],
+    lines: &mut [u16],
+    stmts: &mut [u16],
+    args: &mut [u64],
+    entries: &mut [u16],
+    falls: &mut [u16],
+    links: &mut [u16],
+    frames: &mut [u16],
+    dispatched: &mut [u16],
+    lists: &mut [u16],
+    returns: &mut [u16],
+    succ: &mut [u16],
+    pred: &mut [u16],
+    out: &mut [u8],
+) -> usize
+    ensures { λ r. ⌜ GraphListed (now (text .entry)) (sizesOf (now (lines .entry)) (now (stmts .entry)) (now (args .entry)) (now (entries .entry)) (now (falls .entry)) (now (links .entry)) (now (frames .entry)) (now (dispatched .entry)) (now (lists .entry)) (now (returns .entry)) (now (succ .entry)) (now (pred .entry))) (now (counts .exit)) (now (lines .exit)) (now (stmts .exit)) (now (args .exit)) (now (entries .exit)) (now (falls .exit)) (now (links .exit)) (now (frames .exit)) (now (dispatched .exit)) (now (lists .exit)) (now (returns .exit)) (now (succ .exit)) (now (pred .exit)) (now (out .entry)) (now (out .exit)) r ⌝ }
+{
+    let built = build(
+        text,
+        counts,
+        lines,
+        stmts,
+        args,
+        entries,
+        falls,
+        links,
+        frames,
+        dispatched,
+        lists,
+        returns,
+        succ,
+        pred,
+    );
+    match built {
+        Built::Refused { number, place } => print_refusal(number as usize, place, out),
+        Built::Graph => print_counted(
+            lines,
+            stmts,
+            entries,
+            falls,
+            lists,
+            returns,
+            succ,
+            pred,
+            counts[0],
+            counts[1],
+            counts[4],
+            out,
+        ),
+    }
+}

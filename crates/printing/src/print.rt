@@ -1,0 +1,132 @@
+// The printed graph and the printed refusal, into a lent part. Bytes that do not fit are dropped; each routine answers where the next byte would go.
+use crate::print_nodes::put_nodes;
+use crate::print_numbers::put_bytes;
+use crate::print_numbers::put_pair;
+use crate::print_numbers::put_spaced;
+use reader::tables::STMT_ENTRIES;
+use wiring::widths::wide;
+ghost use Prim.Native.Nat.{_+_, _*_, _<_, _≤_};
+ghost use lib.ListN.{length, take};
+ghost use Rattle.graph.specs.Lists.{each, below};
+ghost use Rattle.graph.specs.Print.{printedRefusal};
+ghost use Rattle.wiring.specs.Printing.{Puts};
+ghost use Rattle.wiring.specs.GraphHeld.{SomeGraph, GraphPrinted};
+ghost use Rattle.wiring.specs.PrintedTables.{pairText, someText, entryText, backText, returnsText};
+
+// The opening words of the calls.
+const GOSUB: u16 = 8;
+
+const ON_GOSUB: u16 = 12;
+
+// A row of a word and two numbers.
+fn put_pair_row(out: &mut [u8], at: usize, word: &[u8], a: usize, b: usize) -> usize
+    ensures { λ r. ⌜ Puts (now (out .entry)) at (now (out .exit)) r (pairText (now (word .entry)) a b) ⌝ }
+{
+    let r = put_pair(out, at, word, a, b);
+    put_bytes(out, r, b")\n")
+}
+
+// The row of a number with a node, one more than its id, or nothing where it is 0.
+fn put_some(out: &mut [u8], at: usize, word: &[u8], a: usize, e: u16) -> usize
+    ensures { λ r. ⌜ Puts (now (out .entry)) at (now (out .exit)) r (someText (now (word .entry)) a e) ⌝ }
+{
+    if e == 0 {
+        return at;
+    }
+    put_pair_row(out, at, word, a, wide(e) - 1)
+}
+
+// The entry of line l; no row where there is none.
+fn put_entry(out: &mut [u8], at: usize, lines: &[u16], entries: &[u16], l: usize) -> usize
+    requires { ⌜ (l < length (now lines)) × (l < length (now entries)) ⌝ }
+    ensures { λ r. ⌜ Puts (now (out .entry)) at (now (out .exit)) r (entryText (now (lines .entry)) (now (entries .entry)) l) ⌝ }
+{
+    put_some(out, at, b"(entry", wide(lines[l]), entries[l])
+}
+
+// The entries of `count` lines, by number.
+fn put_entries(out: &mut [u8], at: usize, lines: &[u16], entries: &[u16], count: usize) -> usize
+    requires { ⌜ (count ≤ length (now lines)) × (count ≤ length (now entries)) ⌝ }
+    ensures { λ r. ⌜ Puts (now (out .entry)) at (now (out .exit)) r (each (entryText (now (lines .entry)) (now (entries .entry))) (below count)) ⌝ }
+{
+    let mut r = at;
+    let mut l: usize = 0;
+    while l < count {
+        r = put_entry(out, r, lines, entries, l);
+        l += 1;
+    }
+    r
+}
+
+// The continuation of node i, if it is a call and has one.
+fn put_back(out: &mut [u8], at: usize, stmts: &[u16], falls: &[u16], i: usize) -> usize
+    requires { ⌜ (i * 12 + 12 ≤ length (now stmts)) × (i * 3 + 3 ≤ length (now falls)) ⌝ }
+    ensures { λ r. ⌜ Puts (now (out .entry)) at (now (out .exit)) r (backText (now (stmts .entry)) (now (falls .entry)) i) ⌝ }
+{
+    let word = stmts[i * STMT_ENTRIES];
+    if word == GOSUB {
+        return put_some(out, at, b"(back", i, falls[i * 3]);
+    }
+    if word == ON_GOSUB {
+        return put_some(out, at, b"(back", i, falls[i * 3]);
+    }
+    at
+}
+
+// The continuations by call.
+fn put_backs(out: &mut [u8], at: usize, stmts: &[u16], falls: &[u16], n: usize) -> usize
+    requires { ⌜ (n * 12 ≤ length (now stmts)) × (n * 3 ≤ length (now falls)) ⌝ }
+    ensures { λ r. ⌜ Puts (now (out .entry)) at (now (out .exit)) r (each (backText (now (stmts .entry)) (now (falls .entry))) (below n)) ⌝ }
+{
+    let mut r = at;
+    let mut i: usize = 0;
+    while i < n {
+        r = put_back(out, r, stmts, falls, i);
+        i += 1;
+    }
+    r
+}
+
+// The return targets in order.
+fn put_returns(out: &mut [u8], at: usize, returns: &[u16], targets: usize) -> usize
+    requires { ⌜ targets ≤ length (now returns) ⌝ }
+    ensures { λ r. ⌜ Puts (now (out .entry)) at (now (out .exit)) r (returnsText (take targets (now (returns .entry)))) ⌝ }
+{
+    let r = put_bytes(out, at, b"(returns");
+    let r = put_spaced(out, r, &returns[..targets]);
+    put_bytes(out, r, b")\n")
+}
+
+// Prints the graph that the tables hold, of `count` lines, n nodes and so many return targets.
+pub(crate) fn print_graph(
+    lines: &[u16],
+    stmts: &[u16],
+    entries: &[u16],
+    falls: &[u16],
+    lists: &[u16],
+    returns: &[u16],
+    succ: &[u16],
+    pred: &[u16],
+    count: usize,
+    n: usize,
+    targets: usize,
+    out: &mut [u8],
+) -> usize
+    requires { ⌜ SomeGraph (now lines) (now stmts) (now entries) (now falls) (now lists) (now returns) (now succ) (now pred) count n targets ⌝ }
+    ensures { λ r. ⌜ GraphPrinted (now (lines .entry)) (now (stmts .entry)) (now (entries .entry)) (now (falls .entry)) (now (lists .entry)) (now (returns .entry)) (now (succ .entry)) (now (pred .entry)) count n targets (now (out .entry)) (now (out .exit)) r ⌝ }
+{
+    let r = put_pair(out, 0, b"(graph", 0, n);
+    let r = put_bytes(out, r, b"\n");
+    let r = put_nodes(out, r, lines, stmts, lists, succ, pred, n);
+    let r = put_entries(out, r, lines, entries, count);
+    let r = put_returns(out, r, returns, targets);
+    let r = put_backs(out, r, stmts, falls, n);
+    put_bytes(out, r, b")\n")
+}
+
+// "A refusal prints only" its number and place.
+pub(crate) fn print_refusal(number: usize, place: usize, out: &mut [u8]) -> usize
+    ensures { λ r. ⌜ Puts (now (out .entry)) 0 (now (out .exit)) r (printedRefusal number place) ⌝ }
+{
+    put_pair_row(out, 0, b"(refused", number, place)
+}

@@ -1,0 +1,141 @@
+// The rows of the nodes, read off the tables.
+use crate::print_numbers::put_bytes;
+use crate::print_numbers::put_decimal;
+use crate::print_numbers::put_number;
+use crate::print_numbers::put_pair;
+use crate::print_numbers::put_spaced;
+use reader::tables::HOLDER;
+use reader::tables::INDEX;
+use reader::tables::LINE;
+use reader::tables::STMT_ENTRIES;
+use wiring::widths::wide;
+ghost use mathlib.Core.List.{_++_};
+ghost use Prim.Native.Nat.{_+_, _*_, _<_, _≤_};
+ghost use lib.ListN.{length, take, drop};
+ghost use Rattle.graph.specs.Lists.{each, below};
+ghost use Rattle.graph.specs.Print.{spaced, joined};
+ghost use Rattle.wiring.specs.EdgeTable.{succStart, succCount, predStart, predCount};
+ghost use Rattle.wiring.specs.Printing.{Puts};
+ghost use Rattle.wiring.specs.PrintedTables.{Holders, pathIn, headText, listsText, succPart, predPart, NodesReadable, nodeText};
+
+// "depth 16 is accepted": so many IFs can hold a statement.
+const DEPTH: usize = 16;
+
+// The path of node i among n: that of the IF that holds it, and then its own number. It goes up through `left` IFs at most.
+fn put_path(out: &mut [u8], at: usize, stmts: &[u16], n: usize, i: usize, left: usize) -> usize
+    requires { ⌜ (i < n) × Holders (now stmts) n ⌝ }
+    ensures { λ r. ⌜ Puts (now (out .entry)) at (now (out .exit)) r (joined (pathIn (now (stmts .entry)) left i)) ⌝ }
+{
+    let row = i * STMT_ENTRIES;
+    let index = wide(stmts[row + INDEX]);
+    let holder = wide(stmts[row + HOLDER]);
+    if left == 0 {
+        return put_decimal(out, at, index);
+    }
+    if holder == 0 {
+        return put_decimal(out, at, index);
+    }
+    let r = put_path(out, at, stmts, n, holder - 1, left - 1);
+    put_number(out, r, index)
+}
+
+// The front of a row, as far as the bracket of the path.
+fn put_head(out: &mut [u8], at: usize, i: usize, number: usize, line: usize) -> usize
+    ensures { λ r. ⌜ Puts (now (out .entry)) at (now (out .exit)) r (headText i number line) ⌝ }
+{
+    let r = put_pair(out, at, b"(node", i, number);
+    let r = put_number(out, r, line);
+    put_bytes(out, r, b" (")
+}
+
+// A word and a list, which is a part of an edge table.
+fn put_list(
+    out: &mut [u8],
+    at: usize,
+    word: &[u8],
+    table: &[u16],
+    start: usize,
+    count: usize,
+) -> usize
+    requires { ⌜ start + count ≤ length (now table) ⌝ }
+    ensures { λ r. ⌜ Puts (now (out .entry)) at (now (out .exit)) r (now (word .entry) ++ spaced (take count (drop start (now (table .entry))))) ⌝ }
+{
+    let end = start + count;
+    let r = put_bytes(out, at, word);
+    put_spaced(out, r, &table[start..end])
+}
+
+// Both lists of node i, where its row says, and the end of the row.
+fn put_lists(
+    out: &mut [u8],
+    at: usize,
+    lists: &[u16],
+    succ: &[u16],
+    pred: &[u16],
+    i: usize,
+) -> usize
+    requires { ⌜ (i * 4 + 4 ≤ length (now lists)) × (succStart (now lists) i + succCount (now lists) i ≤ length (now succ)) × (predStart (now lists) i + predCount (now lists) i ≤ length (now pred)) ⌝ }
+    ensures { λ r. ⌜ Puts (now (out .entry)) at (now (out .exit)) r (listsText (succPart (now (lists .entry)) (now (succ .entry)) i) (predPart (now (lists .entry)) (now (pred .entry)) i)) ⌝ }
+{
+    let row = i * 4;
+    let r = put_list(
+        out,
+        at,
+        b") (succ",
+        succ,
+        wide(lists[row]),
+        wide(lists[row + 1]),
+    );
+    let r = put_list(
+        out,
+        r,
+        b") (pred",
+        pred,
+        wide(lists[row + 2]),
+        wide(lists[row + 3]),
+    );
+    put_bytes(out, r, b"))\n")
+}
+
+fn put_node(
+    out: &mut [u8],
+    at: usize,
+    lines: &[u16],
+    stmts: &[u16],
+    lists: &[u16],
+    succ: &[u16],
+    pred: &[u16],
+    n: usize,
+    i: usize,
+) -> usize
+    requires { ⌜ (i < n) × NodesReadable (now lines) (now stmts) (now lists) (now succ) (now pred) n ⌝ }
+    ensures { λ r. ⌜ Puts (now (out .entry)) at (now (out .exit)) r (nodeText (now (lines .entry)) (now (stmts .entry)) (now (lists .entry)) (now (succ .entry)) (now (pred .entry)) i) ⌝ }
+{
+    let line = wide(stmts[i * STMT_ENTRIES + LINE]);
+    let r = put_head(out, at, i, wide(lines[line]), line);
+    let r = put_path(out, r, stmts, n, i, DEPTH);
+    put_lists(out, r, lists, succ, pred, i)
+}
+
+// The rows of n nodes.
+pub(crate) fn put_nodes(
+    out: &mut [u8],
+    at: usize,
+    lines: &[u16],
+    stmts: &[u16],
+    lists: &[u16],
+    succ: &[u16],
+    pred: &[u16],
+    n: usize,
+) -> usize
+    requires { ⌜ NodesReadable (now lines) (now stmts) (now lists) (now succ) (now pred) n ⌝ }
+    ensures { λ r. ⌜ Puts (now (out .entry)) at (now (out .exit)) r (each (nodeText (now (lines .entry)) (now (stmts .entry)) (now (lists .entry)) (now (succ .entry)) (now (pred .entry))) (below n)) ⌝ }
+{
+    let mut r = at;
+    let mut i: usize = 0;
+    while i < n {
+        r = put_node(out, r, lines, stmts, lists, succ, pred, n, i);
+        i += 1;
+    }
+    r
+}

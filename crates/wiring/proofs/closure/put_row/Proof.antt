@@ -1,0 +1,81 @@
+-- `put_row`: the row holds the first k nodes of the list. Assumes nothing.
+use borrow.Author.Needs.{needs}
+use Prim.Native.Nat.{_-_, _≤_}
+use mathlib.Core.Path.{_≡_, _∙_, sym}
+use native.Mathlib.Omega.{arith}
+use lib.ListN.{take}
+use Rattle.wiring.specs.Closure.{RowIs}
+use Rattle.wiring.specs.ClosureLaws.{row-none, row-more, row-id}
+use Rattle.wiring.proofs.closure.put_row.Statement.{statement}
+use Rattle.wiring.proofs.closure.put_row.Tie as tie
+
+abbrev Inv-loop : tie.InvT-loop
+Inv-loop row₀ list count k₀ row k = (k ≤ count) × RowIs (take k list) row
+
+abbrev μ-loop : tie.MeasureT-loop
+μ-loop row₀ list count k₀ row k = count - k
+
+zero64-requires : tie.Need-zero64-requires Inv-loop μ-loop
+zero64-requires c κs = search needs
+
+loop-holds : tie.Need-loop-holds Inv-loop μ-loop
+loop-holds c = (omega arith, row-none _ _ (c .before .before .zero64 .ensures) (c .before .before .before .before .before .before .pre .0))
+
+mul-wide : tie.Need-mul-wide Inv-loop μ-loop
+mul-wide c = search needs
+
+shared-slice-read-wide : tie.Need-shared-slice-read-wide Inv-loop μ-loop
+shared-slice-read-wide c = search needs
+
+wide-requires : tie.Need-wide-requires Inv-loop μ-loop
+wide-requires c κs = search needs
+
+insert-requires : tie.Need-insert-requires Inv-loop μ-loop
+insert-requires c κs =
+    let s = c .before .before .before .before .before .before .before .before .before .before .before in
+    let l = c .before .before .before .before .loop in
+    let h = row-id (s .args .list .now) (s .args .count) (l .k) (s .pre .2) (c .before .before .before .loop-test .taken) (s .pre .1) in
+    (l .inv .1 .size, omega (arith, h, c .wide .ensures))
+
+add-k : tie.Need-add-k Inv-loop μ-loop
+add-k c = search needs
+
+loop-less : tie.Need-loop-less Inv-loop μ-loop
+loop-less c = search needs
+
+loop-again : tie.Need-loop-again Inv-loop μ-loop
+loop-again c =
+    let s = c .before .before .before .before .before .before .before .before .before .before .before .before .before .before in
+    let l = c .before .before .before .before .before .before .before .loop in
+    let w = c .before .before .before .wide in
+    let h = row-id (s .args .list .now) (s .args .count) (l .k) (s .pre .2) (c .before .before .before .before .before .before .loop-test .taken) (s .pre .1) in
+    let m = row-more (l .row) (s .args .list .now) (l .k) (w .result) (omega (arith, s .pre .1)) (w .ensures) (omega (arith, h, w .ensures)) (l .inv .1) in
+    (omega arith, rw (sym (c .before .before .insert .ensures)) at m)
+
+same-length : tie.Need-same-length Inv-loop μ-loop
+same-length c = c .before .loop .inv .1 .size ∙ sym (c .before .before .before .before .before .before .before .before .pre .0)
+
+returns : tie.Need-returns Inv-loop μ-loop
+returns c =
+    let s = c .before .before .before .before .before .before .before .before in
+    let l = c .before .loop in
+    let e : l .k ≡ s .args .count = omega arith in
+    rw e at (l .inv .1)
+
+pub put-row-spec : {M : Type 1} → statement M
+put-row-spec =
+    tie.close
+    (tie.spec
+    Inv-loop
+    μ-loop
+    zero64-requires
+    loop-holds
+    mul-wide
+    shared-slice-read-wide
+    wide-requires
+    insert-requires
+    add-k
+    loop-less
+    loop-again
+    same-length
+    returns)

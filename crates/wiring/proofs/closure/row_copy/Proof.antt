@@ -1,0 +1,60 @@
+-- `row_copy`: the row, joined into an empty one. Assumes nothing.
+use Prim.Native.Nat.{_+_, _-_, _*_}
+use mathlib.Core.Path.{_≡_, _∙_, ap}
+use native.Mathlib.Omega.{arith}
+use lib.ListN.{length}
+use Rattle.wiring.specs.ClosureLaws.{row-part, row-length, row-copied}
+use borrow.Author.Needs.{needs}
+use Rattle.wiring.proofs.closure.row_copy.Statement.{statement}
+use Rattle.wiring.proofs.closure.row_copy.Tie as tie
+
+no-row-requires : tie.Need-no-row-requires
+no-row-requires c κs = search needs
+
+mul-start : tie.Need-mul-start
+mul-start c = search needs
+
+add-end : tie.Need-add-end
+add-end c = search needs
+
+slice-aggregate-join : tie.Need-slice-aggregate-join
+slice-aggregate-join c = search needs
+
+mul-join : tie.Need-mul-join
+mul-join c = search needs
+
+sub-join : tie.Need-sub-join
+sub-join c = search needs
+
+part-join-start : tie.Need-part-join-start
+part-join-start c = search needs
+
+part-join-end : tie.Need-part-join-end
+part-join-end c = search needs
+
+join-requires : tie.Need-join-requires
+join-requires c κs = search needs
+
+returns : tie.Need-returns
+returns c =
+    let s = c .before .before .before .before .before .before in
+    let rows = s .args .rows .now in
+    let i = s .args .i in
+    let k : i * 64 + 64 - i * 64 ≡ 64 = omega arith in
+    let e = row-part rows i _ k in
+    row-copied _ _ _ (c .before .before .before .before .no-row .ensures) (ap length e ∙ row-length rows i (s .pre .1)) (c .before .join .ensures) ∙ e
+
+pub row-copy-spec : {M : Type 1} → statement M
+row-copy-spec =
+    tie.close
+    (tie.spec
+    no-row-requires
+    mul-start
+    add-end
+    slice-aggregate-join
+    mul-join
+    sub-join
+    part-join-start
+    part-join-end
+    join-requires
+    returns)

@@ -1,0 +1,102 @@
+-- `fill_row`: one row, lent on as the part that it is. Assumes nothing.
+use borrow.Author.Needs.{needs}
+use Prim.Native.Nat.{_+_, _-_, _*_}
+use borrow.Author.Tests.{not-true, not-false}
+use mathlib.Core.Path.{_≡_, sym, _∙_, ap}
+use native.Mathlib.Omega.{arith}
+use lib.ListN.{length}
+use Rattle.wiring.specs.ClosureLaws.{row-part, row-length}
+use Rattle.wiring.specs.FillRows.{passes}
+use Rattle.wiring.specs.FillRowLaws.{row-left, row-filled, skip-fits}
+use Rattle.wiring.proofs.fill_rows.fill_row.Statement.{statement}
+use Rattle.wiring.proofs.fill_rows.fill_row.Tie as tie
+
+mul-in-pass : tie.Need-mul-in-pass
+mul-in-pass c = search needs
+
+mul-in-pass-2 : tie.Need-mul-in-pass-2
+mul-in-pass-2 c = search needs
+
+shared-slice-read-in-pass : tie.Need-shared-slice-read-in-pass
+shared-slice-read-in-pass c = search needs
+
+in-pass-requires : tie.Need-in-pass-requires
+in-pass-requires c κs = search needs
+
+returns : tie.Need-returns
+unfolding passes
+returns c =
+    let a = c .before .before .before .before .before .before .before .before .before .before .before .args in
+    row-left (a .stmts .now) (a .args .now) (a .entries .now) (a .falls .now) (a .links .now) (a .frames .now) (a .dispatched .now) (a .lines) (a .d) (a .i) (a .nexts)
+    (sym (c .before .in-pass .ensures) ∙ not-true _ (c .if1 .taken))
+
+skip-list-requires : tie.Need-skip-list-requires
+unfolding passes
+skip-list-requires c κs =
+    c .before .before .before .before .before .before .before .before .before .before .before .before .before .pre .skips (sym (c .before .before .before .in-pass .ensures) ∙ not-false _ (c .before .before .if1 .left))
+
+mul-start : tie.Need-mul-start
+mul-start c = search needs
+
+add-end : tie.Need-add-end
+add-end c = search needs
+
+mul-put-row : tie.Need-mul-put-row
+mul-put-row c = search needs
+
+sub-put-row : tie.Need-sub-put-row
+sub-put-row c = search needs
+
+part-put-row-start : tie.Need-part-put-row-start
+part-put-row-start c = search needs
+
+part-put-row-end : tie.Need-part-put-row-end
+part-put-row-end c = search needs
+
+put-row-requires : tie.Need-put-row-requires
+unfolding passes
+put-row-requires c κs =
+    let s = c .before .before .before .before .before .before .before .before .before .before .before .before .before .before .before .before .before .before in
+    let a = s .args in
+    let k : a .i * 64 + 64 - a .i * 64 ≡ 64 = omega arith in
+    let ready = s .pre .skips (sym (c .before .before .before .before .before .before .before .before .in-pass .ensures) ∙ not-false _ (c .before .before .before .before .before .before .before .if1 .left)) in
+    let f =
+    skip-fits (a .stmts .now) (a .args .now) (a .entries .now) (a .falls .now) (a .links .now) (a .frames .now) (a .dispatched .now) (a .lines) (a .d) (a .i)
+    (a .part .now) _ _ ready (c .before .before .before .before .skip-list .ensures) in
+    (ap length (row-part (a .args .now) (a .i) _ k) ∙ row-length (a .args .now) (a .i) (s .pre .fits), f .0, f .1)
+
+same-length : tie.Need-same-length
+same-length c = search needs
+
+same-length-2 : tie.Need-same-length-2
+same-length-2 c = search needs
+
+returns-2 : tie.Need-returns-2
+unfolding passes
+returns-2 c =
+    let s = c .before .before .before .before .before .before .before .before .before .before .before .before .before .before .before .before .before .before .before .before .before in
+    let a = s .args in
+    let k : a .i * 64 + 64 - a .i * 64 ≡ 64 = omega arith in
+    row-filled (a .stmts .now) (a .args .now) (a .entries .now) (a .falls .now) (a .links .now) (a .frames .now) (a .dispatched .now) (a .lines) (a .d) (a .i) (a .nexts)
+    (a .part .now) _ _ _ _ (sym (c .before .before .before .before .before .before .before .before .before .before .before .in-pass .ensures) ∙ not-false _ (c .before .before .before .before .before .before .before .before .before .before .if1 .left)) k (s .pre .fits) (c .before .before .before .before .before .before .before .skip-list .ensures) (c .before .before .put-row .ensures)
+
+pub fill-row-spec : {M : Type 1} → statement M
+fill-row-spec =
+    tie.close
+    (tie.spec
+    mul-in-pass
+    mul-in-pass-2
+    shared-slice-read-in-pass
+    in-pass-requires
+    returns
+    skip-list-requires
+    mul-start
+    add-end
+    mul-put-row
+    sub-put-row
+    part-put-row-start
+    part-put-row-end
+    put-row-requires
+    same-length
+    same-length-2
+    returns-2)

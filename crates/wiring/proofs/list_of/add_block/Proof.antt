@@ -1,0 +1,95 @@
+-- `add_block`: by the word. Assumes nothing.
+use borrow.Author.Needs.{needs}
+use mathlib.Core.Path.{sym, _∙_}
+use Rattle.wiring.specs.Growing.{grows-none}
+use Rattle.wiring.specs.AddRoom.{room-one, room-as, grows-as}
+use Rattle.wiring.specs.NodeListLaws.{block-endloop, block-until, block-falls, block-stops, body-room}
+use Rattle.wiring.proofs.list_of.add_block.Statement.{statement}
+use Rattle.wiring.proofs.list_of.add_block.Tie as tie
+
+mul-add-link : tie.Need-mul-add-link
+mul-add-link c = search needs
+
+mul-add-link-2 : tie.Need-mul-add-link-2
+mul-add-link-2 c = search needs
+
+shared-slice-read-add-link : tie.Need-shared-slice-read-add-link
+shared-slice-read-add-link c = search needs
+
+add-link-requires : tie.Need-add-link-requires
+add-link-requires c κs =
+    let s = c .before .before .before .before .before .before in
+    body-room _ _ _ _ (s .pre .0 .2) (room-as (block-endloop (s .args .falls .now) (s .args .frames .now) (s .args .i) (s .args .word) (c .before .before .if1 .taken)) (s .pre .1))
+
+same-length : tie.Need-same-length
+same-length c = search needs
+
+returns : tie.Need-returns
+returns c =
+    let a = c .before .before .before .before .before .before .before .before .before .args in
+    grows-as (block-endloop (a .falls .now) (a .frames .now) (a .i) (a .word) (c .before .before .before .before .before .if1 .taken)) (c .before .before .add-link .ensures)
+
+add-until-requires : tie.Need-add-until-requires
+add-until-requires c κs =
+    let s = c .before .before .before .before .before .before in
+    (s .pre .0, room-as (block-until (s .args .falls .now) (s .args .frames .now) (s .args .i) (s .args .word) (c .before .if2 .taken)) (s .pre .1))
+
+same-length-2 : tie.Need-same-length-2
+same-length-2 c = search needs
+
+returns-2 : tie.Need-returns-2
+returns-2 c =
+    let a = c .before .before .before .before .before .before .before .before .before .args in
+    grows-as (block-until (a .falls .now) (a .frames .now) (a .i) (a .word) (c .before .before .before .before .if2 .taken)) (c .before .before .add-until .ensures)
+
+falls-on-requires : tie.Need-falls-on-requires
+falls-on-requires c κs = search needs
+
+mul-add-node : tie.Need-mul-add-node
+mul-add-node c = search needs
+
+mul-add-node-2 : tie.Need-mul-add-node-2
+mul-add-node-2 c = search needs
+
+shared-slice-read-add-node : tie.Need-shared-slice-read-add-node
+shared-slice-read-add-node c = search needs
+
+add-node-requires : tie.Need-add-node-requires
+add-node-requires c κs =
+    let s = c .before .before .before .before .before .before .before .before .before in
+    room-one _ _ _ (room-as (block-falls (s .args .falls .now) (s .args .frames .now) (s .args .i) (s .args .word) (c .before .before .before .before .before .if1 .left) (c .before .before .before .before .if2 .left) (sym (c .before .before .before .falls-on .ensures) ∙ c .before .before .if3 .taken)) (s .pre .1))
+
+same-length-3 : tie.Need-same-length-3
+same-length-3 c = search needs
+
+returns-3 : tie.Need-returns-3
+returns-3 c =
+    let a = c .before .before .before .before .before .before .before .before .before .before .before .before .args in
+    grows-as (block-falls (a .falls .now) (a .frames .now) (a .i) (a .word) (c .before .before .before .before .before .before .before .before .if1 .left) (c .before .before .before .before .before .before .before .if2 .left) (sym (c .before .before .before .before .before .before .falls-on .ensures) ∙ c .before .before .before .before .before .if3 .taken)) (c .before .before .add-node .ensures)
+
+returns-4 : tie.Need-returns-4
+returns-4 c =
+    let a = c .before .before .before .before .before .before .before .args in
+    grows-as (block-stops (a .falls .now) (a .frames .now) (a .i) (a .word) (c .before .before .before .if1 .left) (c .before .before .if2 .left) (sym (c .before .falls-on .ensures) ∙ c .if3 .left)) (grows-none _ _)
+
+pub add-block-spec : {M : Type 1} → statement M
+add-block-spec =
+    tie.close
+    (tie.spec
+    mul-add-link
+    mul-add-link-2
+    shared-slice-read-add-link
+    add-link-requires
+    same-length
+    returns
+    add-until-requires
+    same-length-2
+    returns-2
+    falls-on-requires
+    mul-add-node
+    mul-add-node-2
+    shared-slice-read-add-node
+    add-node-requires
+    same-length-3
+    returns-3
+    returns-4)

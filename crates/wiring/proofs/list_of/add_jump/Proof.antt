@@ -1,0 +1,113 @@
+-- `add_jump`: the targets, and then where an ON falls. Assumes nothing.
+use borrow.Author.Needs.{needs}
+use Rattle.wiring.specs.Growing.{grows-both}
+use Rattle.wiring.specs.AddRoom.{room-one, room-first, room-next, room-as, grows-as}
+use Rattle.wiring.specs.NodeListLaws.{jump-parts, jump-only, jump-falls}
+use Rattle.wiring.proofs.list_of.add_jump.Statement.{statement}
+use Rattle.wiring.proofs.list_of.add_jump.Tie as tie
+
+mul-at : tie.Need-mul-at
+mul-at c = search needs
+
+mul-wide : tie.Need-mul-wide
+mul-wide c = search needs
+
+add-wide : tie.Need-add-wide
+add-wide c = search needs
+
+mul-wide-2 : tie.Need-mul-wide-2
+mul-wide-2 c = search needs
+
+shared-slice-read-wide : tie.Need-shared-slice-read-wide
+shared-slice-read-wide c = search needs
+
+wide-requires : tie.Need-wide-requires
+wide-requires c κs = search needs
+
+add-end : tie.Need-add-end
+add-end c = search needs
+
+mul-add-targets : tie.Need-mul-add-targets
+mul-add-targets c = search needs
+
+sub-add-targets : tie.Need-sub-add-targets
+sub-add-targets c = search needs
+
+part-add-targets-start : tie.Need-part-add-targets-start
+part-add-targets-start c = search needs
+
+part-add-targets-end : tie.Need-part-add-targets-end
+part-add-targets-end c = search needs
+
+add-targets-requires : tie.Need-add-targets-requires
+add-targets-requires c κs =
+    let s = c .before .before .before .before .before .before .before .before in
+    room-first _ _ _ _ (room-as (jump-parts (s .args .stmts .now) (s .args .falls .now) (s .args .links .now) (s .args .i) (c .before .before .wide .result) (c .before .before .wide .ensures)) (s .pre .1))
+
+mul-if1 : tie.Need-mul-if1
+mul-if1 c = search needs
+
+mul-if1-2 : tie.Need-mul-if1-2
+mul-if1-2 c = search needs
+
+shared-slice-read-if1 : tie.Need-shared-slice-read-if1
+shared-slice-read-if1 c = search needs
+
+same-length : tie.Need-same-length
+same-length c = search needs
+
+returns : tie.Need-returns
+returns c =
+    let a = c .before .before .before .before .before .before .before .before .before .before .before .before .before .args in
+    grows-as (jump-only (a .stmts .now) (a .falls .now) (a .links .now) (a .i) (c .before .before .before .before .before .before .before .wide .result) (c .before .before .before .before .before .before .before .wide .ensures) (c .if1 .taken)) (c .before .before .before .before .add-targets .ensures)
+
+mul-add-node : tie.Need-mul-add-node
+mul-add-node c = search needs
+
+mul-add-node-2 : tie.Need-mul-add-node-2
+mul-add-node-2 c = search needs
+
+shared-slice-read-add-node : tie.Need-shared-slice-read-add-node
+shared-slice-read-add-node c = search needs
+
+add-node-requires : tie.Need-add-node-requires
+add-node-requires c κs =
+    let s = c .before .before .before .before .before .before .before .before .before .before .before .before .before .before .before in
+    let w = room-as (jump-falls (s .args .stmts .now) (s .args .falls .now) (s .args .links .now) (s .args .i) (c .before .before .before .before .before .before .before .before .before .wide .result) (c .before .before .before .before .before .before .before .before .before .wide .ensures) (c .before .before .if1 .left)) (s .pre .1) in
+    room-one _ _ _ (room-next _ _ _ _ w _ _ (c .before .before .before .before .before .before .add-targets .ensures))
+
+same-length-2 : tie.Need-same-length-2
+same-length-2 c = search needs
+
+returns-2 : tie.Need-returns-2
+returns-2 c =
+    let a = c .before .before .before .before .before .before .before .before .before .before .before .before .before .before .before .before .before .before .args in
+    grows-as (jump-falls (a .stmts .now) (a .falls .now) (a .links .now) (a .i) (c .before .before .before .before .before .before .before .before .before .before .before .before .wide .result) (c .before .before .before .before .before .before .before .before .before .before .before .before .wide .ensures) (c .before .before .before .before .before .if1 .left)) (grows-both _ _ _ _ _ _ _ _ (c .before .before .before .before .before .before .before .before .before .add-targets .ensures) (c .before .before .add-node .ensures))
+
+pub add-jump-spec : {M : Type 1} → statement M
+add-jump-spec =
+    tie.close
+    (tie.spec
+    mul-at
+    mul-wide
+    add-wide
+    mul-wide-2
+    shared-slice-read-wide
+    wide-requires
+    add-end
+    mul-add-targets
+    sub-add-targets
+    part-add-targets-start
+    part-add-targets-end
+    add-targets-requires
+    mul-if1
+    mul-if1-2
+    shared-slice-read-if1
+    same-length
+    returns
+    mul-add-node
+    mul-add-node-2
+    shared-slice-read-add-node
+    add-node-requires
+    same-length-2
+    returns-2)

@@ -1,0 +1,67 @@
+-- `add_next`: the bodies, then where it falls. Assumes nothing.
+use borrow.Author.Needs.{needs}
+use Rattle.wiring.specs.Growing.{grows-both}
+use Rattle.wiring.specs.AddRoom.{room-one, room-next, room-as, grows-as}
+use Rattle.wiring.specs.NodeListLaws.{next-parts}
+use Rattle.wiring.proofs.list_of.add_next.Statement.{statement}
+use Rattle.wiring.proofs.list_of.add_next.Tie as tie
+
+mul-wide : tie.Need-mul-wide
+mul-wide c = search needs
+
+add-wide : tie.Need-add-wide
+add-wide c = search needs
+
+mul-wide-2 : tie.Need-mul-wide-2
+mul-wide-2 c = search needs
+
+shared-slice-read-wide : tie.Need-shared-slice-read-wide
+shared-slice-read-wide c = search needs
+
+wide-requires : tie.Need-wide-requires
+wide-requires c κs = search needs
+
+add-popped-requires : tie.Need-add-popped-requires
+add-popped-requires c κs =
+    let s = c .before .before .before .before .before .before .before in
+    rw (c .before .wide .ensures) (s .pre .0 .2)
+
+mul-add-node : tie.Need-mul-add-node
+mul-add-node c = search needs
+
+mul-add-node-2 : tie.Need-mul-add-node-2
+mul-add-node-2 c = search needs
+
+shared-slice-read-add-node : tie.Need-shared-slice-read-add-node
+shared-slice-read-add-node c = search needs
+
+add-node-requires : tie.Need-add-node-requires
+add-node-requires c κs =
+    let s = c .before .before .before .before .before .before .before .before .before .before .before .before in
+    let w = room-as (next-parts (s .args .stmts .now) (s .args .falls .now) (s .args .links .now) (s .args .i) (c .before .before .before .before .before .before .wide .result) (c .before .before .before .before .before .before .wide .ensures)) (s .pre .1) in
+    room-one _ _ _ (room-next _ _ _ _ w _ _ (c .before .before .before .before .add-popped .ensures))
+
+same-length : tie.Need-same-length
+same-length c = search needs
+
+returns : tie.Need-returns
+returns c =
+    let a = c .before .before .before .before .before .before .before .before .before .before .before .before .before .before .before .args in
+    grows-as (next-parts (a .stmts .now) (a .falls .now) (a .links .now) (a .i) (c .before .before .before .before .before .before .before .before .before .wide .result) (c .before .before .before .before .before .before .before .before .before .wide .ensures)) (grows-both _ _ _ _ _ _ _ _ (c .before .before .before .before .before .before .before .add-popped .ensures) (c .before .before .add-node .ensures))
+
+pub add-next-spec : {M : Type 1} → statement M
+add-next-spec =
+    tie.close
+    (tie.spec
+    mul-wide
+    add-wide
+    mul-wide-2
+    shared-slice-read-wide
+    wide-requires
+    add-popped-requires
+    mul-add-node
+    mul-add-node-2
+    shared-slice-read-add-node
+    add-node-requires
+    same-length
+    returns)

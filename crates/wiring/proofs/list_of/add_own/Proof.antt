@@ -1,0 +1,139 @@
+-- `add_own`: by the word. Assumes nothing.
+use borrow.Author.Needs.{needs}
+use mathlib.Core.Path.{sym}
+use lib.Seq.{length-take-le}
+use Rattle.wiring.specs.AddRoom.{room-as, grows-as}
+use Rattle.wiring.specs.NodeListLaws.{own-branches, own-run, own-jump, own-next, own-any, own-block}
+use Rattle.wiring.proofs.list_of.add_own.Statement.{statement}
+use Rattle.wiring.proofs.list_of.add_own.Tie as tie
+
+mul-word : tie.Need-mul-word
+mul-word c = search needs
+
+mul-word-2 : tie.Need-mul-word-2
+mul-word-2 c = search needs
+
+shared-slice-read-word : tie.Need-shared-slice-read-word
+shared-slice-read-word c = search needs
+
+mul-at : tie.Need-mul-at
+mul-at c = search needs
+
+add-at : tie.Need-add-at
+add-at c = search needs
+
+add-end : tie.Need-add-end
+add-end c = search needs
+
+mul-add-targets : tie.Need-mul-add-targets
+mul-add-targets c = search needs
+
+sub-add-targets : tie.Need-sub-add-targets
+sub-add-targets c = search needs
+
+part-add-targets-start : tie.Need-part-add-targets-start
+part-add-targets-start c = search needs
+
+part-add-targets-end : tie.Need-part-add-targets-end
+part-add-targets-end c = search needs
+
+add-targets-requires : tie.Need-add-targets-requires
+add-targets-requires c κs = let s = c .before .before .before .before .before .before .before .before .before .before in room-as (own-branches (s .args .stmts .now) (s .args .entries .now) (s .args .falls .now) (s .args .links .now) (s .args .frames .now) (s .args .lines) (s .args .i) (c .before .before .if1 .taken)) (s .pre .room)
+
+same-length : tie.Need-same-length
+same-length c = search needs
+
+returns : tie.Need-returns
+returns c = let a = c .before .before .before .before .before .before .before .before .before .before .before .before .before .args in grows-as (own-branches (a .stmts .now) (a .entries .now) (a .falls .now) (a .links .now) (a .frames .now) (a .lines) (a .i) (c .before .before .before .before .before .if1 .taken)) (c .before .before .add-targets .ensures)
+
+add-run-requires : tie.Need-add-run-requires
+add-run-requires c κs =
+    let s = c .before .before .before .before .before .before .before .before .before .before in
+    ((s .pre .stmts, s .pre .entries, s .pre .links, s .pre .few (c .before .before .if1 .left)), room-as (own-run (s .args .stmts .now) (s .args .entries .now) (s .args .falls .now) (s .args .links .now) (s .args .frames .now) (s .args .lines) (s .args .i) (c .before .before .if1 .left) (c .before .if2 .taken)) (s .pre .room))
+
+same-length-2 : tie.Need-same-length-2
+same-length-2 c = search needs
+
+returns-2 : tie.Need-returns-2
+returns-2 c = let a = c .before .before .before .before .before .before .before .before .before .before .before .before .before .args in grows-as (own-run (a .stmts .now) (a .entries .now) (a .falls .now) (a .links .now) (a .frames .now) (a .lines) (a .i) (c .before .before .before .before .before .if1 .left) (c .before .before .before .before .if2 .taken)) (c .before .before .add-run .ensures)
+
+add-jump-requires : tie.Need-add-jump-requires
+add-jump-requires c κs =
+    let s = c .before .before .before .before .before .before .before .before .before .before .before in
+    ((s .pre .stmts, s .pre .falls, s .pre .links, s .pre .few (c .before .before .before .if1 .left)), room-as (own-jump (s .args .stmts .now) (s .args .entries .now) (s .args .falls .now) (s .args .links .now) (s .args .frames .now) (s .args .lines) (s .args .i) (c .before .before .before .if1 .left) (c .before .before .if2 .left) (c .before .if3 .taken)) (s .pre .room))
+
+same-length-3 : tie.Need-same-length-3
+same-length-3 c = search needs
+
+returns-3 : tie.Need-returns-3
+returns-3 c = let a = c .before .before .before .before .before .before .before .before .before .before .before .before .before .before .args in grows-as (own-jump (a .stmts .now) (a .entries .now) (a .falls .now) (a .links .now) (a .frames .now) (a .lines) (a .i) (c .before .before .before .before .before .before .if1 .left) (c .before .before .before .before .before .if2 .left) (c .before .before .before .before .if3 .taken)) (c .before .before .add-jump .ensures)
+
+add-next-requires : tie.Need-add-next-requires
+add-next-requires c κs =
+    let s = c .before .before .before .before .before .before .before .before .before .before .before .before in
+    ((s .pre .stmts, s .pre .falls, s .pre .popped (c .before .if4 .taken)), room-as (own-next (s .args .stmts .now) (s .args .entries .now) (s .args .falls .now) (s .args .links .now) (s .args .frames .now) (s .args .lines) (s .args .i) (c .before .before .before .before .if1 .left) (c .before .before .before .if2 .left) (c .before .before .if3 .left) (c .before .if4 .taken)) (s .pre .room))
+
+same-length-4 : tie.Need-same-length-4
+same-length-4 c = search needs
+
+returns-4 : tie.Need-returns-4
+returns-4 c = let a = c .before .before .before .before .before .before .before .before .before .before .before .before .before .before .before .args in grows-as (own-next (a .stmts .now) (a .entries .now) (a .falls .now) (a .links .now) (a .frames .now) (a .lines) (a .i) (c .before .before .before .before .before .before .before .if1 .left) (c .before .before .before .before .before .before .if2 .left) (c .before .before .before .before .before .if3 .left) (c .before .before .before .before .if4 .taken)) (c .before .before .add-next .ensures)
+
+slice-aggregate-add-entries : tie.Need-slice-aggregate-add-entries
+slice-aggregate-add-entries c = let s = c .before .before .before .before .before .before .before .before .before .before .before .before .before in sym (length-take-le (s .args .lines) (s .args .entries .now) (s .pre .entries))
+
+add-entries-requires : tie.Need-add-entries-requires
+add-entries-requires c κs =
+    let s = c .before .before .before .before .before .before .before .before .before .before .before .before .before .before in
+    (room-as (own-any (s .args .stmts .now) (s .args .entries .now) (s .args .falls .now) (s .args .links .now) (s .args .frames .now) (s .args .lines) (s .args .i) (c .before .before .before .before .before .before .if1 .left) (c .before .before .before .before .before .if2 .left) (c .before .before .before .before .if3 .left) (c .before .before .if5 .taken)) (s .pre .room), s .pre .rises)
+
+same-length-5 : tie.Need-same-length-5
+same-length-5 c = search needs
+
+returns-5 : tie.Need-returns-5
+returns-5 c = let a = c .before .before .before .before .before .before .before .before .before .before .before .before .before .before .before .before .before .args in grows-as (own-any (a .stmts .now) (a .entries .now) (a .falls .now) (a .links .now) (a .frames .now) (a .lines) (a .i) (c .before .before .before .before .before .before .before .before .before .if1 .left) (c .before .before .before .before .before .before .before .before .if2 .left) (c .before .before .before .before .before .before .before .if3 .left) (c .before .before .before .before .before .if5 .taken)) (c .before .before .add-entries .ensures)
+
+add-block-requires : tie.Need-add-block-requires
+add-block-requires c κs =
+    let s = c .before .before .before .before .before .before .before .before .before .before .before .before .before in
+    ((s .pre .falls, s .pre .frames, s .pre .opener), room-as (own-block (s .args .stmts .now) (s .args .entries .now) (s .args .falls .now) (s .args .links .now) (s .args .frames .now) (s .args .lines) (s .args .i) (c .before .before .before .before .before .if1 .left) (c .before .before .before .before .if2 .left) (c .before .before .before .if3 .left) (c .before .before .if4 .left) (c .before .if5 .left)) (s .pre .room))
+
+same-length-6 : tie.Need-same-length-6
+same-length-6 c = search needs
+
+returns-6 : tie.Need-returns-6
+returns-6 c = let a = c .before .before .before .before .before .before .before .before .before .before .before .before .before .before .before .before .args in grows-as (own-block (a .stmts .now) (a .entries .now) (a .falls .now) (a .links .now) (a .frames .now) (a .lines) (a .i) (c .before .before .before .before .before .before .before .before .if1 .left) (c .before .before .before .before .before .before .before .if2 .left) (c .before .before .before .before .before .before .if3 .left) (c .before .before .before .before .before .if4 .left) (c .before .before .before .before .if5 .left)) (c .before .before .add-block .ensures)
+
+pub add-own-spec : {M : Type 1} → statement M
+add-own-spec =
+    tie.close
+    (tie.spec
+    mul-word
+    mul-word-2
+    shared-slice-read-word
+    mul-at
+    add-at
+    add-end
+    mul-add-targets
+    sub-add-targets
+    part-add-targets-start
+    part-add-targets-end
+    add-targets-requires
+    same-length
+    returns
+    add-run-requires
+    same-length-2
+    returns-2
+    add-jump-requires
+    same-length-3
+    returns-3
+    add-next-requires
+    same-length-4
+    returns-4
+    slice-aggregate-add-entries
+    add-entries-requires
+    same-length-5
+    returns-5
+    add-block-requires
+    same-length-6
+    returns-6)

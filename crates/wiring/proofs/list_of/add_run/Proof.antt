@@ -1,0 +1,93 @@
+-- `add_run`: the first line's entry, or the target. Assumes nothing.
+use borrow.Author.Needs.{needs}
+use mathlib.Core.Path.{sym}
+use lib.Seq.{length-take-le}
+use Rattle.wiring.specs.AddRoom.{room-as, grows-as}
+use Rattle.wiring.specs.NodeListLaws.{run-first, run-target}
+use Rattle.wiring.proofs.list_of.add_run.Statement.{statement}
+use Rattle.wiring.proofs.list_of.add_run.Tie as tie
+
+mul-wide : tie.Need-mul-wide
+mul-wide c = search needs
+
+add-wide : tie.Need-add-wide
+add-wide c = search needs
+
+mul-wide-2 : tie.Need-mul-wide-2
+mul-wide-2 c = search needs
+
+shared-slice-read-wide : tie.Need-shared-slice-read-wide
+shared-slice-read-wide c = search needs
+
+wide-requires : tie.Need-wide-requires
+wide-requires c κs = search needs
+
+slice-aggregate-add-first : tie.Need-slice-aggregate-add-first
+slice-aggregate-add-first c = let s = c .before .before .before .before .before .before .before .before in sym (length-take-le (s .args .lines) (s .args .entries .now) (s .pre .0 .1))
+
+add-first-requires : tie.Need-add-first-requires
+add-first-requires c κs =
+    let s = c .before .before .before .before .before .before .before .before .before in
+    room-as (run-first (s .args .stmts .now) (s .args .entries .now) (s .args .links .now) (s .args .lines) (s .args .i) (c .before .before .before .wide .result) (c .before .before .before .wide .ensures) (c .before .before .if1 .taken)) (s .pre .1)
+
+same-length : tie.Need-same-length
+same-length c = search needs
+
+returns : tie.Need-returns
+returns c =
+    let a = c .before .before .before .before .before .before .before .before .before .before .before .before .args in
+    grows-as (run-first (a .stmts .now) (a .entries .now) (a .links .now) (a .lines) (a .i) (c .before .before .before .before .before .before .wide .result) (c .before .before .before .before .before .before .wide .ensures) (c .before .before .before .before .before .if1 .taken)) (c .before .before .add-first .ensures)
+
+mul-at : tie.Need-mul-at
+mul-at c = search needs
+
+add-end : tie.Need-add-end
+add-end c = search needs
+
+mul-add-targets : tie.Need-mul-add-targets
+mul-add-targets c = search needs
+
+sub-add-targets : tie.Need-sub-add-targets
+sub-add-targets c = search needs
+
+part-add-targets-start : tie.Need-part-add-targets-start
+part-add-targets-start c = search needs
+
+part-add-targets-end : tie.Need-part-add-targets-end
+part-add-targets-end c = search needs
+
+add-targets-requires : tie.Need-add-targets-requires
+add-targets-requires c κs =
+    let s = c .before .before .before .before .before .before .before .before .before in
+    room-as (run-target (s .args .stmts .now) (s .args .entries .now) (s .args .links .now) (s .args .lines) (s .args .i) (c .before .before .before .wide .result) (c .before .before .before .wide .ensures) (c .before .before .if1 .left)) (s .pre .1)
+
+same-length-2 : tie.Need-same-length-2
+same-length-2 c = search needs
+
+returns-2 : tie.Need-returns-2
+returns-2 c =
+    let a = c .before .before .before .before .before .before .before .before .before .before .before .before .args in
+    grows-as (run-target (a .stmts .now) (a .entries .now) (a .links .now) (a .lines) (a .i) (c .before .before .before .before .before .before .wide .result) (c .before .before .before .before .before .before .wide .ensures) (c .before .before .before .before .before .if1 .left)) (c .before .before .add-targets .ensures)
+
+pub add-run-spec : {M : Type 1} → statement M
+add-run-spec =
+    tie.close
+    (tie.spec
+    mul-wide
+    add-wide
+    mul-wide-2
+    shared-slice-read-wide
+    wide-requires
+    slice-aggregate-add-first
+    add-first-requires
+    same-length
+    returns
+    mul-at
+    add-end
+    mul-add-targets
+    sub-add-targets
+    part-add-targets-start
+    part-add-targets-end
+    add-targets-requires
+    same-length-2
+    returns-2)

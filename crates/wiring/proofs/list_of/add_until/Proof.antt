@@ -1,0 +1,65 @@
+-- `add_until`: nothing, or the body and then where it falls. Assumes nothing.
+use borrow.Author.Needs.{needs}
+use Rattle.wiring.specs.Growing.{grows-none, grows-both}
+use Rattle.wiring.specs.AddRoom.{room-one, room-first, room-next, room-as, grows-as}
+use Rattle.wiring.specs.NodeListLaws.{until-none, until-parts, body-room}
+use Rattle.wiring.proofs.list_of.add_until.Statement.{statement}
+use Rattle.wiring.proofs.list_of.add_until.Tie as tie
+
+mul-met : tie.Need-mul-met
+mul-met c = search needs
+
+mul-met-2 : tie.Need-mul-met-2
+mul-met-2 c = search needs
+
+shared-slice-read-met : tie.Need-shared-slice-read-met
+shared-slice-read-met c = search needs
+
+returns : tie.Need-returns
+returns c =
+    let a = c .before .before .before .before .before .args in
+    grows-as (until-none (a .falls .now) (a .frames .now) (a .i) (c .if1 .taken)) (grows-none _ _)
+
+add-link-requires : tie.Need-add-link-requires
+add-link-requires c κs =
+    let s = c .before .before .before .before .before .before in
+    body-room _ _ _ _ (s .pre .0 .2) (room-first _ _ _ _ (room-as (until-parts (s .args .falls .now) (s .args .frames .now) (s .args .i) (c .before .if1 .left)) (s .pre .1)))
+
+mul-add-node : tie.Need-mul-add-node
+mul-add-node c = search needs
+
+mul-add-node-2 : tie.Need-mul-add-node-2
+mul-add-node-2 c = search needs
+
+shared-slice-read-add-node : tie.Need-shared-slice-read-add-node
+shared-slice-read-add-node c = search needs
+
+add-node-requires : tie.Need-add-node-requires
+add-node-requires c κs =
+    let s = c .before .before .before .before .before .before .before .before .before .before .before in
+    let w = room-as (until-parts (s .args .falls .now) (s .args .frames .now) (s .args .i) (c .before .before .before .before .before .before .if1 .left)) (s .pre .1) in
+    room-one _ _ _ (room-next _ _ _ _ w _ _ (c .before .before .before .before .add-link .ensures))
+
+same-length : tie.Need-same-length
+same-length c = search needs
+
+returns-2 : tie.Need-returns-2
+returns-2 c =
+    let a = c .before .before .before .before .before .before .before .before .before .before .before .before .before .before .args in
+    grows-as (until-parts (a .falls .now) (a .frames .now) (a .i) (c .before .before .before .before .before .before .before .before .before .if1 .left)) (grows-both _ _ _ _ _ _ _ _ (c .before .before .before .before .before .before .before .add-link .ensures) (c .before .before .add-node .ensures))
+
+pub add-until-spec : {M : Type 1} → statement M
+add-until-spec =
+    tie.close
+    (tie.spec
+    mul-met
+    mul-met-2
+    shared-slice-read-met
+    returns
+    add-link-requires
+    mul-add-node
+    mul-add-node-2
+    shared-slice-read-add-node
+    add-node-requires
+    same-length
+    returns-2)

@@ -1,0 +1,40 @@
+-- `clear_words_behind`: the part that comes back is all zero. Assumes nothing.
+use borrow.Author.Needs.{needs}
+use Rattle.wiring.specs.Reading.{cleared-behind}
+use Rattle.wiring.proofs.reading.clear_words_behind.Statement.{statement}
+use Rattle.wiring.proofs.reading.clear_words_behind.Tie as tie
+
+mul-zero64 : tie.Need-mul-zero64
+mul-zero64 c = search needs
+
+sub-zero64 : tie.Need-sub-zero64
+sub-zero64 c = search needs
+
+part-zero64-start : tie.Need-part-zero64-start
+part-zero64-start c = search needs
+
+part-zero64-end : tie.Need-part-zero64-end
+part-zero64-end c = search needs
+
+zero64-requires : tie.Need-zero64-requires
+zero64-requires c κs = search needs
+
+same-length : tie.Need-same-length
+same-length c = search needs
+
+returns : tie.Need-returns
+returns c =
+    let a = c .before .before .before .before .before .args in
+    cleared-behind (a .t .now) (a .at) (c .before .before .zero64 .last .0) (search needs) (c .before .before .zero64 .ensures)
+
+pub clear-words-behind-spec : {M : Type 1} → statement M
+clear-words-behind-spec =
+    tie.close
+    (tie.spec
+    mul-zero64
+    sub-zero64
+    part-zero64-start
+    part-zero64-end
+    zero64-requires
+    same-length
+    returns)

@@ -1,0 +1,59 @@
+-- `join_entries`: the entries before e are done, whatever listing the tables hold. Assumes nothing.
+use borrow.Author.Needs.{needs}
+use Prim.Native.Nat.{_-_, _≤_}
+use mathlib.Core.Path.{_≡_, refl}
+use native.Mathlib.Omega.{arith}
+use lib.ListN.{length}
+use Rattle.wiring.specs.Regions.{EntriesJoined}
+use Rattle.wiring.specs.RegionLaws.{regions-none, regions-more, entries-again}
+use Rattle.wiring.proofs.regions.join_entries.Statement.{statement}
+use Rattle.wiring.proofs.regions.join_entries.Tie as tie
+
+abbrev Inv-loop : tie.InvT-loop
+Inv-loop stmts falls links lists edges n calls called sets₀ e₀ sets e = (e ≤ n) × (length sets ≡ length sets₀) × EntriesJoined stmts falls links lists edges n e sets₀ sets
+
+abbrev μ-loop : tie.MeasureT-loop
+μ-loop stmts falls links lists edges n calls called sets₀ e₀ sets e = n - e
+
+loop-holds : tie.Need-loop-holds Inv-loop μ-loop
+loop-holds c =
+    let a = c .before .before .before .before .before .before .before .args in
+    (omega arith, refl, λ W s t. regions-none W (a .stmts .now) (a .n) (a .sets .now))
+
+join-called-requires : tie.Need-join-called-requires Inv-loop μ-loop
+join-called-requires c κs = (entries-again _ (c .before .before .loop .inv .1) (c .before .before .before .before .before .before .before .before .before .before .pre), c .before .loop-test .taken)
+
+add-e : tie.Need-add-e Inv-loop μ-loop
+add-e c = search needs
+
+loop-less : tie.Need-loop-less Inv-loop μ-loop
+loop-less c = search needs
+
+loop-again : tie.Need-loop-again Inv-loop μ-loop
+loop-again c =
+    let a = c .before .before .before .before .before .before .before .before .before .before .before .before .before .args in
+    let l = c .before .before .before .before .before .loop in
+    (omega arith, search needs, λ W s t. regions-more W (a .stmts .now) (a .n) (l .e) (a .sets .now) (l .sets) _ (l .inv .2 W s t) (c .before .before .join-called .ensures W s t))
+
+same-length : tie.Need-same-length Inv-loop μ-loop
+same-length c = search needs
+
+returns : tie.Need-returns Inv-loop μ-loop
+returns c =
+    let l = c .before .loop in
+    let q : l .e ≡ c .before .before .before .before .before .before .before .before .before .args .n = omega arith in
+    rw q at (l .inv .2)
+
+pub join-entries-spec : {M : Type 1} → statement M
+join-entries-spec =
+    tie.close
+    (tie.spec
+    Inv-loop
+    μ-loop
+    loop-holds
+    join-called-requires
+    add-e
+    loop-less
+    loop-again
+    same-length
+    returns)

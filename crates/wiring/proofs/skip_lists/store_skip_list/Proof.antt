@@ -1,0 +1,61 @@
+-- `store_skip_list`: the node's list, what skipping paths follow of it, and that stored. Assumes nothing.
+use native.Mathlib.Omega.{arith}
+use borrow.Author.Needs.{needs}
+use Rattle.wiring.specs.SkipLists.{list-kept, skip-list-ready, skip-total, skip-room, skip-over, skip-fits, skip-store}
+use Rattle.wiring.proofs.skip_lists.store_skip_list.Statement.{statement}
+use Rattle.wiring.proofs.skip_lists.store_skip_list.Tie as tie
+
+list-of-requires : tie.Need-list-of-requires
+list-of-requires c κs = skip-list-ready (c .before .before .before .before .before .before .before .before .before .before .before .pre)
+
+add-total : tie.Need-add-total
+add-total c =
+    let s = c .before .before .before .before .before .before .before .before .before .before .before .before .before .before .before in
+    omega (arith, skip-total (s .pre) (c .before .before .before .list-of .ensures), s .pre .node, s .pre .roles .few)
+
+same-length : tie.Need-same-length
+same-length c = search needs
+
+returns : tie.Need-returns
+returns c = skip-over (c .before .before .before .before .before .before .before .before .before .before .before .before .before .before .before .before .pre) (c .before .before .before .before .list-of .ensures) (c .if1 .taken)
+
+skip-list-requires : tie.Need-skip-list-requires
+skip-list-requires c κs = skip-room (c .before .before .before .before .before .before .before .before .before .before .before .before .before .before .before .before .before .pre) (c .before .before .before .before .before .list-of .ensures)
+
+slice-reshare-prefix-append-list : tie.Need-slice-reshare-prefix-append-list
+slice-reshare-prefix-append-list c = search needs
+
+slice-aggregate-append-list : tie.Need-slice-aggregate-append-list
+slice-aggregate-append-list c = list-kept (c .before .before .before .before .before .skip-list .ensures)
+
+append-list-requires : tie.Need-append-list-requires
+append-list-requires c κs = skip-fits (c .before .before .before .before .before .before .before .before .before .before .before .before .before .before .before .before .before .before .before .before .before .before .before .pre) (c .before .before .before .before .before .before .before .before .before .before .before .list-of .ensures) (c .before .before .before .before .before .skip-list .ensures) (c .before .before .before .before .before .before .before .if1 .left)
+
+same-length-2 : tie.Need-same-length-2
+same-length-2 c = search needs
+
+same-length-3 : tie.Need-same-length-3
+same-length-3 c = search needs
+
+same-length-4 : tie.Need-same-length-4
+same-length-4 c = search needs
+
+returns-2 : tie.Need-returns-2
+returns-2 c = skip-store (c .before .before .before .before .before .before .before .before .before .before .before .before .before .before .before .before .before .before .before .before .before .before .before .before .before .before .before .before .pre) (c .before .before .before .before .before .before .before .before .before .before .before .before .before .before .before .before .list-of .ensures) (c .before .before .before .before .before .before .before .before .before .before .skip-list .ensures) (c .before .before .before .before .append-list .ensures)
+
+pub store-skip-list-spec : {M : Type 1} → statement M
+store-skip-list-spec =
+    tie.close
+    (tie.spec
+    list-of-requires
+    add-total
+    same-length
+    returns
+    skip-list-requires
+    slice-reshare-prefix-append-list
+    slice-aggregate-append-list
+    append-list-requires
+    same-length-2
+    same-length-3
+    same-length-4
+    returns-2)

@@ -1,0 +1,61 @@
+-- `spread_entries`: the entries before e are done, whatever listing the tables hold. Assumes nothing.
+use borrow.Author.Needs.{needs}
+use Prim.Native.Nat.{_-_, _≤_}
+use mathlib.Core.Path.{_≡_, refl}
+use native.Mathlib.Omega.{arith}
+use lib.ListN.{length}
+use Rattle.wiring.specs.RegionLaws.{regions-none}
+use Rattle.wiring.specs.Spread.{EntriesSpread}
+use Rattle.wiring.specs.SpreadLaws.{entries-more, spread-again}
+use Rattle.wiring.proofs.spread.spread_entries.Statement.{statement}
+use Rattle.wiring.proofs.spread.spread_entries.Tie as tie
+
+abbrev Inv-loop : tie.InvT-loop
+Inv-loop stmts falls links n calls called rows₀ e₀ rows e = (e ≤ n) × (length rows ≡ length rows₀) × EntriesSpread stmts falls links n e rows₀ rows
+
+abbrev μ-loop : tie.MeasureT-loop
+μ-loop stmts falls links n calls called rows₀ e₀ rows e = n - e
+
+loop-holds : tie.Need-loop-holds Inv-loop μ-loop
+loop-holds c =
+    let a = c .before .before .before .before .before .args in
+    (omega arith, refl, λ W s o. regions-none W (a .stmts .now) (a .n) (a .rows .now))
+
+join-spread-requires : tie.Need-join-spread-requires Inv-loop μ-loop
+join-spread-requires c κs = (spread-again _ (c .before .before .loop .inv .1) (c .before .before .before .before .before .before .before .before .pre), c .before .loop-test .taken)
+
+add-e : tie.Need-add-e Inv-loop μ-loop
+add-e c = search needs
+
+loop-less : tie.Need-loop-less Inv-loop μ-loop
+loop-less c = search needs
+
+loop-again : tie.Need-loop-again Inv-loop μ-loop
+loop-again c =
+    let s = c .before .before .before .before .before .before .before .before .before .before .before in
+    let a = s .args in
+    let l = c .before .before .before .before .before .loop in
+    (omega arith, search needs, entries-more (a .stmts .now) (a .falls .now) (a .links .now) (a .n) (l .e) (a .rows .now) (l .rows) _ (s .pre .in-rows) (l .inv .2) (c .before .before .join-spread .ensures))
+
+same-length : tie.Need-same-length Inv-loop μ-loop
+same-length c = search needs
+
+returns : tie.Need-returns Inv-loop μ-loop
+returns c =
+    let l = c .before .loop in
+    let q : l .e ≡ c .before .before .before .before .before .before .before .args .n = omega arith in
+    rw q at (l .inv .2)
+
+pub spread-entries-spec : {M : Type 1} → statement M
+spread-entries-spec =
+    tie.close
+    (tie.spec
+    Inv-loop
+    μ-loop
+    loop-holds
+    join-spread-requires
+    add-e
+    loop-less
+    loop-again
+    same-length
+    returns)

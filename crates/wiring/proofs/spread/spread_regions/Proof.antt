@@ -1,0 +1,67 @@
+-- `spread_regions`: the calls are listed, the entries marked, all regions joined. Assumes nothing.
+use borrow.Author.Needs.{needs}
+use mathlib.Core.Path.{sym, ap, _∙_}
+use mathlib.Core.Bool.{false}
+use native.Mathlib.Omega.{arith}
+use lib.ListN.{length, length-replicate}
+use lib.Seq.{length-take-le}
+use Rattle.wiring.specs.RegionLaws.{calls-few, calls-ready, targets-fit, regions-end}
+use Rattle.wiring.proofs.spread.spread_regions.Statement.{statement}
+use Rattle.wiring.proofs.spread.spread_regions.Tie as tie
+
+no-work-requires : tie.Need-no-work-requires
+no-work-requires c κs = search needs
+
+slice-aggregate-list-calls : tie.Need-slice-aggregate-list-calls
+slice-aggregate-list-calls c = search needs
+
+list-calls-requires : tie.Need-list-calls-requires
+list-calls-requires c κs = search needs
+
+array-share-prefix-buffer : tie.Need-array-share-prefix-buffer
+array-share-prefix-buffer c = omega (arith, c .before .list-calls .ensures .count, calls-few (c .before .before .before .before .before .before .before .before .args .stmts .now) (c .before .before .before .before .before .before .before .before .args .n), c .before .before .before .before .before .before .before .before .pre .roles .few, c .before .before .before .no-work .ensures)
+
+slice-aggregate-calls : tie.Need-slice-aggregate-calls
+slice-aggregate-calls c = sym (length-take-le _ _ (omega (arith, c .before .before .list-calls .ensures .count, calls-few (c .before .before .before .before .before .before .before .before .before .args .stmts .now) (c .before .before .before .before .before .before .before .before .before .args .n), c .before .before .before .before .before .before .before .before .before .pre .roles .few, c .before .before .before .before .no-work .ensures)))
+
+no-marks-requires : tie.Need-no-marks-requires
+no-marks-requires c κs = search needs
+
+mark-called-requires : tie.Need-mark-called-requires
+mark-called-requires c κs =
+    let s = c .before .before .before .before .before .before .before .before .before .before .before in
+    let r = calls-ready (s .pre .wired) (s .args .stmts .now) (s .args .falls .now) (s .args .links .now) (s .args .n) _ (s .pre .roles) (c .before .before .before .before .list-calls .ensures .list) in
+    (targets-fit (r .fit), ap length (c .before .no-marks .ensures) ∙ length-replicate 4096 false)
+
+spread-entries-requires : tie.Need-spread-entries-requires
+spread-entries-requires c κs =
+    let s = c .before .before .before .before .before .before .before .before .before .before .before .before .before .before in
+    record {
+      calls-ready = calls-ready (s .pre .wired) (s .args .stmts .now) (s .args .falls .now) (s .args .links .now) (s .args .n) _ (s .pre .roles) (c .before .before .before .before .before .before .before .list-calls .ensures .list);
+      marked = c .before .before .mark-called .ensures .covers;
+      in-rows = s .pre .in-rows;
+    }
+
+same-length : tie.Need-same-length
+same-length c = search needs
+
+returns : tie.Need-returns
+returns c =
+    let s = c .before .before .before .before .before .before .before .before .before .before .before .before .before .before .before .before .before in
+    λ W r o.
+    regions-end W (s .args .stmts .now) (s .args .falls .now) (s .args .links .now) (s .args .n) (s .args .rows .now) _ r (s .pre .in-rows) (s .pre .clear) (c .before .before .spread-entries .ensures W r o)
+
+pub spread-regions-spec : {M : Type 1} → statement M
+spread-regions-spec =
+    tie.close
+    (tie.spec
+    no-work-requires
+    slice-aggregate-list-calls
+    list-calls-requires
+    array-share-prefix-buffer
+    slice-aggregate-calls
+    no-marks-requires
+    mark-called-requires
+    spread-entries-requires
+    same-length
+    returns)

@@ -1,0 +1,44 @@
+-- `spread_return_edges`: the rows are filled, closed, cleared for the RETURNs, and all regions joined. Assumes nothing.
+use borrow.Author.Needs.{needs}
+use Rattle.wiring.specs.SpreadLaws.{spread-ready, spread-to}
+use Rattle.wiring.proofs.spread.spread_return_edges.Statement.{statement}
+use Rattle.wiring.proofs.spread.spread_return_edges.Tie as tie
+
+fill-rows-requires : tie.Need-fill-rows-requires
+fill-rows-requires c κs = search needs
+
+close-rows-requires : tie.Need-close-rows-requires
+close-rows-requires c κs = search needs
+
+clear-sets-requires : tie.Need-clear-sets-requires
+clear-sets-requires c κs = search needs
+
+spread-regions-requires : tie.Need-spread-regions-requires
+spread-regions-requires c κs =
+    let s = c .before .before .before .before .before .before .before .before .before .before .before .before .before .before .before .before .before .before .before .before .before .before .before .before in
+    let a = s .args in
+    spread-ready (a .stmts .now) (a .args .now) (a .entries .now) (a .falls .now) (a .links .now) (a .frames .now) (a .dispatched .now) (a .lines) (a .n) (a .d) _ (s .pre) _ _ _ (c .before .before .before .before .before .before .before .before .before .before .before .before .before .fill-rows .ensures) (c .before .before .before .before .before .before .before .close-rows .ensures) (c .before .before .before .clear-sets .ensures)
+
+same-length : tie.Need-same-length
+same-length c = search needs
+
+same-length-2 : tie.Need-same-length-2
+same-length-2 c = search needs
+
+returns : tie.Need-returns
+returns c =
+    let s = c .before .before .before .before .before .before .before .before .before .before .before .before .before .before .before .before .before .before .before .before .before .before .before .before .before .before .before in
+    let a = s .args in
+    spread-to (a .stmts .now) (a .args .now) (a .entries .now) (a .falls .now) (a .links .now) (a .frames .now) (a .dispatched .now) (a .lines) (a .n) (a .d) _ (s .pre) _ _ _ (c .before .before .before .before .before .before .before .before .before .before .before .before .before .before .before .before .fill-rows .ensures) (c .before .before .before .before .before .before .before .before .before .before .close-rows .ensures) (c .before .before .before .before .before .before .clear-sets .ensures) _ (c .before .before .spread-regions .ensures)
+
+pub spread-return-edges-spec : {M : Type 1} → statement M
+spread-return-edges-spec =
+    tie.close
+    (tie.spec
+    fill-rows-requires
+    close-rows-requires
+    clear-sets-requires
+    spread-regions-requires
+    same-length
+    same-length-2
+    returns)

@@ -1,0 +1,43 @@
+-- `find_returns`: with handlers nothing; else by regions, or by rows of bits. Assumes nothing.
+use borrow.Author.Needs.{needs}
+use native.Mathlib.Omega.{arith}
+use Rattle.wiring.specs.CountGraph.{returns-through, regions-ready, regions-found, spread-ready, spread-found}
+use Rattle.wiring.proofs.wire.find_returns.Statement.{statement}
+use Rattle.wiring.proofs.wire.find_returns.Tie as tie
+
+returns : tie.Need-returns
+returns c = returns-through (c .before .before .before .before .before .before .before .before .before .before .before .args .handlers) (c .if1 .taken)
+
+spread-return-edges-requires : tie.Need-spread-return-edges-requires
+spread-return-edges-requires c κs = spread-ready (c .before .before .before .before .before .before .before .before .before .before .before .before .before .before .pre)
+
+same-length : tie.Need-same-length
+same-length c = search needs
+
+same-length-2 : tie.Need-same-length-2
+same-length-2 c = search needs
+
+returns-2 : tie.Need-returns-2
+returns-2 c = spread-found (c .before .before .before .before .before .before .before .before .before .before .before .before .before .before .before .before .before .before .before .args .handlers) (λ q. omega (arith, c .before .before .before .before .before .before .before .if2 .taken)) (c .before .before .before .before .spread-return-edges .ensures)
+
+region-return-edges-requires : tie.Need-region-return-edges-requires
+region-return-edges-requires c κs = regions-ready (omega (arith, c .before .if2 .left)) (c .before .before .before .before .before .before .before .before .before .before .before .before .before .pre)
+
+same-length-3 : tie.Need-same-length-3
+same-length-3 c = search needs
+
+returns-3 : tie.Need-returns-3
+returns-3 c = regions-found (c .before .before .before .before .before .before .before .before .before .before .before .before .before .before .before .before .args .handlers) (omega (arith, c .before .before .before .before .if2 .left)) (c .before .before .region-return-edges .ensures)
+
+pub find-returns-spec : {M : Type 1} → statement M
+find-returns-spec =
+    tie.close
+    (tie.spec
+    returns
+    spread-return-edges-requires
+    same-length
+    same-length-2
+    returns-2
+    region-return-edges-requires
+    same-length-3
+    returns-3)

@@ -1,0 +1,48 @@
+-- The lists of all nodes: counted, and written where they fit. Assumes nothing.
+use Prim.Native.Nat.{ℕ, _*_, _≤_, min}
+use mathlib.Core.Path.{_≡_}
+use mathlib.Core.Bool.{Bool, true, _&&_}
+use mathlib.Core.List.{List}
+use lib.Dec.{leb}
+use lib.ListN.{length, replicate}
+use Rattle.reader.specs.Listing.{Listing}
+use Rattle.reader.specs.Records.{padded, countsOf}
+use Rattle.graph.specs.Build.{edgeCount}
+use Rattle.wiring.specs.Prepared.{Prepared}
+use Rattle.wiring.specs.GraphTables.{countTable, listTable, returnTable, succTable, predTable}
+
+-- the tables before, where the lists are zero
+pub record WireHeld (L : Listing) (handlers : Bool) (c n d : ℕ) (counts stmts args entries falls links frames dispatched succ pred : List ℕ) : Type 0 where
+  pub handlers-are : handlers ≡ L .handlers
+  pub prepared : Prepared L stmts args entries falls links frames dispatched c n d
+  pub counts-are : counts ≡ padded 5 (countsOf L)
+  pub zero-succ : succ ≡ replicate (length succ) 0
+  pub zero-pred : pred ≡ replicate (length pred) 0
+
+-- some listing's, and there is room
+pub record WireReady (handlers : Bool) (c n d : ℕ) (counts stmts args entries falls links frames dispatched lists returns succ pred : List ℕ) : Type 0 where
+  pub listing : Listing
+  pub held : WireHeld listing handlers c n d counts stmts args entries falls links frames dispatched succ pred
+  pub lists-fit : n * 4 ≤ length lists
+  pub returns-fit : n ≤ length returns
+  pub zero-lists : lists ≡ replicate (length lists) 0
+  pub zero-returns : returns ≡ replicate (length returns) 0
+
+-- the lists of L are written
+pub record WiredGraph (L : Listing) (ks counts args lists returns succ pred : List ℕ) : Type 0 where
+  pub counts-are : counts ≡ countTable L 5
+  pub args-are : args ≡ ks
+  pub lists-are : lists ≡ listTable L (length lists)
+  pub returns-are : returns ≡ returnTable L (length returns)
+  pub succ-are : succ ≡ succTable L (length succ)
+  pub pred-are : pred ≡ predTable L (length pred)
+
+-- of every listing that the tables hold: the graph is written if its edges fit, and they are counted
+pub record WiringDone (L : Listing) (args counts′ args′ lists′ returns′ succ′ pred′ : List ℕ) (written : Bool) (edges : ℕ) : Type 0 where
+  pub fits : written ≡ (leb (edgeCount L) (min (length succ′) (length pred′)) && leb (edgeCount L) 32768)
+  pub counted : edges ≡ edgeCount L
+  pub graph : written ≡ true → WiredGraph L args counts′ args′ lists′ returns′ succ′ pred′
+
+abbrev pub WiredTo : (handlers : Bool) (c n d : ℕ) (stmts args entries falls links frames dispatched counts succ pred counts′ args′ lists′ returns′ succ′ pred′ : List ℕ) (written : Bool) (edges : ℕ) → Type 0
+WiredTo h c n d stmts args entries falls links frames dispatched counts succ pred counts′ args′ lists′ returns′ succ′ pred′ written edges =
+    (L : Listing) → WireHeld L h c n d counts stmts args entries falls links frames dispatched succ pred → WiringDone L args counts′ args′ lists′ returns′ succ′ pred′ written edges

@@ -1,0 +1,223 @@
+-- The last stage of a build: lists, predecessors and counts are written, the RETURNs' sets are cleared, and every table is the definition's. Assumes nothing.
+use Prim.Native.Nat.{ℕ, _+_, _-_, _*_, _/_, _%_, _≤_, _<_}
+use mathlib.Core.Path.{_≡_, refl, sym, ap, _∙_}
+use mathlib.Core.Bool.{Bool}
+use mathlib.Core.List.{List, _++_}
+use mathlib.Core.Logic.{_⊎_, inl, inr}
+use native.Mathlib.Omega.{arith}
+use lib.ListN.{length, length-append, length-drop, getD, getD-replicate, set, drop, replicate}
+use lib.Seq.{ext-getD}
+use Rattle.reader.specs.Listing.{Listing}
+use Rattle.reader.specs.Records.{padded, countsOf}
+use Rattle.reader.specs.Tables.{drop-zeros}
+use Rattle.graph.specs.Lists.{each, below}
+use Rattle.graph.specs.Distinct.{dist[], distinct-all, few}
+use Rattle.graph.specs.Graph.{Wired, wire, skipSteps, allSuccessors, continuation, returnTargets}
+use Rattle.graph.specs.GraphLaws.{nodeCount, target-ids}
+use Rattle.graph.specs.Build.{edgeCount}
+use Rattle.wiring.specs.Compare.{eq-or, lt-or}
+use Rattle.wiring.specs.Clearing.{SetsCleared}
+use Rattle.wiring.specs.EdgeTable.{joinedLists, listRows, predCount, columns-past, ListsStored, length-lists}
+use Rattle.wiring.specs.Predecessors.{NodeLists, predsOf, all-lists, successor-lists}
+use Rattle.wiring.specs.PredecessorLists.{Ready, Written, Successors, stored-successors}
+use Rattle.wiring.specs.EdgeCount.{edges-joined}
+use Rattle.wiring.specs.FinalLists.{FinalTables, SkipsHeld, WritesReady, WritesDone}
+use Rattle.wiring.specs.PreparedLaws.{return-row}
+use Rattle.wiring.specs.GraphTables.{countTable, listTable, returnTable, succTable, predTable}
+use Rattle.wiring.specs.Wiring.{WiredGraph}
+
+-- ---- what the tables hold
+
+-- the lists that skipping paths follow stand in scratch; the table of rows was zero before them
+pub record SkipsStored (W : Wired) (n : ℕ) (lists scratch : List ℕ) : Type 0 where
+  pub skips : SkipsHeld W n lists scratch
+  pub zero-rows : skips .lists₀ ≡ replicate (length (skips .lists₀)) 0
+
+-- what the lists of L need
+pub record EdgesHeld (L : Listing) (ks : List ℕ) (handlers : Bool) (stmts args entries falls links frames dispatched : List ℕ) (lines n d : ℕ) (lists scratch returns : List ℕ) (targets : ℕ) (succ pred : List ℕ) : Type 0 where
+  pub tables : FinalTables L ks handlers stmts args entries falls links frames dispatched lines n d returns targets
+  pub held : SkipsStored (wire L) n lists scratch
+  pub rows : n * 4 ≤ length lists
+  pub few-edges : edgeCount L ≤ 32768
+  pub succ-fits : edgeCount L ≤ length succ
+  pub pred-fits : edgeCount L ≤ length pred
+  pub zero-succ : succ ≡ replicate (length succ) 0
+  pub zero-pred : pred ≡ replicate (length pred) 0
+
+pub record EdgesReady (handlers : Bool) (stmts args entries falls links frames dispatched : List ℕ) (lines n d : ℕ) (lists scratch returns : List ℕ) (targets : ℕ) (succ pred : List ℕ) (room : ℕ) : Type 0 where
+  pub listing : Listing
+  pub keys₀ : List ℕ
+  pub edges : EdgesHeld listing keys₀ handlers stmts args entries falls links frames dispatched lines n d lists scratch returns targets succ pred
+  pub buffer-size : room ≡ 4096
+
+-- the lists of L are written, r edges in all
+pub record EdgesAre (L : Listing) (lists succ pred : List ℕ) (r : ℕ) : Type 0 where
+  pub counted : r ≡ edgeCount L
+  pub lists-are : lists ≡ listTable L (length lists)
+  pub succ-are : succ ≡ succTable L (length succ)
+  pub pred-are : pred ≡ predTable L (length pred)
+
+abbrev pub EdgesWritten : (handlers : Bool) (stmts args entries falls links frames dispatched : List ℕ) (lines n d : ℕ) (lists lists′ scratch returns : List ℕ) (targets : ℕ) (succ succ′ pred pred′ : List ℕ) (r : ℕ) → Type 0
+EdgesWritten handlers stmts args entries falls links frames dispatched lines n d lists lists′ scratch returns targets succ succ′ pred pred′ r =
+    (L : Listing) (ks : List ℕ) → EdgesHeld L ks handlers stmts args entries falls links frames dispatched lines n d lists scratch returns targets succ pred → EdgesAre L lists′ succ′ pred′ r
+
+-- what the whole stage needs
+pub record WriteHeld (L : Listing) (ks : List ℕ) (handlers : Bool) (stmts args entries falls links frames dispatched : List ℕ) (lines n d : ℕ) (counts lists scratch returns : List ℕ) (targets : ℕ) (succ pred : List ℕ) : Type 0 where
+  pub edges : EdgesHeld L ks handlers stmts args entries falls links frames dispatched lines n d lists scratch returns targets succ pred
+  pub counts-are : counts ≡ padded 5 (countsOf L)
+  pub returns-are : returns ≡ padded (length returns) (returnTargets (wire L))
+  pub targets-are : targets ≡ length (returnTargets (wire L))
+
+pub record WriteReady (handlers : Bool) (stmts args entries falls links frames dispatched : List ℕ) (lines n d : ℕ) (counts lists scratch returns : List ℕ) (targets : ℕ) (succ pred : List ℕ) (room : ℕ) : Type 0 where
+  pub listing : Listing
+  pub keys₀ : List ℕ
+  pub held : WriteHeld listing keys₀ handlers stmts args entries falls links frames dispatched lines n d counts lists scratch returns targets succ pred
+  pub buffer-size : room ≡ 4096
+
+abbrev pub WrittenGraph : (handlers : Bool) (stmts args entries falls links frames dispatched : List ℕ) (lines n d : ℕ) (counts lists scratch returns : List ℕ) (targets : ℕ) (succ pred counts′ args′ lists′ succ′ pred′ : List ℕ) → Type 0
+WrittenGraph handlers stmts args entries falls links frames dispatched lines n d counts lists scratch returns targets succ pred counts′ args′ lists′ succ′ pred′ =
+    (L : Listing) (ks : List ℕ) → WriteHeld L ks handlers stmts args entries falls links frames dispatched lines n d counts lists scratch returns targets succ pred
+    → WiredGraph L ks counts′ args′ lists′ returns succ′ pred′
+
+-- ---- zeros
+
+zeros-drop : (k : ℕ) (t : List ℕ) → t ≡ replicate (length t) 0 → drop k t ≡ replicate (length (drop k t)) 0
+zeros-drop k t e = ap (drop k) e ∙ drop-zeros (length t) k ∙ ap (λ (n : ℕ). replicate {A = ℕ} n 0) (sym (length-drop k t))
+
+zeros-at : (t : List ℕ) (i : ℕ) → t ≡ replicate (length t) 0 → i < length t → getD t i 0 ≡ 0
+zeros-at t i e h = ap (λ (l : List ℕ). getD l i 0) e ∙ getD-replicate (length t) i 0 0 h
+
+zeros-behind : (l r t : List ℕ) → r ≡ replicate (length r) 0 → t ≡ l ++ r → t ≡ padded (length t) l
+unfolding padded
+zeros-behind l r t z e =
+    let k : length r ≡ length t - length l = omega (arith, ap length e, length-append l r) in
+    e ∙ ap (λ (x : List ℕ). l ++ x) (z ∙ ap (λ (n : ℕ). replicate {A = ℕ} n 0) k)
+
+-- ---- the lists
+
+edges-are : (L : Listing) → edgeCount L ≡ length (joinedLists (allSuccessors L))
+edges-are L = edges-joined L ∙ ap (λ (k : List (List ℕ)). length (joinedLists k)) (sym (all-lists L))
+
+lists-of : (L : Listing) (n : ℕ) → n ≡ nodeCount L → NodeLists n (allSuccessors L)
+lists-of L n e = rw e (successor-lists L)
+
+module _ {L : Listing} {ks : List ℕ} {handlers : Bool} {stmts args entries falls links frames dispatched : List ℕ} {lines n d : ℕ} {lists scratch returns : List ℕ} {targets : ℕ} {succ pred : List ℕ}
+    (q : EdgesHeld L ks handlers stmts args entries falls links frames dispatched lines n d lists scratch returns targets succ pred) where
+  pub lists-ready : {room : ℕ} → room ≡ 4096 → WritesReady handlers stmts args entries falls links frames dispatched lines n d lists scratch returns targets (length succ) room
+  lists-ready b =
+      record {
+        listing = L;
+        keys₀ = ks;
+        tables = q .tables;
+        held = q .held .skips;
+        rows = q .rows;
+        fits = omega (arith, q .succ-fits, edges-are L);
+        few = omega (arith, q .few-edges, edges-are L);
+        buffer-size = b;
+      }
+
+  nodes-are : n ≡ nodeCount L
+  nodes-are = q .tables .prepared .nodes-are
+
+  module _ {lists₁ succ₁ : List ℕ} {total : ℕ} (w : WritesDone handlers stmts args entries falls links frames dispatched lines n d lists lists₁ scratch returns targets succ succ₁ total) where
+    stored : ListsStored (allSuccessors L) total lists lists₁ succ succ₁
+    stored = w L ks (q .tables) (q .held .skips)
+
+    size : length (allSuccessors L) ≡ n
+    size = lists-of L n nodes-are .size
+
+    pub edges-counted : total ≡ edgeCount L
+    edges-counted = stored .used ∙ sym (edges-are L)
+
+    successors-stand : Successors n (allSuccessors L) succ₁ lists₁
+    successors-stand = stored-successors (lists-of L n nodes-are) (omega (arith, q .succ-fits, edges-counted)) stored
+
+    no-preds : (i : ℕ) → i < n → predCount lists₁ i ≡ 0
+    no-preds i h =
+        let k = q .held .skips in
+        let l = length-lists (skipSteps (wire L)) n in
+        stored .rows .col3 i (omega (arith, size)) ∙ k .stored .rows .col3 i (omega arith) ∙ zeros-at (k .lists₀) (i * 4 + 3) (q .held .zero-rows) (omega (arith, q .rows, k .stored .rows .size))
+
+    rest : drop (n * 4) lists₁ ≡ replicate (length (drop (n * 4) lists₁)) 0
+    rest =
+        let k = q .held .skips in
+        let l : drop (n * 4) lists₁ ≡ drop (n * 4) lists = rw size at (columns-past (stored .rows)) in
+        let m : drop (n * 4) lists ≡ drop (n * 4) (k .lists₀) = rw (length-lists (skipSteps (wire L)) n) at (columns-past (k .stored .rows)) in
+        rw (l, m) (zeros-drop (n * 4) (k .lists₀) (q .held .zero-rows))
+
+    pub preds-ready : Ready n total succ₁ lists₁ pred
+    preds-ready =
+        record {
+          ls = allSuccessors L;
+          held = successors-stand;
+          edges-are = stored .used;
+          none = no-preds;
+          room = record {
+            few-nodes = q .tables .prepared .few;
+            few-edges = omega (arith, q .few-edges, edges-counted);
+            rows = omega (arith, q .rows, stored .rows .size);
+            space = omega (arith, q .pred-fits, edges-counted);
+          };
+        }
+
+    pub edges-written : {lists₂ pred₂ : List ℕ} → Written n total succ₁ lists₁ lists₂ pred pred₂ → EdgesAre L lists₂ succ₁ pred₂ total
+    unfolding listTable succTable predTable
+    edges-written {lists₂} {pred₂} p =
+        let ls = allSuccessors L in
+        let v = p ls successors-stand (stored .used) in
+        record {
+          counted = edges-counted;
+          lists-are = zeros-behind (listRows ls (predsOf ls) n) (drop (n * 4) lists₁) lists₂ rest (v .rows) ∙ ap (λ (m : ℕ). padded (length lists₂) (listRows ls (predsOf ls) m)) nodes-are;
+          succ-are = zeros-behind (joinedLists ls) (drop total succ) succ₁ (zeros-drop total succ (q .zero-succ)) (stored .table);
+          pred-are = zeros-behind (joinedLists (predsOf ls)) (drop (length (joinedLists ls)) pred) pred₂ (zeros-drop (length (joinedLists ls)) pred (q .zero-pred)) (v .table);
+        }
+
+-- ---- the arguments
+
+args-back : {L : Listing} {ks : List ℕ} {handlers : Bool} {stmts args entries falls links frames dispatched : List ℕ} {lines n d : ℕ} {returns args′ : List ℕ} {targets : ℕ}
+    → FinalTables L ks handlers stmts args entries falls links frames dispatched lines n d returns targets → SetsCleared stmts n args args′ → args′ ≡ ks
+args-back {ks = ks} {stmts = stmts} {args = args} {n = n} {args′ = args′} t s = ext-getD 0 args′ ks (s .size ∙ t .args-size) (λ e _. at e (lt-or (e / 64) n) (eq-or (getD stmts ((e / 64) * 12) 0) 9))
+  where
+    at : (e : ℕ) → (e / 64 < n) ⊎ (n ≤ e / 64) → (getD stmts ((e / 64) * 12) 0 ≡ 9) ⊎ (getD stmts ((e / 64) * 12) 0 ≡ 9 → ⊥) → getD args′ e 0 ≡ getD ks e 0
+    at e (inl h) (inl w) =
+        let r : (e / 64) * 64 + e % 64 ≡ e = omega arith in
+        s .cleared e h w ∙ sym (ap (λ (x : ℕ). getD ks x 0) (sym r) ∙ return-row (t .prepared) (e / 64) h w (e % 64) (omega arith))
+    at e (inl h) (inr w) = s .kept e (λ p. w (p .1)) ∙ t .kept e (λ _ x. w x)
+    at e (inr h) w = s .kept e (λ p. omega (arith, p .0)) ∙ t .kept e (λ l _. omega arith)
+
+-- ---- the counts
+
+few-targets : (L : Listing) → length (returnTargets (wire L)) ≤ nodeCount L
+unfolding returnTargets
+few-targets L = few (nodeCount L) (distinct-all (each (continuation (wire L)) (below (nodeCount L))) dist[]) (target-ids L)
+
+counts-written : (L : Listing) (counts counts′ : List ℕ) (edges targets : ℕ) → counts ≡ padded 5 (countsOf L) → edges ≡ edgeCount L → targets ≡ length (returnTargets (wire L))
+    → counts′ ≡ set (set counts 3 edges) 4 targets → counts′ ≡ countTable L 5
+unfolding padded countsOf countTable
+counts-written L counts counts′ edges targets c e t p = p ∙ ap (λ (x : List ℕ). set (set x 3 edges) 4 targets) c ∙ rw (e, t) refl
+
+-- ---- the whole stage
+
+module _ {L : Listing} {ks : List ℕ} {handlers : Bool} {stmts args entries falls links frames dispatched : List ℕ} {lines n d : ℕ} {counts lists scratch returns : List ℕ} {targets : ℕ} {succ pred : List ℕ}
+    (q : WriteHeld L ks handlers stmts args entries falls links frames dispatched lines n d counts lists scratch returns targets succ pred) where
+  pub clear-ready : (n ≤ 4096) × (n * 12 ≤ length stmts) × (n * 64 ≤ length args)
+  clear-ready = let t = q .edges .tables in (t .prepared .few, t .prepared .stmts-fit, omega (arith, t .prepared .args-fit, t .args-size))
+
+  module _ {lists′ succ′ pred′ : List ℕ} {total : ℕ} (w : EdgesWritten handlers stmts args entries falls links frames dispatched lines n d lists lists′ scratch returns targets succ succ′ pred pred′ total) where
+    pub counts-ready : (total < 65536) × (targets < 65536)
+    counts-ready =
+        let p = q .edges .tables .prepared in
+        (omega (arith, w L ks (q .edges) .counted, q .edges .few-edges), omega (arith, q .targets-are, few-targets L, p .nodes-are, p .few))
+
+    pub graph-written : {args′ counts′ : List ℕ} → SetsCleared stmts n args args′ → counts′ ≡ set (set counts 3 total) 4 targets → WiredGraph L ks counts′ args′ lists′ returns succ′ pred′
+    unfolding returnTable
+    graph-written {args′} {counts′} s c =
+        let e = w L ks (q .edges) in
+        record {
+          counts-are = counts-written L counts counts′ total targets (q .counts-are) (e .counted) (q .targets-are) c;
+          args-are = args-back (q .edges .tables) s;
+          lists-are = e .lists-are;
+          returns-are = q .returns-are;
+          succ-are = e .succ-are;
+          pred-are = e .pred-are;
+        }

@@ -1,0 +1,208 @@
+// The rows of arguments, filled with where the nodes step on a skipping path, for the closure.
+use crate::closure::put_row;
+use crate::fors::NEXT;
+use crate::jumps::ONGOSUB;
+use crate::list_of::list_of;
+use crate::return_sets::RETURN;
+ghost use mathlib.Core.Path.{_≡_};
+ghost use Prim.Native.Nat.{_*_, _<_};
+ghost use lib.ListN.{length};
+ghost use Rattle.wiring.specs.Prepared.{callWord, fallEntry};
+ghost use Rattle.wiring.specs.NodeList.{ListIs};
+ghost use Rattle.wiring.specs.FillRows.{SkipReady, SkipMade, inPass, RowReady, RowFilled, PassReady, PassFilled, FillReady, RowsFilled};
+
+// The number of `gosub` in the table of opening words.
+const GOSUB: u16 = 8;
+
+fn is_call(word: u16) -> bool
+    ensures { λ r. ⌜ r ≡ callWord word ⌝ }
+{
+    if word == GOSUB {
+        return true;
+    }
+    word == ONGOSUB
+}
+
+// Where node i falls goes to the front of the part.
+fn put_fall(falls: &[u16], i: usize, part: &mut [u16]) -> usize
+    requires { ⌜ (i < 4096) × (i * 3 < length (now falls)) × (0 < length (now part)) ⌝ }
+    ensures { λ r. ⌜ ListIs (fallEntry (now (falls .entry)) i) (now (part .entry)) (now (part .exit)) r ⌝ }
+{
+    let f = falls[i * 3];
+    if f == 0 {
+        return 0;
+    }
+    part[0] = f - 1;
+    1
+}
+
+// Where a skipping path steps from node i: from a call where it falls, from a RETURN nowhere, else to its list.
+fn skip_list(
+    stmts: &[u16],
+    args: &[u64],
+    entries: &[u16],
+    falls: &[u16],
+    links: &[u16],
+    frames: &[u16],
+    dispatched: &[u16],
+    lines: usize,
+    d: usize,
+    i: usize,
+    part: &mut [u16],
+) -> usize
+    requires { ⌜ SkipReady (now stmts) (now args) (now entries) (now falls) (now links) (now frames) (now dispatched) lines d i (length (now part)) ⌝ }
+    ensures { λ r. ⌜ SkipMade (now (stmts .entry)) (now (args .entry)) (now (entries .entry)) (now (falls .entry)) (now (links .entry)) (now (frames .entry)) (now (dispatched .entry)) lines d i (now (part .entry)) (now (part .exit)) r ⌝ }
+{
+    let word = stmts[i * 12];
+    if word == RETURN {
+        return 0;
+    }
+    if is_call(word) {
+        return put_fall(falls, i, part);
+    }
+    list_of(
+        stmts,
+        args,
+        entries,
+        falls,
+        links,
+        frames,
+        dispatched,
+        lines,
+        d,
+        i,
+        part,
+    )
+}
+
+// NEXTs are in one pass, all other nodes in the other.
+fn in_pass(nexts: bool, word: u16) -> bool
+    ensures { λ r. ⌜ r ≡ inPass nexts word ⌝ }
+{
+    if word == NEXT {
+        return nexts;
+    }
+    !nexts
+}
+
+fn fill_row(
+    stmts: &[u16],
+    args: &mut [u64],
+    entries: &[u16],
+    falls: &[u16],
+    links: &[u16],
+    frames: &[u16],
+    dispatched: &[u16],
+    lines: usize,
+    d: usize,
+    i: usize,
+    nexts: bool,
+    part: &mut [u16],
+)
+    requires { ⌜ RowReady (now stmts) (now args) (now entries) (now falls) (now links) (now frames) (now dispatched) lines d i nexts (length (now part)) ⌝ }
+    ensures { λ _. ⌜ RowFilled (now (stmts .entry)) (now (args .entry)) (now (entries .entry)) (now (falls .entry)) (now (links .entry)) (now (frames .entry)) (now (dispatched .entry)) lines d i nexts (now (args .exit)) ⌝ }
+{
+    if !in_pass(nexts, stmts[i * 12]) {
+        return;
+    }
+    let count = skip_list(
+        stmts,
+        args,
+        entries,
+        falls,
+        links,
+        frames,
+        dispatched,
+        lines,
+        d,
+        i,
+        part,
+    );
+    let start = i * 64;
+    let end = start + 64;
+    put_row(&mut args[start..end], part, count);
+}
+
+fn fill_pass(
+    stmts: &[u16],
+    args: &mut [u64],
+    entries: &[u16],
+    falls: &[u16],
+    links: &[u16],
+    frames: &[u16],
+    dispatched: &[u16],
+    lines: usize,
+    n: usize,
+    d: usize,
+    nexts: bool,
+    part: &mut [u16],
+)
+    requires { ⌜ PassReady (now stmts) (now args) (now entries) (now falls) (now links) (now frames) (now dispatched) lines n d nexts (length (now part)) ⌝ }
+    ensures { λ _. ⌜ PassFilled (now (stmts .entry)) (now (args .entry)) (now (entries .entry)) (now (falls .entry)) (now (links .entry)) (now (frames .entry)) (now (dispatched .entry)) lines n d nexts n (now (args .exit)) ⌝ }
+{
+    let mut i: usize = 0;
+    while i < n {
+        fill_row(
+            stmts,
+            args,
+            entries,
+            falls,
+            links,
+            frames,
+            dispatched,
+            lines,
+            d,
+            i,
+            nexts,
+            part,
+        );
+        i += 1;
+    }
+}
+
+// The NEXTs come first: their lists read their own arguments and the names of FORs.
+pub(crate) fn fill_rows(
+    stmts: &[u16],
+    args: &mut [u64],
+    entries: &[u16],
+    falls: &[u16],
+    links: &[u16],
+    frames: &[u16],
+    dispatched: &[u16],
+    lines: usize,
+    n: usize,
+    d: usize,
+    part: &mut [u16],
+)
+    requires { ⌜ FillReady (now stmts) (now args) (now entries) (now falls) (now links) (now frames) (now dispatched) lines n d (length (now part)) ⌝ }
+    ensures { λ _. ⌜ RowsFilled (now (stmts .entry)) (now (args .entry)) (now (entries .entry)) (now (falls .entry)) (now (links .entry)) (now (frames .entry)) (now (dispatched .entry)) lines n d (now (args .exit)) ⌝ }
+{
+    fill_pass(
+        stmts,
+        args,
+        entries,
+        falls,
+        links,
+        frames,
+        dispatched,
+        lines,
+        n,
+        d,
+        true,
+        part,
+    );
+    fill_pass(
+        stmts,
+        args,
+        entries,
+        falls,
+        links,
+        frames,
+        dispatched,
+        lines,
+        n,
+        d,
+        false,
+        part,
+    );
+}

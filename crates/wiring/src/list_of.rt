@@ -1,0 +1,242 @@
+// A node's list, each edge once: what its statement adds, then what later nodes add, then an orphan NEXT's bodies.
+use crate::fors::FOR;
+use crate::fors::NEXT;
+use crate::frames::ELSE;
+use crate::frames::EXIT;
+use crate::growing::add_node;
+use crate::late::add_late;
+use crate::nexts::add_link;
+use crate::nexts::add_orphan;
+use crate::nexts::add_popped;
+use crate::widths::wide;
+ghost use mathlib.Core.Path.{_≡_};
+ghost use Prim.Native.Nat.{_+_, _*_, _≤_};
+ghost use lib.ListN.{length, take, getD};
+ghost use Rattle.graph.specs.Lists.{each};
+ghost use Rattle.graph.specs.Adding.{decode};
+ghost use Rattle.wiring.specs.Growing.{Grows};
+ghost use Rattle.wiring.specs.NextBodies.{PoppedRoom};
+ghost use Rattle.wiring.specs.AddRoom.{RoomToAdd};
+ghost use Rattle.wiring.specs.EntryOrder.{Rises, EntryRoom, EntryAdded};
+ghost use Rattle.wiring.specs.NodeList.{runEdges, jumpEdges, nextEdges, untilEdges, fallsWord, blockEdges, ownEdges, OwnRoom, ListReady, ListMade};
+
+// Numbers of opening words; those of IF, IFELSE and RCOMP are below that of GOTO.
+const GOTO: u16 = 7;
+
+const RUN: u16 = 10;
+
+const ONGOTO: u16 = 11;
+
+const UNTIL: u16 = 17;
+
+const ENDLOOP: u16 = 18;
+
+const STOP: u16 = 25;
+
+const ANY: u16 = 26;
+
+// Adds the nodes that a row of entries leads to.
+fn add_targets(row: &[u16], part: &mut [u16], n: usize) -> usize
+    requires { ⌜ RoomToAdd (now part) n (each decode (now row)) ⌝ }
+    ensures { λ r. ⌜ Grows (now (part .entry)) n (now (part .exit)) r (each decode (now (row .entry))) ⌝ }
+{
+    let mut r = n;
+    let mut k: usize = 0;
+    while k < row.len() {
+        r = add_node(part, r, row[k]);
+        k += 1;
+    }
+    r
+}
+
+// Adds the first line's entry.
+fn add_first(row: &[u16], part: &mut [u16]) -> usize
+    requires { ⌜ RoomToAdd (now part) 0 (each decode (take 1 (now row))) ⌝ }
+    ensures { λ r. ⌜ Grows (now (part .entry)) 0 (now (part .exit)) r (each decode (take 1 (now (row .entry)))) ⌝ }
+{
+    if row.len() == 0 {
+        return 0;
+    }
+    add_node(part, 0, row[0])
+}
+
+// Adds the entry e after the entry `last`: if it is another one, it is not there yet.
+fn add_entry(part: &mut [u16], n: usize, e: u16, last: u16) -> usize
+    requires { ⌜ EntryRoom (now part) n e last ⌝ }
+    ensures { λ r. ⌜ EntryAdded (now (part .entry)) n e (now (part .exit)) r ⌝ }
+{
+    if e == last {
+        return n;
+    }
+    part[n] = e - 1;
+    n + 1
+}
+
+// Adds all line entries. They ascend, so each is compared with the last one only, and nothing is searched for.
+fn add_entries(row: &[u16], part: &mut [u16]) -> usize
+    requires { ⌜ RoomToAdd (now part) 0 (each decode (now row)) × Rises 0 (now row) ⌝ }
+    ensures { λ r. ⌜ Grows (now (part .entry)) 0 (now (part .exit)) r (each decode (now (row .entry))) ⌝ }
+{
+    let mut n: usize = 0;
+    let mut last: u16 = 0;
+    let mut k: usize = 0;
+    while k < row.len() {
+        let e = row[k];
+        if e == 0 {
+            return n;
+        }
+        n = add_entry(part, n, e, last);
+        last = e;
+        k += 1;
+    }
+    n
+}
+
+// A RUN goes to its target; without a number to the first line's entry.
+fn add_run(
+    stmts: &[u16],
+    entries: &[u16],
+    links: &[u16],
+    lines: usize,
+    i: usize,
+    part: &mut [u16],
+) -> usize
+    requires { ⌜ (i * 12 + 12 ≤ length (now stmts)) × (lines ≤ length (now entries)) × (i * 64 + 64 ≤ length (now links)) × (getD (now stmts) (i * 12 + 10) 0 ≤ 64) ⌝ }
+    requires { ⌜ RoomToAdd (now part) 0 (runEdges (now stmts) (now entries) (now links) lines i) ⌝ }
+    ensures { λ r. ⌜ Grows (now (part .entry)) 0 (now (part .exit)) r (runEdges (now (stmts .entry)) (now (entries .entry)) (now (links .entry)) lines i) ⌝ }
+{
+    let count = wide(stmts[i * 12 + 10]);
+    if count == 0 {
+        return add_first(&entries[..lines], part);
+    }
+    let at = i * 64;
+    let end = at + count;
+    add_targets(&links[at..end], part, 0)
+}
+
+// GOTO, GOSUB and ON go to their targets, and ON falls after them. A RETURN has no target here.
+fn add_jump(stmts: &[u16], falls: &[u16], links: &[u16], i: usize, part: &mut [u16]) -> usize
+    requires { ⌜ (i * 12 + 12 ≤ length (now stmts)) × (i * 3 + 3 ≤ length (now falls)) × (i * 64 + 64 ≤ length (now links)) × (getD (now stmts) (i * 12 + 10) 0 ≤ 64) ⌝ }
+    requires { ⌜ RoomToAdd (now part) 0 (jumpEdges (now stmts) (now falls) (now links) i) ⌝ }
+    ensures { λ r. ⌜ Grows (now (part .entry)) 0 (now (part .exit)) r (jumpEdges (now (stmts .entry)) (now (falls .entry)) (now (links .entry)) i) ⌝ }
+{
+    let at = i * 64;
+    let end = at + wide(stmts[i * 12 + 10]);
+    let r = add_targets(&links[at..end], part, 0);
+    if stmts[i * 12] < ONGOTO {
+        return r;
+    }
+    add_node(part, r, falls[i * 3])
+}
+
+// A NEXT goes to the bodies of the FORs that it pops, then it falls.
+fn add_next(stmts: &[u16], falls: &[u16], links: &[u16], i: usize, part: &mut [u16]) -> usize
+    requires { ⌜ (i * 12 + 12 ≤ length (now stmts)) × (i * 3 + 3 ≤ length (now falls)) × PoppedRoom (now falls) (now links) i (getD (now stmts) (i * 12 + 10) 0) (now part) 0 ⌝ }
+    requires { ⌜ RoomToAdd (now part) 0 (nextEdges (now stmts) (now falls) (now links) i) ⌝ }
+    ensures { λ r. ⌜ Grows (now (part .entry)) 0 (now (part .exit)) r (nextEdges (now (stmts .entry)) (now (falls .entry)) (now (links .entry)) i) ⌝ }
+{
+    let count = wide(stmts[i * 12 + 10]);
+    let r = add_popped(falls, links, i, count, part, 0);
+    add_node(part, r, falls[i * 3])
+}
+
+// An UNTIL that closes a frame goes to its body, then it falls; any other adds nothing.
+fn add_until(falls: &[u16], frames: &[u16], i: usize, part: &mut [u16]) -> usize
+    requires { ⌜ (i * 3 + 3 ≤ length (now falls)) × (i * 3 + 3 ≤ length (now frames)) × (getD (now frames) (i * 3) 0 * 3 ≤ length (now falls)) ⌝ }
+    requires { ⌜ RoomToAdd (now part) 0 (untilEdges (now falls) (now frames) i) ⌝ }
+    ensures { λ r. ⌜ Grows (now (part .entry)) 0 (now (part .exit)) r (untilEdges (now (falls .entry)) (now (frames .entry)) i) ⌝ }
+{
+    let met = frames[i * 3];
+    if met == 0 {
+        return 0;
+    }
+    let r = add_link(falls, met, part, 0);
+    add_node(part, r, falls[i * 3])
+}
+
+fn falls_on(word: u16) -> bool
+    ensures { λ r. ⌜ r ≡ fallsWord word ⌝ }
+{
+    if word == EXIT {
+        return false;
+    }
+    if word == ELSE {
+        return false;
+    }
+    word != STOP
+}
+
+// The words that are no jump: an ENDLOOP goes to the body of its frame, most others fall.
+fn add_block(word: u16, falls: &[u16], frames: &[u16], i: usize, part: &mut [u16]) -> usize
+    requires { ⌜ (i * 3 + 3 ≤ length (now falls)) × (i * 3 + 3 ≤ length (now frames)) × (getD (now frames) (i * 3) 0 * 3 ≤ length (now falls)) ⌝ }
+    requires { ⌜ RoomToAdd (now part) 0 (blockEdges word (now falls) (now frames) i) ⌝ }
+    ensures { λ r. ⌜ Grows (now (part .entry)) 0 (now (part .exit)) r (blockEdges word (now (falls .entry)) (now (frames .entry)) i) ⌝ }
+{
+    if word == ENDLOOP {
+        return add_link(falls, frames[i * 3], part, 0);
+    }
+    if word == UNTIL {
+        return add_until(falls, frames, i, part);
+    }
+    if falls_on(word) {
+        return add_node(part, 0, falls[i * 3]);
+    }
+    0
+}
+
+// What the statement of node i adds to its own list.
+fn add_own(
+    stmts: &[u16],
+    entries: &[u16],
+    falls: &[u16],
+    links: &[u16],
+    frames: &[u16],
+    lines: usize,
+    i: usize,
+    part: &mut [u16],
+) -> usize
+    requires { ⌜ OwnRoom (now stmts) (now entries) (now falls) (now links) (now frames) lines i (now part) ⌝ }
+    ensures { λ r. ⌜ Grows (now (part .entry)) 0 (now (part .exit)) r (ownEdges (now (stmts .entry)) (now (entries .entry)) (now (falls .entry)) (now (links .entry)) (now (frames .entry)) lines i) ⌝ }
+{
+    let word = stmts[i * 12];
+    if word < GOTO {
+        let at = i * 3 + 1;
+        let end = at + 2;
+        return add_targets(&falls[at..end], part, 0);
+    }
+    if word == RUN {
+        return add_run(stmts, entries, links, lines, i, part);
+    }
+    if word < FOR {
+        return add_jump(stmts, falls, links, i, part);
+    }
+    if word == NEXT {
+        return add_next(stmts, falls, links, i, part);
+    }
+    if word == ANY {
+        return add_entries(&entries[..lines], part);
+    }
+    add_block(word, falls, frames, i, part)
+}
+
+// The list of node i, each edge once, at the front of the part; answers how long it is. A RETURN's is left empty here.
+pub(crate) fn list_of(
+    stmts: &[u16],
+    args: &[u64],
+    entries: &[u16],
+    falls: &[u16],
+    links: &[u16],
+    frames: &[u16],
+    dispatched: &[u16],
+    lines: usize,
+    d: usize,
+    i: usize,
+    part: &mut [u16],
+) -> usize
+    requires { ⌜ ListReady (now stmts) (now args) (now entries) (now falls) (now links) (now frames) (now dispatched) lines d i (length (now part)) ⌝ }
+    ensures { λ r. ⌜ ListMade (now (stmts .entry)) (now (args .entry)) (now (entries .entry)) (now (falls .entry)) (now (links .entry)) (now (frames .entry)) (now (dispatched .entry)) lines d i (now (part .entry)) (now (part .exit)) r ⌝ }
+{
+    let r = add_own(stmts, entries, falls, links, frames, lines, i, part);
+    let s = add_late(stmts, falls, frames, i, part, r);
+    add_orphan(stmts, args, falls, dispatched, d, i, part, s)
+}

@@ -1,0 +1,53 @@
+// The text into the front parts of the reader's tables, as far as the other tables hold as many lines and statements.
+use reader::listing::Listed;
+use reader::listing::read_listing;
+use reader::tables::ARG_ENTRIES;
+use reader::tables::STMT_ENTRIES;
+use reader::tables::zero16;
+use reader::tables::zero64;
+ghost use mathlib.Core.Path.{_≡_};
+ghost use Prim.Native.Nat.{_*_, _≤_};
+ghost use lib.ListN.{length};
+ghost use Rattle.wiring.specs.Reading.{clearedBehind, FittingRead};
+
+// The entries from `at` on become zero.
+fn clear_behind(t: &mut [u16], at: usize)
+    requires { ⌜ at ≤ length (now t) ⌝ }
+    ensures { λ _. ⌜ now (t .exit) ≡ clearedBehind at (now (t .entry)) ⌝ }
+{
+    zero16(&mut t[at..]);
+}
+
+fn clear_words_behind(t: &mut [u64], at: usize)
+    requires { ⌜ at ≤ length (now t) ⌝ }
+    ensures { λ _. ⌜ now (t .exit) ≡ clearedBehind at (now (t .entry)) ⌝ }
+{
+    zero64(&mut t[at..]);
+}
+
+// What stands behind the front parts becomes zero.
+pub(crate) fn read_fitting(
+    text: &[u8],
+    counts: &mut [u32; 5],
+    lines: &mut [u16],
+    stmts: &mut [u16],
+    args: &mut [u64],
+    line_room: usize,
+    stmt_room: usize,
+) -> Listed
+    requires { ⌜ («line_room» ≤ length (now lines)) × («stmt_room» * 12 ≤ length (now stmts)) × («stmt_room» * 64 ≤ length (now args)) ⌝ }
+    ensures { λ r. ⌜ FittingRead (now (text .entry)) «line_room» «stmt_room» (length (now (lines .entry))) (length (now (stmts .entry))) (length (now (args .entry))) (now (counts .exit)) (now (lines .exit)) (now (stmts .exit)) (now (args .exit)) r ⌝ }
+{
+    let stmt_end = stmt_room * STMT_ENTRIES;
+    let arg_end = stmt_room * ARG_ENTRIES;
+    clear_behind(lines, line_room);
+    clear_behind(stmts, stmt_end);
+    clear_words_behind(args, arg_end);
+    read_listing(
+        text,
+        counts,
+        &mut lines[..line_room],
+        &mut stmts[..stmt_end],
+        &mut args[..arg_end],
+    )
+}

@@ -1,0 +1,103 @@
+// Where each RETURN goes back to, where all lists together are too long to store: regions by closed rows of bits in place of walks.
+use crate::clearing::clear_sets;
+use crate::closure::close_rows;
+use crate::closure::marks_of;
+use crate::fill_rows::fill_rows;
+use crate::regions::join_region;
+use crate::regions::list_calls;
+use crate::regions::mark_called;
+use crate::walk::no_marks;
+use crate::walk::no_work;
+ghost use Prim.Native.Nat.{_<_};
+ghost use lib.ListN.{length};
+ghost use Rattle.wiring.specs.FillRows.{FillReady};
+ghost use Rattle.wiring.specs.Spread.{EntrySpread, EntriesSpread, RegionsSpread, SpreadEntriesReady, SpreadRegionsReady, SpreadTo};
+
+// The entry e, if it is called: its region by its closed row.
+fn join_spread(
+    stmts: &[u16],
+    falls: &[u16],
+    links: &[u16],
+    n: usize,
+    calls: &[u16],
+    called: &[bool; 4096],
+    e: usize,
+    rows: &mut [u64],
+)
+    requires { ⌜ SpreadEntriesReady (now stmts) (now falls) (now links) n (now calls) (now called) (now rows) × (e < n) ⌝ }
+    ensures { λ _. ⌜ EntrySpread (now (stmts .entry)) (now (falls .entry)) (now (links .entry)) n e (now (rows .entry)) (now (rows .exit)) ⌝ }
+{
+    if !called[e] {
+        return;
+    }
+    let marks = marks_of(stmts, rows, n, e);
+    join_region(stmts, falls, links, n, calls, e, &marks, rows);
+}
+
+// All called entries.
+fn spread_entries(
+    stmts: &[u16],
+    falls: &[u16],
+    links: &[u16],
+    n: usize,
+    calls: &[u16],
+    called: &[bool; 4096],
+    rows: &mut [u64],
+)
+    requires { ⌜ SpreadEntriesReady (now stmts) (now falls) (now links) n (now calls) (now called) (now rows) ⌝ }
+    ensures { λ _. ⌜ EntriesSpread (now (stmts .entry)) (now (falls .entry)) (now (links .entry)) n n (now (rows .entry)) (now (rows .exit)) ⌝ }
+{
+    let mut e: usize = 0;
+    while e < n {
+        join_spread(stmts, falls, links, n, calls, called, e, rows);
+        e += 1;
+    }
+}
+
+// The rows of RETURNs are all zero before, the others closed.
+fn spread_regions(stmts: &[u16], falls: &[u16], links: &[u16], n: usize, rows: &mut [u64])
+    requires { ⌜ SpreadRegionsReady (now stmts) (now falls) (now links) n (now rows) ⌝ }
+    ensures { λ _. ⌜ RegionsSpread (now (stmts .entry)) (now (falls .entry)) (now (links .entry)) n (now (rows .entry)) (now (rows .exit)) ⌝ }
+{
+    let mut buffer = no_work();
+    let count = list_calls(stmts, n, &mut buffer);
+    let calls = &buffer[..count];
+    let mut called = no_marks();
+    mark_called(stmts, links, calls, &mut called);
+    spread_entries(stmts, falls, links, n, calls, &called, rows);
+}
+
+// The rows of arguments become rows of bits, closed, and then the RETURNs' rows their sets. What stood in the arguments is lost.
+pub(crate) fn spread_return_edges(
+    stmts: &[u16],
+    args: &mut [u64],
+    entries: &[u16],
+    falls: &[u16],
+    links: &[u16],
+    frames: &[u16],
+    dispatched: &[u16],
+    lines: usize,
+    n: usize,
+    d: usize,
+    buffer: &mut [u16],
+)
+    requires { ⌜ FillReady (now stmts) (now args) (now entries) (now falls) (now links) (now frames) (now dispatched) lines n d (length (now buffer)) ⌝ }
+    ensures { λ _. ⌜ SpreadTo (now (stmts .entry)) (now (args .entry)) (now (entries .entry)) (now (falls .entry)) (now (links .entry)) (now (frames .entry)) (now (dispatched .entry)) lines n d (now (args .exit)) ⌝ }
+{
+    fill_rows(
+        stmts,
+        args,
+        entries,
+        falls,
+        links,
+        frames,
+        dispatched,
+        lines,
+        n,
+        d,
+        buffer,
+    );
+    close_rows(args, n);
+    clear_sets(stmts, args, n);
+    spread_regions(stmts, falls, links, n, args);
+}

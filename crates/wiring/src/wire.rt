@@ -1,0 +1,227 @@
+// The lists of the nodes: counted, and written where they fit.
+use crate::regions::region_return_edges;
+use crate::return_targets::list_return_targets;
+use crate::return_totals::count_returns;
+use crate::skip_lists::MOST_EDGES;
+use crate::skip_lists::store_skip_lists;
+use crate::spread::spread_return_edges;
+use crate::walk::no_work;
+use crate::write_graph::write_graph;
+ghost use mathlib.Core.Path.{_≡_};
+ghost use mathlib.Core.Bool.{_&&_};
+ghost use Prim.Native.Nat.{min};
+ghost use lib.Dec.{leb};
+ghost use lib.ListN.{length};
+ghost use Rattle.wiring.specs.CountGraph.{ReturnsReady, ReturnsFound, CountReady, CountedTo};
+ghost use Rattle.wiring.specs.Wiring.{WireReady, WiredTo};
+
+// How many edges the graph has, and how many return targets.
+struct Counted {
+    edges: usize,
+    targets: usize,
+}
+
+// Whether the graph was written, and how many edges it has.
+pub struct Wiring {
+    pub written: bool,
+    pub edges: usize,
+}
+
+// Room for as many edges as a graph may have and one more for each call, whose continuation need not be among them.
+fn no_scratch() -> [u16; 36864]
+    ensures { λ r. ⌜ length r ≡ 36864 ⌝ }
+{
+    [0u16; 36864]
+}
+
+// Without handlers, the set of each RETURN goes into its row of arguments: by walks over the stored lists, or where these are too long, by
+// rows of bits. All other nodes have `own` edges.
+fn find_returns(
+    handlers: bool,
+    own: usize,
+    stmts: &[u16],
+    args: &mut [u64],
+    entries: &[u16],
+    falls: &[u16],
+    links: &[u16],
+    frames: &[u16],
+    dispatched: &[u16],
+    lines: usize,
+    n: usize,
+    d: usize,
+    lists: &[u16],
+    scratch: &[u16],
+    buffer: &mut [u16],
+)
+    requires { ⌜ ReturnsReady own (now stmts) (now args) (now entries) (now falls) (now links) (now frames) (now dispatched) lines n d (now lists) (now scratch) (length (now buffer)) ⌝ }
+    ensures { λ _. ⌜ ReturnsFound handlers own (now (stmts .entry)) (now (args .entry)) (now (entries .entry)) (now (falls .entry)) (now (links .entry)) (now (frames .entry)) (now (dispatched .entry)) lines n d (now (lists .entry)) (now (scratch .entry)) (now (args .exit)) ⌝ }
+{
+    if handlers {
+        return;
+    }
+    if MOST_EDGES < own {
+        spread_return_edges(
+            stmts,
+            args,
+            entries,
+            falls,
+            links,
+            frames,
+            dispatched,
+            lines,
+            n,
+            d,
+            buffer,
+        );
+        return;
+    }
+    region_return_edges(stmts, falls, links, lists, scratch, n, args);
+}
+
+// The edges of the n nodes, RETURNs too, and the return targets.
+fn count_graph(
+    handlers: bool,
+    stmts: &[u16],
+    args: &mut [u64],
+    entries: &[u16],
+    falls: &[u16],
+    links: &[u16],
+    frames: &[u16],
+    dispatched: &[u16],
+    lines: usize,
+    n: usize,
+    d: usize,
+    lists: &mut [u16],
+    scratch: &mut [u16],
+    returns: &mut [u16],
+    buffer: &mut [u16],
+) -> Counted
+    requires { ⌜ CountReady handlers (now stmts) (now args) (now entries) (now falls) (now links) (now frames) (now dispatched) lines n d (now lists) (now scratch) (now returns) (length (now buffer)) ⌝ }
+    ensures { λ r. ⌜ CountedTo handlers (now (stmts .entry)) (now (args .entry)) (now (entries .entry)) (now (falls .entry)) (now (links .entry)) (now (frames .entry)) (now (dispatched .entry)) lines n d (now (args .exit)) (now (lists .exit)) (now (scratch .exit)) (now (returns .exit)) (r .edges) (r .targets) ⌝ }
+{
+    let own = store_skip_lists(
+        stmts,
+        args,
+        entries,
+        falls,
+        links,
+        frames,
+        dispatched,
+        lines,
+        n,
+        d,
+        lists,
+        scratch,
+        buffer,
+    );
+    let targets = list_return_targets(stmts, falls, n, returns);
+    find_returns(
+        handlers,
+        own,
+        stmts,
+        args,
+        entries,
+        falls,
+        links,
+        frames,
+        dispatched,
+        lines,
+        n,
+        d,
+        lists,
+        scratch,
+        buffer,
+    );
+    let back = count_returns(handlers, stmts, args, n, targets);
+    Counted {
+        edges: own + back,
+        targets,
+    }
+}
+
+// Whether so many edges are few, and both edge tables hold them.
+fn edges_fit(edges: usize, succ: usize, pred: usize) -> bool
+    ensures { λ r. ⌜ r ≡ (leb edges (min succ pred) && leb edges 32768) ⌝ }
+{
+    if succ < edges {
+        return false;
+    }
+    if pred < edges {
+        return false;
+    }
+    edges <= MOST_EDGES
+}
+
+// The lists of the n nodes; d of their FORs are dispatched and have a body.
+pub(crate) fn wire_graph(
+    handlers: bool,
+    count: usize,
+    n: usize,
+    d: usize,
+    counts: &mut [u32; 5],
+    stmts: &[u16],
+    args: &mut [u64],
+    entries: &[u16],
+    falls: &[u16],
+    links: &[u16],
+    frames: &[u16],
+    dispatched: &[u16],
+    lists: &mut [u16],
+    returns: &mut [u16],
+    succ: &mut [u16],
+    pred: &mut [u16],
+) -> Wiring
+    requires { ⌜ WireReady handlers count n d (now counts) (now stmts) (now args) (now entries) (now falls) (now links) (now frames) (now dispatched) (now lists) (now returns) (now succ) (now pred) ⌝ }
+    ensures { λ r. ⌜ WiredTo handlers count n d (now (stmts .entry)) (now (args .entry)) (now (entries .entry)) (now (falls .entry)) (now (links .entry)) (now (frames .entry)) (now (dispatched .entry)) (now (counts .entry)) (now (succ .entry)) (now (pred .entry)) (now (counts .exit)) (now (args .exit)) (now (lists .exit)) (now (returns .exit)) (now (succ .exit)) (now (pred .exit)) (r .written) (r .edges) ⌝ }
+{
+    let mut scratch = no_scratch();
+    let mut buffer = no_work();
+    let c = count_graph(
+        handlers,
+        stmts,
+        args,
+        entries,
+        falls,
+        links,
+        frames,
+        dispatched,
+        count,
+        n,
+        d,
+        lists,
+        &mut scratch,
+        returns,
+        &mut buffer,
+    );
+    if edges_fit(c.edges, succ.len(), pred.len()) {
+        write_graph(
+            handlers,
+            stmts,
+            args,
+            entries,
+            falls,
+            links,
+            frames,
+            dispatched,
+            count,
+            n,
+            d,
+            counts,
+            lists,
+            &scratch,
+            returns,
+            c.targets,
+            succ,
+            pred,
+            &mut buffer,
+        );
+        return Wiring {
+            written: true,
+            edges: c.edges,
+        };
+    }
+    Wiring {
+        written: false,
+        edges: c.edges,
+    }
+}

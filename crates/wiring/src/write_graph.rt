@@ -1,0 +1,113 @@
+// The last stage of a build: the graph goes into its tables.
+use crate::clearing::clear_sets;
+use crate::final_lists::write_lists;
+use crate::predecessors::write_predecessors;
+ghost use mathlib.Core.Path.{_≡_};
+ghost use Prim.Native.Nat.{_<_};
+ghost use lib.ListN.{length, set};
+ghost use Rattle.wiring.specs.WriteGraph.{EdgesReady, EdgesWritten, WriteReady, WrittenGraph};
+
+// The successor lists, then the predecessor lists; how many edges there are.
+fn write_edges(
+    handlers: bool,
+    stmts: &[u16],
+    args: &[u64],
+    entries: &[u16],
+    falls: &[u16],
+    links: &[u16],
+    frames: &[u16],
+    dispatched: &[u16],
+    lines: usize,
+    n: usize,
+    d: usize,
+    lists: &mut [u16],
+    scratch: &[u16],
+    returns: &[u16],
+    targets: usize,
+    succ: &mut [u16],
+    pred: &mut [u16],
+    buffer: &mut [u16],
+) -> usize
+    requires { ⌜ EdgesReady handlers (now stmts) (now args) (now entries) (now falls) (now links) (now frames) (now dispatched) lines n d (now lists) (now scratch) (now returns) targets (now succ) (now pred) (length (now buffer)) ⌝ }
+    ensures { λ r. ⌜ EdgesWritten handlers (now (stmts .entry)) (now (args .entry)) (now (entries .entry)) (now (falls .entry)) (now (links .entry)) (now (frames .entry)) (now (dispatched .entry)) lines n d (now (lists .entry)) (now (lists .exit)) (now (scratch .entry)) (now (returns .entry)) targets (now (succ .entry)) (now (succ .exit)) (now (pred .entry)) (now (pred .exit)) r ⌝ }
+{
+    let total = write_lists(
+        handlers,
+        stmts,
+        args,
+        entries,
+        falls,
+        links,
+        frames,
+        dispatched,
+        lines,
+        n,
+        d,
+        lists,
+        scratch,
+        returns,
+        targets,
+        succ,
+        buffer,
+    );
+    write_predecessors(succ, total, lists, n, pred);
+    total
+}
+
+// The counts that are not the reader's.
+fn put_edge_counts(counts: &mut [u32; 5], edges: usize, targets: usize)
+    requires { ⌜ (edges < 65536) × (targets < 65536) ⌝ }
+    ensures { λ _. ⌜ now (counts .exit) ≡ set (set (now (counts .entry)) 3 edges) 4 targets ⌝ }
+{
+    counts[3] = edges as u32;
+    counts[4] = targets as u32;
+}
+
+// The graph of n nodes goes into its tables: lists and successors, predecessors, counts; the RETURNs' sets are cleared.
+pub(crate) fn write_graph(
+    handlers: bool,
+    stmts: &[u16],
+    args: &mut [u64],
+    entries: &[u16],
+    falls: &[u16],
+    links: &[u16],
+    frames: &[u16],
+    dispatched: &[u16],
+    lines: usize,
+    n: usize,
+    d: usize,
+    counts: &mut [u32; 5],
+    lists: &mut [u16],
+    scratch: &[u16],
+    returns: &[u16],
+    targets: usize,
+    succ: &mut [u16],
+    pred: &mut [u16],
+    buffer: &mut [u16],
+)
+    requires { ⌜ WriteReady handlers (now stmts) (now args) (now entries) (now falls) (now links) (now frames) (now dispatched) lines n d (now counts) (now lists) (now scratch) (now returns) targets (now succ) (now pred) (length (now buffer)) ⌝ }
+    ensures { λ _. ⌜ WrittenGraph handlers (now (stmts .entry)) (now (args .entry)) (now (entries .entry)) (now (falls .entry)) (now (links .entry)) (now (frames .entry)) (now (dispatched .entry)) lines n d (now (counts .entry)) (now (lists .entry)) (now (scratch .entry)) (now (returns .entry)) targets (now (succ .entry)) (now (pred .entry)) (now (counts .exit)) (now (args .exit)) (now (lists .exit)) (now (succ .exit)) (now (pred .exit)) ⌝ }
+{
+    let total = write_edges(
+        handlers,
+        stmts,
+        args,
+        entries,
+        falls,
+        links,
+        frames,
+        dispatched,
+        lines,
+        n,
+        d,
+        lists,
+        scratch,
+        returns,
+        targets,
+        succ,
+        pred,
+        buffer,
+    );
+    clear_sets(stmts, args, n);
+    put_edge_counts(counts, total, targets);
+}
