@@ -1,3 +1,17 @@
 pub mod Questions
 pub mod Opened
+pub mod FrameAt
 pub mod FrameLaws
+pub mod ListsAt
+pub mod ListsAtLaws
+pub mod EntryAt
+pub mod EntryAtLaws
+pub mod TableAnswers
+pub mod StatementAt
+pub mod StatementLaws
+pub mod PathNodes
+pub mod PathAnswers
+pub mod StatementAnswers
+pub mod FrameSlice
+pub mod FrameChecks
+pub mod FrameBuilt

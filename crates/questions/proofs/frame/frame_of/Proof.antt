@@ -1,0 +1,55 @@
+-- `frame_of`: the refusals in their order, then the list. Assumes nothing.
+use mathlib.Core.Path.{sym, _∙_}
+use lib.ListN.{length}
+use Rattle.questions.specs.Questions.{ifRoom}
+use Rattle.questions.specs.FrameAt.{frameRead, frameIn}
+use Rattle.questions.specs.FrameSlice.{told-refused}
+use Rattle.questions.specs.FrameChecks.{in-24-header, in-24-node, in-25, in-list, inside, answer-as}
+use borrow.Author.Needs.{needs}
+use Rattle.questions.proofs.frame.frame_of.Statement.{statement}
+use Rattle.questions.proofs.frame.frame_of.Tie as tie
+
+returns : tie.Need-returns
+returns c =
+    let a = c .before .before .before .before .before .before .before .args in
+    told-refused (frameIn (a .n) (a .stmts .now) (a .args .now) (a .falls .now) (a .lists .now) (a .succ .now) (a .header) (a .node) (a .key) (a .flag) (length (a .out .now))) (a .out .now) 24 (a .header) (in-24-header (a .n) (a .stmts .now) (a .args .now) (a .falls .now) (a .lists .now) (a .succ .now) (a .header) (a .node) (a .key) (a .flag) (length (a .out .now)) (c .if1 .taken))
+
+returns-2 : tie.Need-returns-2
+returns-2 c =
+    let a = c .before .before .before .before .before .before .before .before .args in
+    told-refused (frameIn (a .n) (a .stmts .now) (a .args .now) (a .falls .now) (a .lists .now) (a .succ .now) (a .header) (a .node) (a .key) (a .flag) (length (a .out .now))) (a .out .now) 24 (a .node) (in-24-node (a .n) (a .stmts .now) (a .args .now) (a .falls .now) (a .lists .now) (a .succ .now) (a .header) (a .node) (a .key) (a .flag) (length (a .out .now)) (c .before .if1 .left) (c .if2 .taken))
+
+frame-outside-requires : tie.Need-frame-outside-requires
+frame-outside-requires c κs = search needs
+
+returns-3 : tie.Need-returns-3
+returns-3 c =
+    let a = c .before .before .before .before .before .before .before .before .before .before .args in
+    told-refused (frameIn (a .n) (a .stmts .now) (a .args .now) (a .falls .now) (a .lists .now) (a .succ .now) (a .header) (a .node) (a .key) (a .flag) (length (a .out .now))) (a .out .now) 25 0 (in-25 (a .n) (a .stmts .now) (a .args .now) (a .falls .now) (a .lists .now) (a .succ .now) (a .header) (a .node) (a .key) (a .flag) (length (a .out .now)) (c .before .before .before .if1 .left) (c .before .before .if2 .left) (sym (c .before .frame-outside .ensures) ∙ c .if3 .taken))
+
+write-frame-requires : tie.Need-write-frame-requires
+write-frame-requires c κs =
+    let a = c .before .before .before .before .before .before .before .before .before .before .before .args in
+    inside (a .n) (a .stmts .now) (a .args .now) (a .falls .now) (a .lists .now) (a .succ .now) (a .header) (a .node) (c .before .before .before .before .if1 .left) (c .before .before .before .if2 .left) (sym (c .before .before .frame-outside .ensures) ∙ c .before .if3 .left)
+
+same-length : tie.Need-same-length
+same-length c = search needs
+
+returns-4 : tie.Need-returns-4
+returns-4 c =
+    let a = c .before .before .before .before .before .before .before .before .before .before .before .before .before .before .args in
+    let z = c .before .before .write-frame in
+    answer-as (ifRoom (length (a .out .now)) (frameRead (a .stmts .now) (a .args .now) (a .falls .now) (a .lists .now) (a .succ .now) (a .header) (a .node) (a .key) (a .flag))) (frameIn (a .n) (a .stmts .now) (a .args .now) (a .falls .now) (a .lists .now) (a .succ .now) (a .header) (a .node) (a .key) (a .flag) (length (a .out .now))) (a .out .now) (z .last .1 .1 .1 .1 .1 .1 .1 .1 .1 .0) (z .result)
+    (in-list (a .n) (a .stmts .now) (a .args .now) (a .falls .now) (a .lists .now) (a .succ .now) (a .header) (a .node) (a .key) (a .flag) (length (a .out .now)) (c .before .before .before .before .before .before .before .if1 .left) (c .before .before .before .before .before .before .if2 .left) (sym (c .before .before .before .before .before .frame-outside .ensures) ∙ c .before .before .before .before .if3 .left)) (z .ensures)
+
+pub frame-of-spec : {M : Type 1} → statement M
+frame-of-spec =
+    tie.close
+    (tie.spec
+    returns
+    returns-2
+    frame-outside-requires
+    returns-3
+    write-frame-requires
+    same-length
+    returns-4)

@@ -1,0 +1,248 @@
+-- The frame question on the tables that a build wrote for a listing: the answer is that of the listing's graph. Assumes nothing.
+use Prim.Native.Nat.{ℕ, _+_, _*_, _≤_, _<_}
+use mathlib.Core.Path.{_≡_, refl, sym, ap, subst, _∙_}
+use mathlib.Core.List.{List, []}
+use mathlib.Core.Bool.{Bool, true, false, _&&_}
+use mathlib.Core.Option.{Option, none, some}
+use native.Mathlib.Omega.{arith}
+use borrow.Author.Tests.{le-ltb, ltb-true}
+use lib.Dec.{eqb, ltb}
+use lib.ListN.{length, getD, getElem?}
+use Rattle.reader.specs.Bytes.{same, bytes, pick}
+use Rattle.reader.specs.Listing.{Name, Tier, Simple, goto, gosub, return, run, runto, ongoto, ongosub, for, next, repeat, loop, until, endloop, exit, exitif, doif, else, done, clr, stop, any, if, ifelse, rcomp, Listing, total, count}
+use Rattle.reader.specs.ListingText.{simpleWord, condWord, SimpleOk, InForm}
+use Rattle.reader.specs.Rows.{isName, openingWords}
+use Rattle.reader.specs.Records.{nameKey, argsOf, lineRecs, argRow, argRows, padded}
+use Rattle.reader.specs.ReadBack.{lines-wide}
+use Rattle.reader.specs.Scan.{same-sym}
+use Rattle.reader.specs.Tables.{padded-length, joined-length}
+use Rattle.reader.specs.WordTable.{words, first, wordIndex}
+use Rattle.graph.specs.Adding.{nodeNumber}
+use Rattle.graph.specs.Build.{graph}
+use Rattle.graph.specs.Graph.{Role, returnTargets, stmtRole, simpleRole, roleOf, role, fallOf, fallFrom, wire, continuation, successors}
+use Rattle.graph.specs.GraphLaws.{nodeCount, fall-below}
+use Rattle.graph.specs.NodeLaws.{Below}
+use Rattle.graph.specs.NodeRecords.{stmtWord, stmtNumber}
+use Rattle.graph.specs.Nodes.{NodeStmt, simple, cond, Node, nodes}
+use Rattle.graph.specs.Targets.{onFor, onNext, onSimple}
+use Rattle.wiring.specs.DemandLaws.{graph-held, nodes-total, held-succ, held-continuation}
+use Rattle.wiring.specs.Demands.{Tables, Written, LongEnough}
+use Rattle.wiring.specs.EdgeTable.{succStart, succCount}
+use Rattle.wiring.specs.GraphHeld.{GraphHeld}
+use Rattle.wiring.specs.GraphTables.{Sizes, answerOf, tableOf, countTable, argTable}
+use Rattle.wiring.specs.HoldsListing.{HoldsListing, holds-listed}
+use Rattle.wiring.specs.LineEntries.{recs-total}
+use Rattle.wiring.specs.ListedNodes.{SimpleListed, StmtListed, Listed, key-same}
+use Rattle.wiring.specs.OpenerLaws.{some-at}
+use Rattle.wiring.specs.Prepared.{callWord, wordOf, fallEntry}
+use Rattle.wiring.specs.PrintLaws.{nodes-readable}
+use Rattle.wiring.specs.PrintedTables.{succPart}
+use Rattle.wiring.specs.ReturnTargets.{continuationEntry}
+use Rattle.wiring.specs.TableReads.{fall-of}
+use Rattle.wiring.specs.declared.build.Built.the-variants as built
+use Rattle.questions.specs.Questions.{refused, kept, frameSimple, frameBy, frameOf, frameList, ifNode, ifRoom, askFrame}
+use Rattle.questions.specs.FrameAt.{forgetsWord, endsFrame, keepsShared, frameRead, shortTables, partOutside, fallOutside, frameOutside, frameIn, frameAt, FrameTold}
+use Rattle.questions.specs.FrameChecks.{answer-as}
+use Rattle.questions.specs.declared.frame.Framed.{Framed}
+
+-- ---- by the number of the opening word
+
+-- a: the first argument in the record; ks: where the record says that it falls
+abbrev byWord : (w a k : ℕ) → Bool → (ss hs ks : List ℕ) → List ℕ
+byWord w a k flag ss hs ks = pick (endsFrame w a k) [] (pick (keepsShared w flag) (kept hs ss) (pick (callWord w) ks ss))
+
+-- a FOR has the key of its name
+abbrev KeyTold : ℕ → Name → NodeStmt → Type 0
+KeyTold a v s = (u : Name) (t : Tier) → s ≡ simple (for u t) → eqb a (nameKey v) ≡ same u v
+
+for-pick : (x y : Bool) (ss : List ℕ) → x ≡ y → pick x [] ss ≡ pick y [] ss
+for-pick x y ss e = ap (λ (b : Bool). pick b [] ss) e
+
+by-word : (s : NodeStmt) (a : ℕ) (v : Name) (flag : Bool) (ss hs ks c : List ℕ) → KeyTold a v s → pick (callWord (stmtNumber s)) ks [] ≡ c
+    → byWord (stmtNumber s) a (nameKey v) flag ss hs ks ≡ frameBy (stmtRole s) v flag ss hs c s
+unfolding endsFrame forgetsWord keepsShared callWord stmtNumber stmtWord simpleWord condWord wordIndex words first same bytes openingWords stmtRole simpleRole frameBy frameSimple onSimple onFor onNext
+by-word (simple (for u t)) a v flag ss hs ks c f e = for-pick (eqb a (nameKey v)) (same u v) ss (f u t refl)
+by-word (simple (next m l)) a v flag ss hs ks c f e = refl
+by-word (simple (gosub t)) a v flag ss hs ks c f e = e
+by-word (simple (ongosub t)) a v flag ss hs ks c f e = e
+by-word (simple return) a v flag ss hs ks c f e = refl
+by-word (simple run) a v flag ss hs ks c f e = refl
+by-word (simple (runto t)) a v flag ss hs ks c f e = refl
+by-word (simple clr) a v flag ss hs ks c f e = refl
+by-word (simple (goto t)) a v flag ss hs ks c f e = refl
+by-word (simple (ongoto ts)) a v flag ss hs ks c f e = refl
+by-word (simple repeat) a v flag ss hs ks c f e = refl
+by-word (simple loop) a v flag ss hs ks c f e = refl
+by-word (simple until) a v flag ss hs ks c f e = refl
+by-word (simple endloop) a v flag ss hs ks c f e = refl
+by-word (simple exit) a v flag ss hs ks c f e = refl
+by-word (simple exitif) a v flag ss hs ks c f e = refl
+by-word (simple doif) a v flag ss hs ks c f e = refl
+by-word (simple else) a v flag ss hs ks c f e = refl
+by-word (simple done) a v flag ss hs ks c f e = refl
+by-word (simple stop) a v flag ss hs ks c f e = refl
+by-word (simple any) a v flag ss hs ks c f e = refl
+by-word (simple Simple.plain) a v flag ss hs ks c f e = refl
+by-word (cond if x y) a v flag ss hs ks c f e = refl
+by-word (cond ifelse x y) a v flag ss hs ks c f e = refl
+by-word (cond rcomp x y) a v flag ss hs ks c f e = refl
+
+key-told : (ts ks : List ℕ) (i : ℕ) (v : Name) (s : NodeStmt) → isName v ≡ true → StmtListed ts ks i s → KeyTold (getD ks (i * 64) 0) v s
+unfolding argsOf SimpleOk
+key-told ts ks i v s ok l u t q =
+    let m : SimpleListed ts ks i (for u t) = subst (StmtListed ts ks i) q l in
+    let z : i * 64 ≡ i * 64 + 0 = omega arith in
+    ap (λ (j : ℕ). eqb (getD ks j 0) (nameKey v)) z ∙ ap (λ (k : ℕ). eqb k (nameKey v)) (m .args 0 (omega arith)) ∙ key-same v u ok (m .names) ∙ same-sym v u
+
+-- ---- what the tables say
+
+-- of the n nodes of the listing L
+pub record FrameTables (L : Listing) (n : ℕ) (stmts args falls lists succ : List ℕ) : Type 0 where
+  pub nodes-are : n ≡ nodeCount L
+  pub in-stmts : n * 12 ≤ length stmts
+  pub in-args : n * 64 ≤ length args
+  pub in-falls : n * 3 ≤ length falls
+  pub in-lists : n * 4 ≤ length lists
+  pub listed : Listed stmts args (wire L .nodes)
+  pub lists-are : (i : ℕ) → i < n → succPart lists succ i ≡ successors L i
+  pub lists-in : (i : ℕ) → i < n → succStart lists i + succCount lists i ≤ length succ
+  pub continues : (i : ℕ) (d : Node) → getElem? (wire L .nodes) i ≡ some d → continuationEntry stmts falls i ≡ continuation (wire L) i
+  pub falls-in : (i : ℕ) → i < n → getD falls (i * 3) 0 ≤ n
+
+and-false : (b : Bool) → (b && false) ≡ false
+and-false true = refl
+and-false false = refl
+
+module _ {L : Listing} {n : ℕ} {stmts args falls lists succ : List ℕ} (g : FrameTables L n stmts args falls lists succ) where
+  part-in : (i : ℕ) → i < n → partOutside lists succ i ≡ false
+  unfolding partOutside
+  part-in i h = le-ltb (length succ) (succStart lists i + succCount lists i) (g .lists-in i h)
+
+  none-short : shortTables n (length stmts) (length args) (length falls) (length lists) ≡ false
+  unfolding shortTables
+  none-short = rw (le-ltb (length stmts) (n * 12) (g .in-stmts), le-ltb (length args) (n * 64) (g .in-args), le-ltb (length falls) (n * 3) (g .in-falls)) (le-ltb (length lists) (n * 4) (g .in-lists))
+
+  fall-in : (i : ℕ) → i < n → fallOutside n stmts falls i ≡ false
+  unfolding fallOutside
+  fall-in i h = rw (le-ltb n (getD falls (i * 3) 0) (g .falls-in i h)) (and-false (callWord (wordOf stmts i)))
+
+  none-outside : (h i : ℕ) → h < n → i < n → frameOutside n stmts args falls lists succ h i ≡ false
+  unfolding frameOutside
+  none-outside h i a b = rw (none-short, part-in h a, part-in i b) (fall-in i b)
+
+  module _ (h i : ℕ) (v : Name) (flag : Bool) (ok : isName v ≡ true) (a : h < n) (b : i < n) where
+    node-list : (d : Node) → getElem? (wire L .nodes) i ≡ some d → frameBy (stmtRole (d .stmt)) v flag (successors L i) (successors L h) (continuation (wire L) i) (d .stmt) ≡ frameList L h i v flag
+    unfolding frameList frameOf wire role roleOf
+    node-list d e =
+        let r : role (wire L) i ≡ stmtRole (d .stmt) = ap roleOf e in
+        ap (λ (x : Role). frameBy x v flag (successors L i) (successors L h) (continuation (wire L) i) (d .stmt)) (sym r) ∙ ap (frameOf L h i v flag) (sym e)
+
+    node-read : (d : Node) → getElem? (wire L .nodes) i ≡ some d → frameRead stmts args falls lists succ h i (nameKey v) flag ≡ frameList L h i v flag
+    unfolding frameRead wordOf continuationEntry
+    node-read d e =
+        let l = g .listed i d e in
+        let c : pick (callWord (stmtNumber (d .stmt))) (fallEntry falls i) [] ≡ continuation (wire L) i = ap (λ (w : ℕ). pick (callWord w) (fallEntry falls i) []) (sym (l .word)) ∙ g .continues i d e in
+        rw (l .word, g .lists-are h a, g .lists-are i b)
+        (by-word (d .stmt) (getD args (i * 64) 0) v flag (successors L i) (successors L h) (fallEntry falls i) (continuation (wire L) i) (key-told stmts args i v (d .stmt) ok (l .stmt)) c
+        ∙ node-list d e)
+
+    read-is : frameRead stmts args falls lists succ h i (nameKey v) flag ≡ frameList L h i v flag
+    read-is = let p = some-at (wire L .nodes) i (omega (arith, g .nodes-are)) in node-read (p .0) (p .1)
+
+  -- the answer read from the tables is that of the listing's graph
+  pub frame-is : (h i : ℕ) (v : Name) (flag : Bool) (room : ℕ) → frameAt n stmts args falls lists succ h i v flag room ≡ askFrame L h i v flag room
+  unfolding frameAt frameIn askFrame ifNode wire
+  frame-is h i v flag room = go (isName v) (ltb h n) (ltb i n) refl refl refl
+    where
+      go : (x y z : Bool) → isName v ≡ x → ltb h n ≡ y → ltb i n ≡ z
+          → pick x (pick y (pick z (pick (frameOutside n stmts args falls lists succ h i) (refused 25 0) (ifRoom room (frameRead stmts args falls lists succ h i (nameKey v) flag))) (refused 24 i)) (refused 24 h)) (refused 3 0)
+          ≡ pick x (pick (ltb h (length (nodes (L .lines)))) (pick (ltb i (length (nodes (L .lines)))) (ifRoom room (frameList L h i v flag)) (refused 24 i)) (refused 24 h)) (refused 3 0)
+      go false y z e f k = refl
+      go true false z e f k = rw (sym (g .nodes-are), f) refl
+      go true true false e f k = rw (sym (g .nodes-are), f, k) refl
+      go true true true e f k =
+          let a : h < n = ltb-true h n f in
+          let b : i < n = ltb-true i n k in
+          rw (sym (g .nodes-are), f, k, none-outside h i a b) (ap (ifRoom room) (read-is h i v flag e a b))
+
+-- ---- the tables that a build wrote
+
+below-number : (n : ℕ) (e : Option ℕ) → Below n e → nodeNumber e ≤ n
+below-number n none h = omega arith
+below-number n (some a) h = omega (arith, h)
+
+module _ (L : Listing) (s : Sizes) (T : Tables) (ok : InForm L) (f : LongEnough s L) (w : Written L s T) where
+  held : GraphHeld L (T .lines) (T .stmts) (T .entries) (T .falls) (T .lists) (T .returns) (T .succ) (T .pred) (count (L .lines)) (total (L .lines)) (length (returnTargets (wire L)))
+  unfolding answerOf tableOf
+  held =
+      graph-held L s _ _ _ _ _ _ _ _ _ _ _ _ _ built.Graph ok (f .lines) (f .nodes) (f .edges)
+      (record {
+        answer = refl;
+        counts = w .counts;
+        lines = w .lines;
+        stmts = w .stmts;
+        args = w .args;
+        entries = w .entries;
+        falls = w .falls;
+        links = w .links;
+        frames = w .frames;
+        dispatched = w .dispatched;
+        lists = w .lists;
+        returns = w .returns;
+        succ = w .succ;
+        pred = w .pred;
+      })
+
+  args-length : length (T .args) ≡ s .args
+  unfolding argTable
+  args-length =
+      ap length (w .args) ∙ padded-length (s .args) (argRows (lineRecs (L .lines))) (omega (arith, joined-length argRow 64 (lines-wide (L .lines) (ok .lines)), recs-total (L .lines), f .nodes .in-args))
+
+  holds : HoldsListing L (T .lines) (T .stmts) (T .args) (count (L .lines)) (total (L .lines))
+  unfolding argTable
+  holds =
+      record {
+        in-form = ok;
+        count-is = refl;
+        nodes-are = refl;
+        lines-are = held .lines-are;
+        stmts-are = held .stmts-are;
+        args-are = w .args ∙ ap (λ (m : ℕ). padded m (argRows (lineRecs (L .lines)))) (sym args-length);
+        lines-fit = held .lines-fit;
+        stmts-fit = held .stmts-fit;
+        args-fit = omega (arith, args-length, f .nodes .in-args);
+      }
+
+  fall-in-nodes : (i : ℕ) → i < total (L .lines) → getD (T .falls) (i * 3) 0 ≤ total (L .lines)
+  unfolding fallFrom fallOf
+  fall-in-nodes i h =
+      let p = some-at (wire L .nodes) i (omega (arith, nodes-total L)) in
+      let q : Below (nodeCount L) ((p .0) .fall) = subst (λ (o : Option Node). Below (nodeCount L) (fallOf o)) (p .1) (fall-below L i) in
+      omega (arith, fall-of (wire L .entries) (wire L .nodes) (length (T .falls)) (T .falls) (held .falls-are) i (p .0) (p .1), below-number (nodeCount L) ((p .0) .fall) q, nodes-total L)
+
+  frame-tables : FrameTables L (total (L .lines)) (T .stmts) (T .args) (T .falls) (T .lists) (T .succ)
+  frame-tables =
+      record {
+        nodes-are = sym (nodes-total L);
+        in-stmts = held .stmts-fit;
+        in-args = holds .args-fit;
+        in-falls = held .falls-fit;
+        in-lists = held .lists-fit;
+        listed = holds-listed holds;
+        lists-are = λ i h. held-succ held i (omega (arith, nodes-total L));
+        lists-in = nodes-readable held .succ-in;
+        continues = held-continuation held;
+        falls-in = fall-in-nodes;
+      }
+
+  -- `ask_frame` on these tables
+  pub frame-built : (h i : ℕ) (v : Name) (flag : Bool) (room : ℕ)
+      → frameAt (getD (T .counts) 1 0) (T .stmts) (T .args) (T .falls) (T .lists) (T .succ) h i v flag room ≡ askFrame L h i v flag room
+  unfolding countTable padded
+  frame-built h i v flag room =
+      ap (λ (t : List ℕ). frameAt (getD t 1 0) (T .stmts) (T .args) (T .falls) (T .lists) (T .succ) h i v flag room) (w .counts) ∙ frame-is frame-tables h i v flag room
+
+  -- so what `ask_frame` promises is the answer of the listing's graph
+  pub frame-told : (h i : ℕ) (v : Name) (flag : Bool) (out out′ : List ℕ) (r : Framed)
+      → FrameTold (frameAt (getD (T .counts) 1 0) (T .stmts) (T .args) (T .falls) (T .lists) (T .succ) h i v flag (length out)) out out′ r → FrameTold (askFrame L h i v flag (length out)) out out′ r
+  frame-told h i v flag out out′ r g = answer-as _ _ out out′ r (frame-built h i v flag (length out)) g
