@@ -25,7 +25,7 @@ or-right : (x y : Bool) → (x || y) ≡ false → y ≡ false
 or-right false y e = e
 or-right true y e = absurd (let z : _≡_ {A = ℕ} 0 1 = cc in omega arith)
 
-or-none : (x y : Bool) → x ≡ false → y ≡ false → (x || y) ≡ false
+pub or-none : (x y : Bool) → x ≡ false → y ≡ false → (x || y) ≡ false
 or-none false y e f = f
 or-none true y e f = e
 

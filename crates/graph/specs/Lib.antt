@@ -18,6 +18,8 @@ pub mod Members
 pub mod Distinct
 pub mod NodeLaws
 pub mod NodeRecords
+pub mod Questions
+pub mod QuestionsOpened
 pub mod TargetLaws
 pub mod EdgeBounds
 pub mod GraphLaws

@@ -13,7 +13,7 @@ hit : (x y : Bool) → T x → (x || y) ≡ true
 hit true y t = refl
 hit false y t = absurd t
 
-later : (x y : Bool) → y ≡ true → (x || y) ≡ true
+pub later : (x y : Bool) → y ≡ true → (x || y) ≡ true
 later true y e = refl
 later false y e = e
 

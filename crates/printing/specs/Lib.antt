@@ -1,1 +1,2 @@
 pub mod ListGraph
+pub mod Limits

@@ -27,7 +27,7 @@ pub record GraphListed (text : List ℕ) (s : Sizes) (c l t a e f k m d i r u p 
 
 -- ---- proofs
 
-graph-built : (text : List ℕ) (s : Sizes) (L : Listing) → ListingOf text L → LongEnough s L → build (capacity s) text ≡ graph L
+pub graph-built : (text : List ℕ) (s : Sizes) (L : Listing) → ListingOf text L → LongEnough s L → build (capacity s) text ≡ graph L
 unfolding build builtOf capacity
 graph-built text s L h g =
     ap (builtOf (capacity s)) (ap read (h .text-is) ∙ accepted L (h .in-form))

@@ -1,6 +1,6 @@
 // A text's graph, printed.
 use crate::print::print_graph;
-use crate::print::print_refusal;
+use crate::print::put_refusal;
 use wiring::build::Built;
 use wiring::build::build;
 ghost use Rattle.wiring.specs.GraphTables.{sizesOf};
@@ -78,7 +78,7 @@ pub fn list_graph(
         pred,
     );
     match built {
-        Built::Refused { number, place } => print_refusal(number as usize, place, out),
+        Built::Refused { number, place } => put_refusal(out, 0, number as usize, place),
         Built::Graph => print_counted(
             lines,
             stmts,

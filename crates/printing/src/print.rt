@@ -4,6 +4,7 @@ use crate::print_numbers::put_bytes;
 use crate::print_numbers::put_pair;
 use crate::print_numbers::put_spaced;
 use reader::tables::STMT_ENTRIES;
+use wiring::calls::is_call;
 use wiring::widths::wide;
 ghost use Prim.Native.Nat.{_+_, _*_, _<_, _≤_};
 ghost use lib.ListN.{length, take};
@@ -12,11 +13,6 @@ ghost use Rattle.graph.specs.Print.{printedRefusal};
 ghost use Rattle.wiring.specs.Printing.{Puts};
 ghost use Rattle.wiring.specs.GraphHeld.{SomeGraph, GraphPrinted};
 ghost use Rattle.wiring.specs.PrintedTables.{pairText, someText, entryText, backText, returnsText};
-
-// The opening words of the calls.
-const GOSUB: u16 = 8;
-
-const ON_GOSUB: u16 = 12;
 
 // A row of a word and two numbers.
 fn put_pair_row(out: &mut [u8], at: usize, word: &[u8], a: usize, b: usize) -> usize
@@ -63,11 +59,7 @@ fn put_back(out: &mut [u8], at: usize, stmts: &[u16], falls: &[u16], i: usize) -
     requires { ⌜ (i * 12 + 12 ≤ length (now stmts)) × (i * 3 + 3 ≤ length (now falls)) ⌝ }
     ensures { λ r. ⌜ Puts (now (out .entry)) at (now (out .exit)) r (backText (now (stmts .entry)) (now (falls .entry)) i) ⌝ }
 {
-    let word = stmts[i * STMT_ENTRIES];
-    if word == GOSUB {
-        return put_some(out, at, b"(back", i, falls[i * 3]);
-    }
-    if word == ON_GOSUB {
+    if is_call(stmts[i * STMT_ENTRIES]) {
         return put_some(out, at, b"(back", i, falls[i * 3]);
     }
     at
@@ -125,8 +117,8 @@ pub(crate) fn print_graph(
 }
 
 // "A refusal prints only" its number and place.
-pub(crate) fn print_refusal(number: usize, place: usize, out: &mut [u8]) -> usize
-    ensures { λ r. ⌜ Puts (now (out .entry)) 0 (now (out .exit)) r (printedRefusal number place) ⌝ }
+pub fn put_refusal(out: &mut [u8], at: usize, number: usize, place: usize) -> usize
+    ensures { λ r. ⌜ Puts (now (out .entry)) at (now (out .exit)) r (printedRefusal number place) ⌝ }
 {
-    put_pair_row(out, 0, b"(refused", number, place)
+    put_pair_row(out, at, b"(refused", number, place)
 }

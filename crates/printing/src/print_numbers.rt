@@ -7,7 +7,7 @@ ghost use Rattle.reader.specs.Bytes.{decimal};
 ghost use Rattle.graph.specs.Print.{spaced};
 ghost use Rattle.wiring.specs.Printing.{Puts};
 
-pub(crate) fn put_byte(out: &mut [u8], at: usize, b: u8) -> usize
+pub fn put_byte(out: &mut [u8], at: usize, b: u8) -> usize
     ensures { λ r. ⌜ Puts (now (out .entry)) at (now (out .exit)) r (b ∷ []) ⌝ }
 {
     if at < out.len() {
@@ -17,7 +17,7 @@ pub(crate) fn put_byte(out: &mut [u8], at: usize, b: u8) -> usize
     at
 }
 
-pub(crate) fn put_bytes(out: &mut [u8], at: usize, word: &[u8]) -> usize
+pub fn put_bytes(out: &mut [u8], at: usize, word: &[u8]) -> usize
     ensures { λ r. ⌜ Puts (now (out .entry)) at (now (out .exit)) r (now (word .entry)) ⌝ }
 {
     let mut r = at;
@@ -48,14 +48,14 @@ pub(crate) fn put_decimal(out: &mut [u8], at: usize, x: usize) -> usize
 }
 
 // A number with a space before it.
-pub(crate) fn put_number(out: &mut [u8], at: usize, x: usize) -> usize
+pub fn put_number(out: &mut [u8], at: usize, x: usize) -> usize
     ensures { λ r. ⌜ Puts (now (out .entry)) at (now (out .exit)) r (32 ∷ decimal x) ⌝ }
 {
     let r = put_byte(out, at, 32);
     put_decimal(out, r, x)
 }
 
-pub(crate) fn put_spaced(out: &mut [u8], at: usize, list: &[u16]) -> usize
+pub fn put_spaced(out: &mut [u8], at: usize, list: &[u16]) -> usize
     ensures { λ r. ⌜ Puts (now (out .entry)) at (now (out .exit)) r (spaced (now (list .entry))) ⌝ }
 {
     let mut r = at;

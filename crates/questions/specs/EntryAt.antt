@@ -7,7 +7,7 @@ use lib.ListN.{length, getD}
 use Rattle.reader.specs.Bytes.{pick}
 use Rattle.graph.specs.Nodes.{entryOf}
 use Rattle.wiring.specs.DemandLaws.{entriesIn}
-use Rattle.questions.specs.Questions.{Reply, answer, refused}
+use Rattle.graph.specs.Questions.{Reply, answer, refused}
 use Rattle.questions.specs.declared.entry.Entered.{Entered}
 use Rattle.questions.specs.declared.entry.Entered.the-variants as entered
 

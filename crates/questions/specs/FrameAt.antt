@@ -12,7 +12,8 @@ use Rattle.reader.specs.Records.{nameKey, padded}
 use Rattle.wiring.specs.Prepared.{callWord, wordOf, fallEntry}
 use Rattle.wiring.specs.EdgeTable.{succStart, succCount}
 use Rattle.wiring.specs.PrintedTables.{succPart}
-use Rattle.questions.specs.Questions.{Reply, answer, refused, kept, ifRoom}
+use Rattle.graph.specs.Questions.{Reply, answer, refused, kept, ifRoom}
+use Rattle.questions.specs.StatementAt.{noStatement, unlessRefused}
 use Rattle.questions.specs.declared.frame.Framed.{Framed}
 use Rattle.questions.specs.declared.frame.Framed.the-variants.{Listed, Refused}
 
@@ -56,12 +57,12 @@ frameOutside n stmts args falls lists succ h i =
 
 -- ---- the question: "3 (a bad name, place 0), then 24 (the header first), 25, 26, 28"; n: the used count of statements
 
--- of the name with key k
+-- of the name with key k; "26 no statement .. at the path in a node's record"
 unfoldable pub frameIn : ℕ → (stmts args falls lists succ : List ℕ) → (header node key : ℕ) → Bool → (room : ℕ) → Reply (List ℕ)
 frameIn n stmts args falls lists succ h i k flag room =
     pick (ltb h n)
     (pick (ltb i n)
-    (pick (frameOutside n stmts args falls lists succ h i) (refused 25 0) (ifRoom room (frameRead stmts args falls lists succ h i k flag)))
+    (pick (frameOutside n stmts args falls lists succ h i) (refused 25 0) (unlessRefused (noStatement stmts n i) (ifRoom room (frameRead stmts args falls lists succ h i k flag))))
     (refused 24 i))
     (refused 24 h)
 

@@ -2,7 +2,7 @@
 use Prim.Native.Nat.{ℕ, _+_, _*_, _≤_, _<_}
 use mathlib.Core.Path.{_≡_, refl, sym, ap, subst, _∙_}
 use mathlib.Core.List.{List, []}
-use mathlib.Core.Bool.{Bool, true, false, _&&_}
+use mathlib.Core.Bool.{Bool, true, false, _&&_, and-false}
 use mathlib.Core.Option.{Option, none, some}
 use native.Mathlib.Omega.{arith}
 use borrow.Author.Tests.{le-ltb, ltb-true}
@@ -17,13 +17,13 @@ use Rattle.reader.specs.ReadBack.{lines-wide}
 use Rattle.reader.specs.Scan.{same-sym}
 use Rattle.reader.specs.Tables.{padded-length, joined-length}
 use Rattle.reader.specs.WordTable.{words, first, wordIndex}
-use Rattle.graph.specs.Adding.{nodeNumber}
+use Rattle.reader.specs.ReadingRecords.{lines-length}
 use Rattle.graph.specs.Build.{graph}
 use Rattle.graph.specs.Graph.{Role, returnTargets, stmtRole, simpleRole, roleOf, role, fallOf, fallFrom, wire, continuation, successors}
 use Rattle.graph.specs.GraphLaws.{nodeCount, fall-below}
 use Rattle.graph.specs.NodeLaws.{Below}
 use Rattle.graph.specs.NodeRecords.{stmtWord, stmtNumber}
-use Rattle.graph.specs.Nodes.{NodeStmt, simple, cond, Node, nodes}
+use Rattle.graph.specs.Nodes.{NodeStmt, simple, cond, Node, nodes, nodesBefore}
 use Rattle.graph.specs.Targets.{onFor, onNext, onSimple}
 use Rattle.wiring.specs.DemandLaws.{graph-held, nodes-total, held-succ, held-continuation}
 use Rattle.wiring.specs.Demands.{Tables, Written, LongEnough}
@@ -31,7 +31,6 @@ use Rattle.wiring.specs.EdgeTable.{succStart, succCount}
 use Rattle.wiring.specs.GraphHeld.{GraphHeld}
 use Rattle.wiring.specs.GraphTables.{Sizes, answerOf, tableOf, countTable, argTable}
 use Rattle.wiring.specs.HoldsListing.{HoldsListing, holds-listed}
-use Rattle.wiring.specs.LineEntries.{recs-total}
 use Rattle.wiring.specs.ListedNodes.{SimpleListed, StmtListed, Listed, key-same}
 use Rattle.wiring.specs.OpenerLaws.{some-at}
 use Rattle.wiring.specs.Prepared.{callWord, wordOf, fallEntry}
@@ -39,10 +38,13 @@ use Rattle.wiring.specs.PrintLaws.{nodes-readable}
 use Rattle.wiring.specs.PrintedTables.{succPart}
 use Rattle.wiring.specs.ReturnTargets.{continuationEntry}
 use Rattle.wiring.specs.TableReads.{fall-of}
+use Rattle.wiring.specs.LateLaws.{number-below}
 use Rattle.wiring.specs.declared.build.Built.the-variants as built
-use Rattle.questions.specs.Questions.{refused, kept, frameSimple, frameBy, frameOf, frameList, ifNode, ifRoom, askFrame}
+use Rattle.graph.specs.Questions.{refused, kept, frameSimple, frameBy, frameOf, frameList, ifNode, ifRoom, askFrame}
 use Rattle.questions.specs.FrameAt.{forgetsWord, endsFrame, keepsShared, frameRead, shortTables, partOutside, fallOutside, frameOutside, frameIn, frameAt, FrameTold}
 use Rattle.questions.specs.FrameChecks.{answer-as}
+use Rattle.questions.specs.StatementAt.{noStatement, unlessRefused}
+use Rattle.questions.specs.PathAnswers.{stated, recorded-by}
 use Rattle.questions.specs.declared.frame.Framed.{Framed}
 
 -- ---- by the number of the opening word
@@ -108,10 +110,7 @@ pub record FrameTables (L : Listing) (n : ℕ) (stmts args falls lists succ : Li
   pub lists-in : (i : ℕ) → i < n → succStart lists i + succCount lists i ≤ length succ
   pub continues : (i : ℕ) (d : Node) → getElem? (wire L .nodes) i ≡ some d → continuationEntry stmts falls i ≡ continuation (wire L) i
   pub falls-in : (i : ℕ) → i < n → getD falls (i * 3) 0 ≤ n
-
-and-false : (b : Bool) → (b && false) ≡ false
-and-false true = refl
-and-false false = refl
+  pub has-stmt : (i : ℕ) → i < n → noStatement stmts n i ≡ 0
 
 module _ {L : Listing} {n : ℕ} {stmts args falls lists succ : List ℕ} (g : FrameTables L n stmts args falls lists succ) where
   part-in : (i : ℕ) → i < n → partOutside lists succ i ≡ false
@@ -151,11 +150,11 @@ module _ {L : Listing} {n : ℕ} {stmts args falls lists succ : List ℕ} (g : F
 
   -- the answer read from the tables is that of the listing's graph
   pub frame-is : (h i : ℕ) (v : Name) (flag : Bool) (room : ℕ) → frameAt n stmts args falls lists succ h i v flag room ≡ askFrame L h i v flag room
-  unfolding frameAt frameIn askFrame ifNode wire
+  unfolding frameAt frameIn unlessRefused askFrame ifNode wire
   frame-is h i v flag room = go (isName v) (ltb h n) (ltb i n) refl refl refl
     where
       go : (x y z : Bool) → isName v ≡ x → ltb h n ≡ y → ltb i n ≡ z
-          → pick x (pick y (pick z (pick (frameOutside n stmts args falls lists succ h i) (refused 25 0) (ifRoom room (frameRead stmts args falls lists succ h i (nameKey v) flag))) (refused 24 i)) (refused 24 h)) (refused 3 0)
+          → pick x (pick y (pick z (pick (frameOutside n stmts args falls lists succ h i) (refused 25 0) (unlessRefused (noStatement stmts n i) (ifRoom room (frameRead stmts args falls lists succ h i (nameKey v) flag)))) (refused 24 i)) (refused 24 h)) (refused 3 0)
           ≡ pick x (pick (ltb h (length (nodes (L .lines)))) (pick (ltb i (length (nodes (L .lines)))) (ifRoom room (frameList L h i v flag)) (refused 24 i)) (refused 24 h)) (refused 3 0)
       go false y z e f k = refl
       go true false z e f k = rw (sym (g .nodes-are), f) refl
@@ -163,13 +162,9 @@ module _ {L : Listing} {n : ℕ} {stmts args falls lists succ : List ℕ} (g : F
       go true true true e f k =
           let a : h < n = ltb-true h n f in
           let b : i < n = ltb-true i n k in
-          rw (sym (g .nodes-are), f, k, none-outside h i a b) (ap (ifRoom room) (read-is h i v flag e a b))
+          rw (sym (g .nodes-are), f, k, none-outside h i a b, g .has-stmt i b) (ap (ifRoom room) (read-is h i v flag e a b))
 
 -- ---- the tables that a build wrote
-
-below-number : (n : ℕ) (e : Option ℕ) → Below n e → nodeNumber e ≤ n
-below-number n none h = omega arith
-below-number n (some a) h = omega (arith, h)
 
 module _ (L : Listing) (s : Sizes) (T : Tables) (ok : InForm L) (f : LongEnough s L) (w : Written L s T) where
   held : GraphHeld L (T .lines) (T .stmts) (T .entries) (T .falls) (T .lists) (T .returns) (T .succ) (T .pred) (count (L .lines)) (total (L .lines)) (length (returnTargets (wire L)))
@@ -196,7 +191,7 @@ module _ (L : Listing) (s : Sizes) (T : Tables) (ok : InForm L) (f : LongEnough 
   args-length : length (T .args) ≡ s .args
   unfolding argTable
   args-length =
-      ap length (w .args) ∙ padded-length (s .args) (argRows (lineRecs (L .lines))) (omega (arith, joined-length argRow 64 (lines-wide (L .lines) (ok .lines)), recs-total (L .lines), f .nodes .in-args))
+      ap length (w .args) ∙ padded-length (s .args) (argRows (lineRecs (L .lines))) (omega (arith, joined-length argRow 64 (lines-wide (L .lines) (ok .lines)), lines-length (L .lines), f .nodes .in-args))
 
   holds : HoldsListing L (T .lines) (T .stmts) (T .args) (count (L .lines)) (total (L .lines))
   unfolding argTable
@@ -218,7 +213,14 @@ module _ (L : Listing) (s : Sizes) (T : Tables) (ok : InForm L) (f : LongEnough 
   fall-in-nodes i h =
       let p = some-at (wire L .nodes) i (omega (arith, nodes-total L)) in
       let q : Below (nodeCount L) ((p .0) .fall) = subst (λ (o : Option Node). Below (nodeCount L) (fallOf o)) (p .1) (fall-below L i) in
-      omega (arith, fall-of (wire L .entries) (wire L .nodes) (length (T .falls)) (T .falls) (held .falls-are) i (p .0) (p .1), below-number (nodeCount L) ((p .0) .fall) q, nodes-total L)
+      omega (arith, fall-of (wire L .entries) (wire L .nodes) (length (T .falls)) (T .falls) (held .falls-are) i (p .0) (p .1), number-below (nodeCount L) ((p .0) .fall) q, nodes-total L)
+
+  stmt-of : (i : ℕ) → i < total (L .lines) → noStatement (T .stmts) (total (L .lines)) i ≡ 0
+  unfolding wire nodes padded
+  stmt-of i h =
+      let p = some-at (wire L .nodes) i (omega (arith, nodes-total L)) in
+      let r = recorded-by (L .lines) (ok .lines) (T .lines) (T .stmts) _ _ (held .lines-are) (held .stmts-are) in
+      ap (λ (k : ℕ). noStatement (T .stmts) k i) (sym (nodes-total L)) ∙ stated (T .stmts) (nodesBefore none (L .lines)) r i (p .0) (p .1)
 
   frame-tables : FrameTables L (total (L .lines)) (T .stmts) (T .args) (T .falls) (T .lists) (T .succ)
   frame-tables =
@@ -233,6 +235,7 @@ module _ (L : Listing) (s : Sizes) (T : Tables) (ok : InForm L) (f : LongEnough 
         lists-in = nodes-readable held .succ-in;
         continues = held-continuation held;
         falls-in = fall-in-nodes;
+        has-stmt = stmt-of;
       }
 
   -- `ask_frame` on these tables

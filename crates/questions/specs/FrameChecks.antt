@@ -1,5 +1,5 @@
 -- Laws of what the frame question checks, and of its list by the opening word. Assumes nothing.
-use Prim.Native.Nat.{ℕ, _+_, _*_, _-_, _/_, _<_, _≤_}
+use Prim.Native.Nat.{ℕ, zero, suc, _+_, _*_, _-_, _/_, _<_, _≤_}
 use mathlib.Core.Path.{_≡_, refl, sym, ap, subst, _∙_}
 use mathlib.Core.List.{List, []}
 use mathlib.Core.Bool.{Bool, true, false, _||_}
@@ -10,13 +10,14 @@ use lib.ListN.{length, getD, take, drop}
 use Rattle.reader.specs.Listing.{Name}
 use Rattle.reader.specs.Rows.{isName, parseName}
 use Rattle.reader.specs.Names.{asKey}
-use Rattle.reader.specs.Operands.{keyAnswer, encode-key}
+use Rattle.reader.specs.Operands.{keyAnswer}
 use Rattle.reader.specs.Records.{nameKey}
 use Rattle.wiring.specs.Prepared.{callWord, wordOf, fallEntry}
 use Rattle.wiring.specs.EdgeTable.{succStart, succCount}
 use Rattle.wiring.specs.PrintedTables.{succPart}
-use Rattle.questions.specs.Questions.{Reply, refused, kept, ifRoom}
+use Rattle.graph.specs.Questions.{Reply, refused, kept, ifRoom}
 use Rattle.questions.specs.FrameAt.{endsFrame, keepsShared, frameRead, shortTables, partOutside, fallOutside, frameOutside, frameIn, frameAt, FrameTold}
+use Rattle.questions.specs.StatementAt.{noStatement, unlessRefused}
 use Rattle.questions.specs.declared.frame.Framed.{Framed}
 
 -- ---- inside the tables
@@ -147,6 +148,12 @@ module _ (n : ℕ) (stmts args falls lists succ : List ℕ) (h i : ℕ) where
         node = part-inside i (omega (arith, f .in-lists)) (r .0);
       }
 
+  pub rows-inside : frameOutside n stmts args falls lists succ h i ≡ false → n * 12 ≤ length stmts
+  unfolding frameOutside
+  rows-inside e =
+      let s = shortTables n (length stmts) (length args) (length falls) (length lists) in
+      fits n (length stmts) (length args) (length falls) (length lists) (either-false s (partOutside lists succ h || (partOutside lists succ i || fallOutside n stmts falls i)) e .0) .in-stmts
+
   -- ---- the answer's cases
 
   module _ (k : ℕ) (flag : Bool) (room : ℕ) where
@@ -162,10 +169,22 @@ module _ (n : ℕ) (stmts args falls lists succ : List ℕ) (h i : ℕ) where
     unfolding frameIn
     in-25 a b e = rw (lt-ltb h n a, lt-ltb i n b, e) refl
 
-    pub in-list : h < n → i < n → frameOutside n stmts args falls lists succ h i ≡ false
-        → ifRoom room (frameRead stmts args falls lists succ h i k flag) ≡ frameIn n stmts args falls lists succ h i k flag room
-    unfolding frameIn
-    in-list a b e = rw (lt-ltb h n a, lt-ltb i n b, e) refl
+    module _ (a : h < n) (b : i < n) (e : frameOutside n stmts args falls lists succ h i ≡ false) (c : ℕ) (f : c ≡ noStatement stmts n i) where
+      by-number : unlessRefused c (ifRoom room (frameRead stmts args falls lists succ h i k flag)) ≡ frameIn n stmts args falls lists succ h i k flag room
+      unfolding frameIn
+      by-number = rw (lt-ltb h n a, lt-ltb i n b, e, f) refl
+
+      pub in-26 : (c ≡ 0 → ⊥) → frameIn n stmts args falls lists succ h i k flag room ≡ refused c 0
+      unfolding unlessRefused
+      in-26 z = sym by-number ∙ go c z
+        where
+          go : (c : ℕ) → (c ≡ 0 → ⊥) → unlessRefused c (ifRoom room (frameRead stmts args falls lists succ h i k flag)) ≡ refused c 0
+          go zero z = absurd (z refl)
+          go (suc c) z = refl
+
+      pub in-list : c ≡ 0 → ifRoom room (frameRead stmts args falls lists succ h i k flag) ≡ frameIn n stmts args falls lists succ h i k flag room
+      unfolding unlessRefused
+      in-list z = ap (λ (j : ℕ). unlessRefused j (ifRoom room (frameRead stmts args falls lists succ h i k flag))) (sym z) ∙ by-number
 
 -- ---- the list, by the opening word
 
@@ -191,7 +210,7 @@ module _ (stmts args falls lists succ : List ℕ) (h i k : ℕ) (flag : Bool) wh
 
 pub name-key : (v : Name) → isName v ≡ true → keyAnswer (asKey (parseName v)) ≡ nameKey v
 unfolding parseName
-name-key v e = rw e (encode-key v)
+name-key v e = rw e
 
 pub answer-as : (q p : Reply (List ℕ)) (out t : List ℕ) (r : Framed) → q ≡ p → FrameTold q out t r → FrameTold p out t r
 answer-as q p out t r e g = subst (λ (z : Reply (List ℕ)). FrameTold z out t r) e g

@@ -8,7 +8,7 @@ use lib.ListN.{length, getD, take}
 use lib.Seq.{take-all}
 use Rattle.reader.specs.Bytes.{pick}
 use Rattle.graph.specs.Lists.{has, keep}
-use Rattle.questions.specs.Questions.{kept}
+use Rattle.graph.specs.Questions.{kept}
 
 -- how many are kept of the first i, and of one more
 keep-next : (p : ℕ → Bool) (l : List ℕ) (i : ℕ) → i < length l → length (keep p (take (suc i) l)) ≡ length (keep p (take i l)) + pick (p (getD l i 0)) 1 0

@@ -14,7 +14,7 @@ use Rattle.reader.specs.Tables.{padded-nil}
 use Rattle.graph.specs.Lists.{has, keep}
 use Rattle.graph.specs.Adding.{decode}
 use Rattle.wiring.specs.Reading.{clearedBehind}
-use Rattle.questions.specs.Questions.{Reply, answer, refused, kept, ifRoom}
+use Rattle.graph.specs.Questions.{Reply, answer, refused, kept, ifRoom}
 use Rattle.questions.specs.FrameAt.{FrameTold, framedOf, sliceAfter}
 use Rattle.questions.specs.declared.frame.Framed.{Framed}
 use Rattle.questions.specs.declared.frame.Framed.the-variants.{Listed, Refused}

@@ -1,5 +1,3 @@
-pub mod Questions
-pub mod Opened
 pub mod FrameAt
 pub mod FrameLaws
 pub mod ListsAt
@@ -10,6 +8,7 @@ pub mod TableAnswers
 pub mod StatementAt
 pub mod StatementLaws
 pub mod PathNodes
+pub mod Words
 pub mod PathAnswers
 pub mod StatementAnswers
 pub mod FrameSlice

@@ -9,7 +9,7 @@ use lib.Dec.{ltb, leb}
 use lib.ListN.{length, getD, take, drop}
 use Rattle.reader.specs.Bytes.{pick}
 use Rattle.wiring.specs.EdgeTable.{succStart, succCount, predStart, predCount}
-use Rattle.questions.specs.Questions.{Reply, answer, refused}
+use Rattle.graph.specs.Questions.{Reply, answer, refused}
 use Rattle.questions.specs.ListsAt.{listAt, successorsAt, predecessorsAt, askedOf, partOf}
 use Rattle.questions.specs.declared.successors.Asked.the-variants.{Part, Refused}
 

@@ -1,25 +1,33 @@
--- The records of a listing lead from each path to the one node that stands there. Assumes nothing.
-use Prim.Native.Nat.{ℕ, zero, suc, _+_, _≤_, _<_}
+-- The records of a listing lead from each path to the one node that stands there, and from each node up to its line. Assumes nothing.
+use Prim.Native.Nat.{ℕ, zero, suc, _+_, _*_, _-_, _≤_, _<_}
 use mathlib.Core.Path.{_≡_, refl, sym, ap, _∙_}
 use mathlib.Core.Bool.{Bool, true, false, _&&_}
 use mathlib.Core.List.{List, [], _∷_, _++_, append-assoc, append-nil}
 use mathlib.Core.Logic.{inl, inr}
 use mathlib.Core.Option.{Option, none, some}
 use native.Mathlib.Omega.{arith}
-use borrow.Author.Tests.{eq-eqb, eqb-true, lt-ltb}
+use borrow.Author.Tests.{eq-eqb, eqb-true, lt-ltb, le-ltb}
 use lib.Dec.{eqb}
-use lib.ListN.{length, getElem?, length-append}
+use lib.ListN.{length, getD, getElem?, length-append}
 use Rattle.reader.specs.Bytes.{same, pick}
-use Rattle.graph.specs.Nodes.{Node}
-use Rattle.graph.specs.NodeRecords.{stmtWord}
+use Rattle.reader.specs.WordText.{same-equal}
+use Rattle.reader.specs.Listing.{Lines}
+use Rattle.reader.specs.ListingText.{LinesOk}
+use Rattle.reader.specs.Records.{lineNumbers, lineRecs, recRows}
+use Rattle.graph.specs.Nodes.{Node, nodesBefore}
+use Rattle.graph.specs.NodeRecords.{stmtWord, stmtNumber}
 use Rattle.wiring.specs.Compare.{eq-or, lt-or}
 use Rattle.wiring.specs.LineEntries.{at-place}
 use Rattle.wiring.specs.OpenerLaws.{in-range}
-use Rattle.wiring.specs.PrintedTables.{holderOf, indexOf, lineOf}
-use Rattle.questions.specs.Questions.{answer, refused, nodeFrom}
-use Rattle.questions.specs.StatementAt.{standsAt, firstFrom, childAt, ifFound, nodeAt, onReply, pathBy, climb}
+use Rattle.wiring.specs.Paths.{node-read}
+use Rattle.wiring.specs.Prepared.{wordOf}
+use Rattle.wiring.specs.PrintedTables.{holderOf, indexOf, lineOf, heldBy, pathIn}
+use Rattle.wiring.specs.ListedNodes.{same-self}
+use Rattle.graph.specs.Questions.{nodeFrom}
+use Rattle.questions.specs.StatementAt.{branchingWord, standsAt, firstFrom, childAt, ifFound, nodeAt, climb, noStatement}
 use Rattle.questions.specs.StatementLaws.{other-holder, other-index, under-if, on-line, node-snoc}
-use Rattle.questions.specs.PathNodes.{HeldBy, onLine, inIf}
+use Rattle.questions.specs.PathNodes.{HeldBy, onLine, inIf, one-node, node-held}
+use Rattle.questions.specs.Words.{word-low, branching-word}
 
 -- ---- the first that passes
 
@@ -47,22 +55,6 @@ module _ (t : ℕ → Bool) where
       go false q e r = let s = r e in (s .0, omega (arith, s .1))
 
 -- ---- equal lists
-
-same-refl : (l : List ℕ) → same l l ≡ true
-unfolding same
-same-refl [] = refl
-same-refl (a ∷ l) = rw (eq-eqb a a refl) (same-refl l)
-
-same-true : (k l : List ℕ) → same k l ≡ true → k ≡ l
-unfolding same
-same-true [] [] e = refl
-same-true [] (b ∷ l) e = absurd (let z : _≡_ {A = ℕ} 0 1 = cc in omega arith)
-same-true (a ∷ k) [] e = absurd (let z : _≡_ {A = ℕ} 0 1 = cc in omega arith)
-same-true (a ∷ k) (b ∷ l) e = go (eqb a b) refl e (λ q. same-true k l q)
-  where
-    go : (x : Bool) → eqb a b ≡ x → (x && same k l) ≡ true → (same k l ≡ true → k ≡ l) → a ∷ k ≡ b ∷ l
-    go true q e r = let y : a ≡ b = eqb-true a b q in rw (y, r e) refl
-    go false q e r = absurd (let z : _≡_ {A = ℕ} 0 1 = cc in omega arith)
 
 -- ---- what `nodeFrom` finds
 
@@ -103,13 +95,13 @@ sought (n ∷ ns) i line path = go (eqb (n .line) line) (same (n .path) path) re
     not-path q s =
         let m : n ≡ s .node = cc in
         let p : n .path ≡ path = ap (λ (d : Node). d .path) m ∙ s .path-is in
-        let y : true ≡ false = sym (same-refl path) ∙ ap (λ (l : List ℕ). same l path) (sym p) ∙ q in
+        let y : true ≡ false = sym (same-self path) ∙ ap (λ (l : List ℕ). same l path) (sym p) ∙ q in
         let w : _≡_ {A = ℕ} 0 1 = cc in absurd (omega arith)
 
     go : (x y : Bool) → eqb (n .line) line ≡ x → same (n .path) path ≡ y → (r : Option (ℕ × List ℕ)) → Sought ns (suc i) line path r → Sought (n ∷ ns) i line path (pick (x && y) (some (i, stmtWord (n .stmt))) r)
     go true true e f r s =
         let z : i + 0 ≡ i = omega arith in
-        let t : Stands (n ∷ ns) line path 0 = record { node = n; is = refl; line-is = eqb-true (n .line) line e; path-is = same-true (n .path) path f } in
+        let t : Stands (n ∷ ns) line path 0 = record { node = n; is = refl; line-is = eqb-true (n .line) line e; path-is = same-equal (n .path) path f } in
         let o : Sought (n ∷ ns) i line path (some (i + 0, stmtWord (n .stmt))) = found 0 t in
         rw z at o
     go true false e f r s = later r (not-path f) s
@@ -136,6 +128,8 @@ module _ (stmts : List ℕ) (ns : List Node) where
     pub one : (i j : ℕ) (a b : Node) → getElem? ns i ≡ some a → getElem? ns j ≡ some b → a .line ≡ b .line → a .path ≡ b .path → i ≡ j
     pub held : (i : ℕ) (d : Node) → getElem? ns i ≡ some d → HeldBy (λ j. getElem? ns j) (holderOf stmts i) (indexOf stmts i) i d
     pub lined : (i : ℕ) (d : Node) → getElem? ns i ≡ some d → lineOf stmts i ≡ d .line
+    pub worded : (i : ℕ) (d : Node) → getElem? ns i ≡ some d → getD stmts (i * 12) 0 ≡ stmtNumber (d .stmt)
+    pub short : (i : ℕ) (d : Node) → getElem? ns i ≡ some d → length (d .path) ≤ 17
 
 module _ (stmts : List ℕ) (ns : List Node) (R : Recorded stmts ns) where
   both : (j : ℕ) (a b : Node) → getElem? ns j ≡ some a → getElem? ns j ≡ some b → a ≡ b
@@ -147,9 +141,9 @@ module _ (stmts : List ℕ) (ns : List Node) (R : Recorded stmts ns) where
     where
       go : HeldBy (λ k. getElem? ns k) (holderOf stmts i) (indexOf stmts i) i a → HeldBy (λ k. getElem? ns k) (holderOf stmts j) (indexOf stmts j) j b → i ≡ j
       go (onLine x p) (onLine y q) = R .one i j a b e f (sym (R .lined i a e) ∙ l y ∙ R .lined j b f) (p ∙ ap (λ (k : ℕ). k ∷ []) h ∙ sym q)
-      go (onLine x p) (inIf k m u v y w q) = absurd (omega (arith, x, y, g))
-      go (inIf k m u v y w q) (onLine x p) = absurd (omega (arith, x, y, g))
-      go (inIf k m u v y w q) (inIf k′ m′ u′ v′ y′ w′ q′) =
+      go (onLine x p) (inIf k m u o v y w q) = absurd (omega (arith, x, y, g))
+      go (inIf k m u o v y w q) (onLine x p) = absurd (omega (arith, x, y, g))
+      go (inIf k m u o v y w q) (inIf k′ m′ u′ o′ v′ y′ w′ q′) =
           let z : k ≡ k′ = omega (arith, y, y′, g) in
           let c : m ≡ m′ = both k m m′ u (ap (λ (o : ℕ). getElem? ns o) z ∙ u′) in
           R .one i j a b e f (sym w ∙ ap (λ (d : Node). d .line) c ∙ w′) (q ∙ ap (λ (d : Node). d .path ++ (indexOf stmts i ∷ [])) c ∙ ap (λ (o : ℕ). m′ .path ++ (o ∷ [])) h ∙ sym q′)
@@ -163,11 +157,17 @@ module _ (stmts : List ℕ) (ns : List Node) (R : Recorded stmts ns) where
       let p = at-place ns m (omega (arith, l, in-range ns i d e)) in
       absurd (omega (arith, l, spot m i (p .0) d (p .1) e (s .0 ∙ sym a) (s .1 ∙ sym b) (λ z. s .2 (sym a ∙ z) ∙ sym (R .lined i d e)))))
     where
+      in-if : HeldBy (λ j. getElem? ns j) (holderOf stmts i) (indexOf stmts i) i d → (h ≡ 0 → ⊥) → branchingWord (getD stmts ((h - 1) * 12 + 0) 0) ≡ true
+      in-if (onLine y p) f = absurd (f (sym a ∙ y))
+      in-if (inIf j m u o v y w q) f =
+          let z : (h - 1) * 12 + 0 ≡ j * 12 = omega (arith, a, y) in
+          ap (λ (k : ℕ). branchingWord (getD stmts k 0)) z ∙ ap branchingWord (R .worded j m u) ∙ branching-word (m .stmt) o
+
       here : standsAt stmts (d .line) h x i ≡ true
       here =
           elim (eq-or h 0) [
             | inl z ↦ sym (on-line stmts (d .line) h x i a b z) ∙ eq-eqb (lineOf stmts i) (d .line) (R .lined i d e)
-            | inr f ↦ sym (under-if stmts (d .line) h x i a b f)
+            | inr f ↦ sym (under-if stmts (d .line) h x i a b f) ∙ in-if (R .held i d e) f
           ]
 
   node-on : (line : ℕ) (ps : List ℕ) (j x : ℕ) → nodeAt stmts (length ns) line 0 ps ≡ suc j → nodeAt stmts (length ns) line 0 (ps ++ (x ∷ [])) ≡ childAt stmts (length ns) line (suc j) x
@@ -183,7 +183,7 @@ module _ (stmts : List ℕ) (ns : List Node) (R : Recorded stmts ns) where
     where
       go : HeldBy (λ j. getElem? ns j) (holderOf stmts i) (indexOf stmts i) i d → ((j : ℕ) (m : Node) → j < k → getElem? ns j ≡ some m → nodeAt stmts (length ns) (m .line) 0 (m .path) ≡ suc j) → nodeAt stmts (length ns) (d .line) 0 (d .path) ≡ suc i
       go (onLine a p) f = ap (λ (l : List ℕ). nodeAt stmts (length ns) (d .line) 0 l) p ∙ ap (λ (c : ℕ). ifFound c (λ o. o)) (child-is i d e 0 (indexOf stmts i) a refl)
-      go (inIf j m u v y w q) f =
+      go (inIf j m u o v y w q) f =
           ap (λ (l : List ℕ). nodeAt stmts (length ns) (d .line) 0 l) q
           ∙ node-on (d .line) (m .path) j (indexOf stmts i) (ap (λ (o : ℕ). nodeAt stmts (length ns) o 0 (m .path)) (sym w) ∙ f j m (omega arith) u)
           ∙ child-is i d e (suc j) (indexOf stmts i) y refl
@@ -202,9 +202,9 @@ module _ (stmts : List ℕ) (ns : List Node) (R : Recorded stmts ns) where
       go : Spot line h q → HeldBy (λ k. getElem? ns k) (holderOf stmts j) (indexOf stmts j) j d → (holderOf stmts j ≡ h) × (indexOf stmts j ≡ p) × (h ≡ 0 → lineOf stmts j ≡ line) → Stands ns line (q ++ (p ∷ [])) j
       go (start a b) (onLine x y) w =
           record { node = d; is = e; line-is = sym (R .lined j d e) ∙ w .2 a; path-is = y ∙ ap (λ (o : ℕ). o ∷ []) (w .1) ∙ ap (λ (l : List ℕ). l ++ (p ∷ [])) (sym b) }
-      go (start a b) (inIf k m u v y l r) w = absurd (omega (arith, a, y, w .0))
+      go (start a b) (inIf k m u o v y l r) w = absurd (omega (arith, a, y, w .0))
       go (node k a s) (onLine x y) w = absurd (omega (arith, a, x, w .0))
-      go (node k a s) (inIf k′ m u v y l r) w =
+      go (node k a s) (inIf k′ m u o v y l r) w =
           let z : k′ ≡ k = omega (arith, a, y, w .0) in
           let c : m ≡ s .node = both k′ m (s .node) u (ap (λ (o : ℕ). getElem? ns o) z ∙ s .is) in
           record {
@@ -239,19 +239,47 @@ module _ (stmts : List ℕ) (ns : List Node) (R : Recorded stmts ns) where
     where
       go : HeldBy (λ j. getElem? ns j) (holderOf stmts i) (indexOf stmts i) i d → 0 < length (d .path)
       go (onLine a p) = omega (arith, ap length p)
-      go (inIf j m u v y w q) = omega (arith, ap length q, length-append (m .path) (indexOf stmts i ∷ []))
+      go (inIf j m u o v y w q) = omega (arith, ap length q, length-append (m .path) (indexOf stmts i ∷ []))
 
-  pub climb-is : (k i : ℕ) (d : Node) → getElem? ns i ≡ some d → length (d .path) ≤ suc k → climb stmts (length ns) k i ≡ answer (d .path)
-  unfolding climb pathBy onReply
+  climb-is : (k i : ℕ) (d : Node) → getElem? ns i ≡ some d → length (d .path) ≤ suc k → climb stmts (length ns) k (holderOf stmts i) ≡ 0
+  unfolding climb wordOf
   climb-is zero i d e h = go (R .held i d e)
     where
-      go : HeldBy (λ j. getElem? ns j) (holderOf stmts i) (indexOf stmts i) i d → pathBy (λ h. refused 26 0) (length ns) (indexOf stmts i) (holderOf stmts i) ≡ answer (d .path)
-      go (onLine a p) = rw (a, p) refl
-      go (inIf j m u v y w q) = absurd (omega (arith, some-path j m u, h, ap length q, length-append (m .path) (indexOf stmts i ∷ [])))
+      go : HeldBy (λ j. getElem? ns j) (holderOf stmts i) (indexOf stmts i) i d → climb stmts (length ns) 0 (holderOf stmts i) ≡ 0
+      go (onLine a p) = rw a refl
+      go (inIf j m u o v y w q) = absurd (omega (arith, some-path j m u, h, ap length q, length-append (m .path) (indexOf stmts i ∷ [])))
   climb-is (suc k) i d e h = go (R .held i d e) (λ j m f l. climb-is k j m f l)
     where
-      go : HeldBy (λ j. getElem? ns j) (holderOf stmts i) (indexOf stmts i) i d → ((j : ℕ) (m : Node) → getElem? ns j ≡ some m → length (m .path) ≤ suc k → climb stmts (length ns) k j ≡ answer (m .path))
-          → pathBy (λ h. climb stmts (length ns) k h) (length ns) (indexOf stmts i) (holderOf stmts i) ≡ answer (d .path)
-      go (onLine a p) f = rw (a, p) refl
-      go (inIf j m u v y w q) f =
-          rw (y, lt-ltb j (length ns) (in-range ns j m u), f j m u (omega (arith, h, ap length q, length-append (m .path) (indexOf stmts i ∷ []))), q) refl
+      go : HeldBy (λ j. getElem? ns j) (holderOf stmts i) (indexOf stmts i) i d → ((j : ℕ) (m : Node) → getElem? ns j ≡ some m → length (m .path) ≤ suc k → climb stmts (length ns) k (holderOf stmts j) ≡ 0)
+          → climb stmts (length ns) (suc k) (holderOf stmts i) ≡ 0
+      go (onLine a p) f = rw a refl
+      go (inIf j m u o v y w q) f =
+          rw (y, lt-ltb j (length ns) (in-range ns j m u), R .worded j m u, branching-word (m .stmt) o)
+          (f j m u (omega (arith, h, ap length q, length-append (m .path) (indexOf stmts i ∷ []))))
+
+  -- each node has a statement
+  pub stated : (i : ℕ) (d : Node) → getElem? ns i ≡ some d → noStatement stmts (length ns) i ≡ 0
+  unfolding noStatement wordOf
+  stated i d e = rw (R .worded i d e, le-ltb 27 (stmtNumber (d .stmt)) (word-low (d .stmt))) (climb-is 16 i d e (R .short i d e))
+
+-- ---- the tables that hold a listing
+
+path-short : (stmts : List ℕ) (k i : ℕ) → length (pathIn stmts k i) ≤ suc k
+unfolding pathIn
+path-short stmts zero i = omega arith
+path-short stmts (suc k) i = go (holderOf stmts i) (λ h. path-short stmts k h)
+  where
+    go : (h : ℕ) → ((j : ℕ) → length (pathIn stmts k j) ≤ suc k) → length (heldBy (λ j. pathIn stmts k j) h ++ (indexOf stmts i ∷ [])) ≤ suc (suc k)
+    go zero f = omega arith
+    go (suc h) f = omega (arith, f h, length-append (pathIn stmts k h) (indexOf stmts i ∷ []))
+
+pub recorded-by : (ls : Lines) → LinesOk ls → (lines stmts more rest : List ℕ) → lines ≡ lineNumbers ls ++ more → stmts ≡ recRows (lineRecs ls) ++ rest → Recorded stmts (nodesBefore none ls)
+recorded-by ls ok lines stmts more rest el es =
+    let r = node-read ls ok lines stmts more rest el es in
+    record {
+      one = one-node ls;
+      held = node-held ls stmts rest es;
+      lined = λ i d e. r i d e .line-is;
+      worded = λ i d e. r i d e .word-is;
+      short = λ i d e. omega (arith, path-short stmts 16 i, ap length (r i d e .path-is));
+    }

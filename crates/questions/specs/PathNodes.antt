@@ -11,8 +11,8 @@ use Rattle.reader.specs.Every.{All, all[], all∷, all-append}
 use Rattle.reader.specs.Listing.{Stmts, ∅, _▸_, branching, Lines, nolines, line, size, len, total, count}
 use Rattle.reader.specs.Records.{Rec, simpleRec, condRec, stmtRecs, lineRecs, recRow, recRows}
 use Rattle.reader.specs.RecordLaws.{rec-at}
-use Rattle.graph.specs.Members.{all-at}
-use Rattle.graph.specs.Nodes.{Node, allocate, lineEntry, nodesBefore}
+use Rattle.graph.specs.Members.{all-at, all-map}
+use Rattle.graph.specs.Nodes.{NodeStmt, simple, cond, Node, allocate, lineEntry, nodesBefore}
 use Rattle.graph.specs.NodeLaws.{length-allocate, length-nodes}
 use Rattle.wiring.specs.PrintedTables.{holderOf, indexOf}
 
@@ -24,10 +24,6 @@ Apart a b = a .line ≡ b .line → a .path ≡ b .path → ⊥
 data Distinct : List Node → Type 0 where
   dist[] : Distinct []
   dist∷ : {a : Node} {l : List Node} → All (Apart a) l → Distinct l → Distinct (a ∷ l)
-
-all-map : {P Q : Node → Type 0} → ((n : Node) → P n → Q n) → {l : List Node} → All P l → All Q l
-all-map f all[] = all[]
-all-map f (all∷ {a = n} p h) = all∷ (f n p) (all-map f h)
 
 cross : {P Q : Node → Type 0} → ((a b : Node) → P a → Q b → Apart a b) → {k l : List Node} → All P k → All Q l → All (λ (a : Node). All (Apart a) l) k
 cross f all[] h = all[]
@@ -135,15 +131,19 @@ one-node ls = distinct-at (lines-distinct none ls)
 
 -- ---- the records say which IF holds a node
 
+abbrev pub Branches : NodeStmt → Type 0
+Branches (simple o) = ⊥
+Branches (cond w a b) = Unit {0}
+
 -- of node i, which is d: no IF holds it, or the IF at j does, which G gives
 pub data HeldBy (G : ℕ → Option Node) (h x i : ℕ) (d : Node) : Type 0 where
   onLine : h ≡ 0 → d .path ≡ x ∷ [] → HeldBy G h x i d
-  inIf : (j : ℕ) (m : Node) → G j ≡ some m → j < i → h ≡ suc j → m .line ≡ d .line → d .path ≡ m .path ++ (x ∷ []) → HeldBy G h x i d
+  inIf : (j : ℕ) (m : Node) → G j ≡ some m → Branches (m .stmt) → j < i → h ≡ suc j → m .line ≡ d .line → d .path ≡ m .path ++ (x ∷ []) → HeldBy G h x i d
 
 -- the holder of a list of statements on line li, whose paths begin with p
 data ListHeld (G : ℕ → Option Node) (li : ℕ) (p : List ℕ) (h i : ℕ) : Type 0 where
   lineHeld : h ≡ 0 → p ≡ [] → ListHeld G li p h i
-  ifHeld : (j : ℕ) (m : Node) → G j ≡ some m → j < i → h ≡ suc j → m .line ≡ li → m .path ≡ p → ListHeld G li p h i
+  ifHeld : (j : ℕ) (m : Node) → G j ≡ some m → Branches (m .stmt) → j < i → h ≡ suc j → m .line ≡ li → m .path ≡ p → ListHeld G li p h i
 
 -- G gives the nodes from i on
 abbrev NodesOf : (ℕ → Option Node) → ℕ → List Node → Type 0
@@ -173,11 +173,11 @@ module _ {G : ℕ → Option Node} where
 
   held-one : (li : ℕ) (p : List ℕ) (h i j x : ℕ) (d : Node) → ListHeld G li p h i → i ≤ j → d .line ≡ li → d .path ≡ p ++ (x ∷ []) → HeldBy G h x j d
   held-one li p h i j x d (lineHeld e f) g l q = onLine e (q ∙ ap (λ (y : List ℕ). y ++ (x ∷ [])) f)
-  held-one li p h i j x d (ifHeld k m a b e f c) g l q = inIf k m a (omega arith) e (f ∙ sym l) (q ∙ ap (λ (y : List ℕ). y ++ (x ∷ [])) (sym c))
+  held-one li p h i j x d (ifHeld k m a o b e f c) g l q = inIf k m a o (omega arith) e (f ∙ sym l) (q ∙ ap (λ (y : List ℕ). y ++ (x ∷ [])) (sym c))
 
   held-later : (li : ℕ) (p : List ℕ) (h i j : ℕ) → i ≤ j → ListHeld G li p h i → ListHeld G li p h j
   held-later li p h i j g (lineHeld e f) = lineHeld e f
-  held-later li p h i j g (ifHeld k m a b e f c) = ifHeld k m a (omega arith) e f c
+  held-later li p h i j g (ifHeld k m a o b e f c) = ifHeld k m a o (omega arith) e f c
 
   stmts-held : (li n : ℕ) (p : List ℕ) (h i k : ℕ) (e : Option ℕ) (s : Stmts) → ListHeld G li p h i → NodesOf G i (allocate li n p i k e s) → HeldMatch G i (allocate li n p i k e s) (stmtRecs li h k i s)
   unfolding allocate stmtRecs simpleRec condRec
@@ -195,7 +195,7 @@ module _ {G : ℕ → Option Node} where
       let y = rw f at (x .1) in
       let z = nodes-split G (suc j) (allocate li n v (suc j) 0 e a) _ (y .1) in
       let g = length-allocate li n v (suc j) 0 e a in
-      let l : ListHeld G li v (suc j) (suc j) = ifHeld j _ (y .0) (omega arith) refl refl refl in
+      let l : ListHeld G li v (suc j) (suc j) = ifHeld j _ (y .0) tt (omega arith) refl refl refl in
       held-append {j = j} (stmts-held li n p h i k (some j) s q (x .0)) (rw f refl)
       (held∷ (held-one li p h i j (k + len s) _ q (omega arith) refl refl)
       (held-append {j = suc j + size a} (stmts-held li n v (suc j) (suc j) 0 e a l (z .0)) (rw g refl)

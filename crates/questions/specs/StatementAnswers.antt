@@ -1,86 +1,36 @@
 -- The statements that are answered from the tables that `build` wrote are those of the listing. Assumes nothing.
 use Prim.Native.Nat.{ℕ, zero, suc, _+_, _*_, _-_, _≤_, _<_}
 use mathlib.Core.Path.{_≡_, refl, sym, ap, _∙_}
-use mathlib.Core.List.{List, [], _∷_, _++_}
+use mathlib.Core.List.{List, [], _∷_}
 use mathlib.Core.Logic.{inl, inr}
 use mathlib.Core.Option.{Option, none, some}
 use native.Mathlib.Omega.{arith}
 use borrow.Author.Tests.{lt-ltb, le-ltb}
 use lib.ListN.{length, getD, getElem?, replicate, length-append, length-replicate}
-use Rattle.reader.specs.Listing.{Simple, goto, gosub, return, run, runto, ongoto, ongosub, for, next, repeat, loop, until, endloop, exit, exitif, doif, else, done, clr, stop, any, CondWord, if, ifelse, rcomp, Listing}
+use Rattle.reader.specs.Listing.{Listing}
 use Rattle.reader.specs.WordTable.{wordIndex}
-use Rattle.reader.specs.CodedRows.{wordNumber, condNumber}
-use Rattle.reader.specs.FillLaws.{word-number, cond-number}
 use Rattle.reader.specs.Records.{lineRecs, recRows, padded}
-use Rattle.graph.specs.Nodes.{NodeStmt, simple, cond, Node, nodes, nodesBefore}
+use Rattle.graph.specs.Nodes.{Node, nodes, nodesBefore}
 use Rattle.graph.specs.NodeLaws.{length-nodes}
-use Rattle.graph.specs.NodeRecords.{stmtWord, stmtNumber}
+use Rattle.graph.specs.NodeRecords.{stmtNumber}
 use Rattle.graph.specs.Graph.{wire}
 use Rattle.wiring.specs.Compare.{lt-or}
 use Rattle.wiring.specs.LineEntries.{at-place}
 use Rattle.wiring.specs.Prepared.{wordOf}
-use Rattle.wiring.specs.PrintedTables.{holderOf, indexOf, lineOf, heldBy, pathIn}
-use Rattle.wiring.specs.GraphTables.{Sizes, stmtTable}
+use Rattle.wiring.specs.GraphTables.{Sizes, lineTable, stmtTable}
 use Rattle.wiring.specs.Demands.{Tables, BuildWrote, ListingOf, LongEnough, Written, NodeWritten, Demand2, demands}
 use Rattle.wiring.specs.declared.build.Built.{Built as BuiltAnswer}
-use Rattle.questions.specs.Questions.{Reply, answer, refused, nodeFrom, statementOf, askStatement, foundOr, askPath}
-use Rattle.questions.specs.StatementAt.{ifRows, nodeAt, stmtAt, onReply, nodeBack, pathStatement, nodeStatement}
-use Rattle.questions.specs.PathNodes.{one-node, node-held}
-use Rattle.questions.specs.PathAnswers.{Stands, Sought, found, missing, sought, Recorded, leads-back, stands-there, climb-is}
+use Rattle.graph.specs.Questions.{Reply, answer, refused, nodeFrom, statementOf, askStatement, foundOr, askPath}
+use Rattle.questions.specs.StatementAt.{ifRows, nodeAt, stmtAt, pathStatement, noStatement, unlessRefused, nodeStatement}
+use Rattle.questions.specs.PathAnswers.{Stands, Sought, found, missing, sought, Recorded, leads-back, stands-there, stated, recorded-by}
+use Rattle.questions.specs.Words.{word-low}
 
 -- an answer with the opening word as its number in the table of the 28
 unfoldable pub numbered : Reply (ℕ × List ℕ) → Reply (ℕ × ℕ)
 numbered (answer d) = answer (d .0, wordIndex (d .1))
 numbered (refused n p) = refused n p
 
--- ---- the words of statements are among the 28
-
-simple-low : (o : Simple) → wordNumber o ≤ 27
-unfolding wordNumber
-simple-low (goto n) = omega arith
-simple-low (gosub n) = omega arith
-simple-low return = omega arith
-simple-low run = omega arith
-simple-low (runto n) = omega arith
-simple-low (ongoto ns) = omega arith
-simple-low (ongosub ns) = omega arith
-simple-low (for v t) = omega arith
-simple-low (next m ss) = omega arith
-simple-low repeat = omega arith
-simple-low loop = omega arith
-simple-low until = omega arith
-simple-low endloop = omega arith
-simple-low exit = omega arith
-simple-low exitif = omega arith
-simple-low doif = omega arith
-simple-low else = omega arith
-simple-low done = omega arith
-simple-low clr = omega arith
-simple-low stop = omega arith
-simple-low any = omega arith
-simple-low Simple.plain = omega arith
-
-cond-low : (w : CondWord) → condNumber w ≤ 2
-unfolding condNumber
-cond-low if = omega arith
-cond-low ifelse = omega arith
-cond-low rcomp = omega arith
-
-word-low : (s : NodeStmt) → stmtNumber s ≤ 27
-unfolding stmtNumber stmtWord
-word-low (simple o) = omega (arith, word-number o, simple-low o)
-word-low (cond w a b) = omega (arith, cond-number w, cond-low w)
-
 -- ---- small laws
-
-path-short : (stmts : List ℕ) (k i : ℕ) → length (pathIn stmts k i) ≤ suc k
-unfolding pathIn
-path-short stmts zero i = omega arith
-path-short stmts (suc k) i = go (holderOf stmts i) (λ h. path-short stmts k h)
-  where
-    go : (h : ℕ) → ((j : ℕ) → length (pathIn stmts k j) ≤ suc k) → length (heldBy (λ j. pathIn stmts k j) h ++ (indexOf stmts i ∷ [])) ≤ suc (suc k)
-    go zero f = omega arith
-    go (suc h) f = omega (arith, f h, length-append (pathIn stmts k h) (indexOf stmts i ∷ []))
 
 none-past : (l : List Node) (i : ℕ) → length l ≤ i → getElem? l i ≡ none
 none-past [] i h = refl
@@ -112,8 +62,8 @@ module _ (text : List ℕ) (s : Sizes) (T : Tables) (x : BuiltAnswer) (wrote : B
   count-is = second .nodes
 
   recorded : Recorded (T .stmts) ns
-  unfolding stmtTable padded
-  recorded = record { one = one-node (L .lines); held = node-held (L .lines) (T .stmts) _ (written .stmts); lined = λ i d e. node-written i d e .line }
+  unfolding lineTable stmtTable padded
+  recorded = recorded-by (L .lines) (h .in-form .lines) (T .lines) (T .stmts) _ _ (written .lines) (written .stmts)
 
   rows : length ns * 12 ≤ length (T .stmts)
   unfolding stmtTable
@@ -152,13 +102,13 @@ module _ (text : List ℕ) (s : Sizes) (T : Tables) (x : BuiltAnswer) (wrote : B
           ap (stmtAt (T .stmts)) q ∙ stmt-is k (d .node) (d .is) ∙ ap (λ (o : ℕ). answer (o, stmtNumber (d .node .stmt))) z
       go r (missing f) = none-there f (nodeAt (T .stmts) (length ns) li 0 p) refl
 
-  by-node : (i : ℕ) → i < length ns → nodeStatement (T .counts) (T .stmts) i ≡ onReply (stmtAt (T .stmts)) (nodeBack (T .stmts) (length ns) (lineOf (T .stmts) i) 16 i)
+  by-node : (i : ℕ) → i < length ns → nodeStatement (T .counts) (T .stmts) i ≡ unlessRefused (noStatement (T .stmts) (length ns) i) (answer (i, wordOf (T .stmts) i))
   unfolding nodeStatement ifRows
   by-node i l = rw (count-is, lt-ltb i (length ns) l, le-ltb (length (T .stmts)) (length ns * 12) rows) refl
 
   -- and so is a node's statement
   pub node-answer : (i : ℕ) → nodeStatement (T .counts) (T .stmts) i ≡ numbered (askStatement L i)
-  unfolding askStatement statementOf nodes numbered nodeBack onReply nodeStatement stmtNumber
+  unfolding askStatement statementOf nodes numbered unlessRefused nodeStatement stmtNumber
   node-answer i = elim (lt-or i (length ns)) [ inl l ↦ there l | inr l ↦ past l ]
     where
       past : length ns ≤ i → nodeStatement (T .counts) (T .stmts) i ≡ numbered (askStatement L i)
@@ -167,11 +117,7 @@ module _ (text : List ℕ) (s : Sizes) (T : Tables) (x : BuiltAnswer) (wrote : B
       there : i < length ns → nodeStatement (T .counts) (T .stmts) i ≡ numbered (askStatement L i)
       there l =
           let d = at-place ns i l in
-          let w = node-written i (d .0) (d .1) in
-          let b = leads-back (T .stmts) ns recorded i (d .0) (d .1) in
-          let c = climb-is (T .stmts) ns recorded 16 i (d .0) (d .1) (omega (arith, path-short (T .stmts) 16 i, ap length (w .path))) in
           by-node i l
-          ∙ ap (λ (r : Reply (List ℕ)). onReply (stmtAt (T .stmts)) (onReply (λ p. answer (nodeAt (T .stmts) (length ns) (lineOf (T .stmts) i) 0 p)) r)) c
-          ∙ ap (λ (o : ℕ). stmtAt (T .stmts) (nodeAt (T .stmts) (length ns) o 0 (d .0 .path))) (w .line)
-          ∙ ap (stmtAt (T .stmts)) b ∙ stmt-is i (d .0) (d .1)
+          ∙ ap (λ (c : ℕ). unlessRefused c (answer (i, wordOf (T .stmts) i))) (stated (T .stmts) ns recorded i (d .0) (d .1))
+          ∙ ap (λ (w : ℕ). answer (i, w)) (node-written i (d .0) (d .1) .word)
           ∙ ap (λ (o : Option Node). numbered (statementOf i o)) (sym (d .1))

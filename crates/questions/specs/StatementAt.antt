@@ -1,16 +1,15 @@
 -- The statement at a path and the statement of a node, read from any tables. Assumes nothing.
 use Prim.Native.Nat.{ℕ, zero, suc, _*_}
-use mathlib.Core.List.{List, [], _∷_, _++_}
-use mathlib.Core.Bool.{Bool, true, false}
+use mathlib.Core.List.{List, [], _∷_}
+use mathlib.Core.Bool.{Bool, false, _||_}
 use lib.Dec.{eqb, ltb}
 use lib.ListN.{length, getD}
 use Rattle.reader.specs.Bytes.{pick}
+use Rattle.wiring.specs.Prepared.{wordOf}
 use Rattle.wiring.specs.PrintedTables.{holderOf, indexOf, lineOf}
-use Rattle.questions.specs.Questions.{Reply, answer, refused}
+use Rattle.graph.specs.Questions.{Reply, answer, refused}
 use Rattle.questions.specs.declared.statement.Stated.{Stated}
 use Rattle.questions.specs.declared.statement.Stated.the-variants as stated
-use Rattle.questions.specs.declared.statement.Located.{Located}
-use Rattle.questions.specs.declared.statement.Located.the-variants as located
 
 -- document 01's number and place for each refusal; a node and its opening word's number
 unfoldable pub statedOf : Reply (ℕ × ℕ) → Stated
@@ -21,11 +20,20 @@ statedOf (refused n p) = stated.Refused n p
 unfoldable pub ifRows : {A : Type 0} → ℕ → List ℕ → Reply A → Reply A
 ifRows n stmts r = pick (ltb (length stmts) (n * 12)) (refused 25 0) r
 
+-- `(if`, `(ifelse` and `(rcomp` alone hold statements: 2, 3 and 4 of the opening words
+unfoldable pub branchingWord : ℕ → Bool
+branchingWord w = eqb w 2 || (eqb w 3 || eqb w 4)
+
 -- ---- down a path
 
--- node i is number p of what h holds: h is one more than an IF, or 0 for the line
+-- h holds a node with line index l: h is one more than an IF, or 0 for the line
+unfoldable pub heldIn : (stmts : List ℕ) (line l h : ℕ) → Bool
+heldIn stmts line l zero = eqb l line
+heldIn stmts line l (suc j) = branchingWord (wordOf stmts j)
+
+-- node i is number p of what h holds
 unfoldable pub standsAt : (stmts : List ℕ) (line h p i : ℕ) → Bool
-standsAt stmts line h p i = pick (eqb (holderOf stmts i) h) (pick (eqb (indexOf stmts i) p) (pick (eqb h 0) (eqb (lineOf stmts i) line) true) false) false
+standsAt stmts line h p i = pick (eqb (holderOf stmts i) h) (pick (eqb (indexOf stmts i) p) (heldIn stmts line (lineOf stmts i) h) false) false
 
 -- one more than the first of the k nodes from i on that passes the test, or 0
 unfoldable pub firstFrom : (ℕ → Bool) → (k i : ℕ) → ℕ
@@ -55,35 +63,24 @@ pathStatement counts stmts line path = ifRows (getD counts 1 0) stmts (stmtAt st
 
 -- ---- "the path in a node's record"
 
-unfoldable pub onReply : {A B : Type 0} → (A → Reply B) → Reply A → Reply B
-onReply f (answer a) = f a
-onReply f (refused n p) = refused n p
+-- document 01's number if a record with that holder gives no path, else 0: up from holder to holder, at most k of them.
+-- A holder that is none of n nodes is 25, one that holds no statements 26, and so is one too many.
+unfoldable pub climb : (stmts : List ℕ) (n k holder : ℕ) → ℕ
+climb stmts n zero zero = 0
+climb stmts n zero (suc h) = pick (ltb h n) 26 25
+climb stmts n (suc k) zero = 0
+climb stmts n (suc k) (suc h) = pick (ltb h n) (pick (branchingWord (wordOf stmts h)) (climb stmts n k (holderOf stmts h)) 26) 25
 
--- by the holder h of a node with index x: f gives the path of an IF; a holder that is none of n nodes is 25
-unfoldable pub pathBy : (ℕ → Reply (List ℕ)) → (n x h : ℕ) → Reply (List ℕ)
-pathBy f n x zero = answer (x ∷ [])
-pathBy f n x (suc h) = pick (ltb h n) (onReply (λ p. answer (p ++ (x ∷ []))) (f h)) (refused 25 0)
+-- the same of node i, whose word is one of the 28; "depth 16 is accepted": so many IFs can hold a statement
+unfoldable pub noStatement : (stmts : List ℕ) (n i : ℕ) → ℕ
+noStatement stmts n i = pick (ltb 27 (wordOf stmts i)) 25 (climb stmts n 16 (holderOf stmts i))
 
--- a node's path, up by at most k holders; more is 26
-unfoldable pub climb : (stmts : List ℕ) (n k i : ℕ) → Reply (List ℕ)
-climb stmts n zero i = pathBy (λ h. refused 26 0) n (indexOf stmts i) (holderOf stmts i)
-climb stmts n (suc k) i = pathBy (λ h. climb stmts n k h) n (indexOf stmts i) (holderOf stmts i)
+-- 0 is no refusal
+unfoldable pub unlessRefused : {A : Type 0} → ℕ → Reply A → Reply A
+unlessRefused zero r = r
+unlessRefused (suc c) r = refused (suc c) 0
 
--- the node at that path: one more than its id, or 0
-unfoldable pub nodeBack : (stmts : List ℕ) (n line k i : ℕ) → Reply ℕ
-nodeBack stmts n line k i = onReply (λ p. answer (nodeAt stmts n line 0 p)) (climb stmts n k i)
-
--- "24 node id not below the node count (place: the id)"; "depth 16 is accepted": so many IFs can hold a statement
+-- "24 node id not below the node count (place: the id)"
 unfoldable pub nodeStatement : (counts stmts : List ℕ) (i : ℕ) → Reply (ℕ × ℕ)
 nodeStatement counts stmts i =
-    pick (ltb i (getD counts 1 0)) (ifRows (getD counts 1 0) stmts (onReply (stmtAt stmts) (nodeBack stmts (getD counts 1 0) (lineOf stmts i) 16 i))) (refused 24 i)
-
--- document 01's number and place for each refusal on the way
-unfoldable pub locatedOf : Reply ℕ → Located
-locatedOf (answer h) = located.At h
-locatedOf (refused n p) = located.Refused n p
-
--- from the IF found on to its number x
-unfoldable pub belowBy : (stmts : List ℕ) (n line x : ℕ) → Located → Located
-belowBy stmts n line x (located.At h) = located.At (ifFound h (λ k. childAt stmts n line k x))
-belowBy stmts n line x (located.Refused k p) = located.Refused k p
+    pick (ltb i (getD counts 1 0)) (ifRows (getD counts 1 0) stmts (unlessRefused (noStatement stmts (getD counts 1 0) i) (answer (i, wordOf stmts i)))) (refused 24 i)

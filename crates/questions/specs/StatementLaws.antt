@@ -1,4 +1,4 @@
--- Laws of the statement at a path, as code goes down a path and up by holders. Assumes nothing.
+-- Laws of the statement at a path and of a node's, as code goes down a path and up by holders. Assumes nothing.
 use Prim.Native.Nat.{ℕ, zero, suc, _+_, _*_, _-_, _<_, _≤_}
 use mathlib.Core.Path.{_≡_, refl, sym, ap, _∙_}
 use mathlib.Core.List.{List, [], _∷_, _++_}
@@ -6,16 +6,15 @@ use mathlib.Core.Bool.{Bool, true, false}
 use native.Mathlib.Omega.{arith}
 use native.Mathlib.Numerals.{add-one}
 use borrow.Author.Tests.{eq-eqb, ne-eqb, lt-ltb, le-ltb}
-use lib.Dec.{eqb, ltb}
-use lib.ListN.{length, getD, drop, length-append}
+use lib.Dec.{eqb}
+use lib.ListN.{length, getD, drop}
 use Rattle.reader.specs.Bytes.{pick}
+use Rattle.wiring.specs.Prepared.{wordOf}
 use Rattle.wiring.specs.PrintedTables.{holderOf, indexOf, lineOf}
-use Rattle.questions.specs.Questions.{Reply, answer, refused}
-use Rattle.questions.specs.StatementAt.{statedOf, locatedOf, ifRows, standsAt, firstFrom, childAt, ifFound, nodeAt, stmtAt, onReply, pathBy, climb, nodeBack, belowBy, pathStatement, nodeStatement}
+use Rattle.graph.specs.Questions.{answer}
+use Rattle.questions.specs.StatementAt.{statedOf, ifRows, branchingWord, heldIn, standsAt, firstFrom, childAt, ifFound, nodeAt, stmtAt, pathStatement, climb, noStatement, unlessRefused, nodeStatement}
 use Rattle.questions.specs.declared.statement.Stated.{Stated}
 use Rattle.questions.specs.declared.statement.Stated.the-variants as stated
-use Rattle.questions.specs.declared.statement.Located.{Located}
-use Rattle.questions.specs.declared.statement.Located.the-variants as located
 
 -- ---- where a node stands
 
@@ -28,13 +27,22 @@ module _ (stmts : List ℕ) (line h p i : ℕ) where
   unfolding standsAt
   other-index e f = rw (eq-eqb (holderOf stmts i) h e, ne-eqb (indexOf stmts i) p f)
 
-  pub under-if : holderOf stmts i ≡ h → indexOf stmts i ≡ p → (h ≡ 0 → ⊥) → true ≡ standsAt stmts line h p i
-  unfolding standsAt
-  under-if e f g = rw (eq-eqb (holderOf stmts i) h e, eq-eqb (indexOf stmts i) p f, ne-eqb h 0 g)
+  module _ (e : holderOf stmts i ≡ h) (f : indexOf stmts i ≡ p) where
+    pub on-line : h ≡ 0 → eqb (lineOf stmts i) line ≡ standsAt stmts line h p i
+    unfolding standsAt heldIn
+    on-line g = rw (eq-eqb (holderOf stmts i) h e, eq-eqb (indexOf stmts i) p f) (go h g)
+      where
+        go : (h : ℕ) → h ≡ 0 → eqb (lineOf stmts i) line ≡ heldIn stmts line (lineOf stmts i) h
+        go zero g = refl
+        go (suc j) g = absurd (omega arith)
 
-  pub on-line : holderOf stmts i ≡ h → indexOf stmts i ≡ p → h ≡ 0 → eqb (lineOf stmts i) line ≡ standsAt stmts line h p i
-  unfolding standsAt
-  on-line e f g = rw (eq-eqb (holderOf stmts i) h e, eq-eqb (indexOf stmts i) p f, eq-eqb h 0 g)
+    pub under-if : (h ≡ 0 → ⊥) → branchingWord (getD stmts ((h - 1) * 12 + 0) 0) ≡ standsAt stmts line h p i
+    unfolding standsAt heldIn wordOf
+    under-if g = rw (eq-eqb (holderOf stmts i) h e, eq-eqb (indexOf stmts i) p f) (go h g)
+      where
+        go : (h : ℕ) → (h ≡ 0 → ⊥) → branchingWord (getD stmts ((h - 1) * 12 + 0) 0) ≡ heldIn stmts line (lineOf stmts i) h
+        go zero g = absurd (g refl)
+        go (suc j) g = let q : (suc j - 1) * 12 + 0 ≡ j * 12 = omega arith in ap (λ (k : ℕ). branchingWord (getD stmts k 0)) q
 
 -- ---- the first that passes
 
@@ -72,7 +80,7 @@ if-some zero f g = absurd (g refl)
 if-some (suc r) f g = refl
 
 module _ (stmts : List ℕ) (n line : ℕ) where
-  child-le : (h p : ℕ) → childAt stmts n line h p ≤ n
+  pub child-le : (h p : ℕ) → childAt stmts n line h p ≤ n
   unfolding childAt
   child-le h p = omega (arith, first-le (standsAt stmts line h p) n 0)
 
@@ -139,14 +147,13 @@ module _ (counts stmts : List ℕ) (line : ℕ) (path : List ℕ) (n : ℕ) (e :
   unfolding pathStatement ifRows
   path-found h f g = g ∙ rw (← e, le-ltb (length stmts) (n * 12) h, ← f) refl
 
--- ---- up by the holders
+-- ---- one number more
 
 module _ (stmts : List ℕ) (n line : ℕ) where
   if-self : (c : ℕ) → ifFound c (λ k. k) ≡ c
   if-self zero = refl
   if-self (suc c) = refl
 
-  -- one number more
   pub node-snoc : (h q : ℕ) (qs : List ℕ) (x : ℕ) → nodeAt stmts n line h (q ∷ (qs ++ (x ∷ []))) ≡ ifFound (nodeAt stmts n line h (q ∷ qs)) (λ k. childAt stmts n line k x)
   unfolding nodeAt
   node-snoc h q [] x = go (childAt stmts n line h q)
@@ -161,117 +168,94 @@ module _ (stmts : List ℕ) (n line : ℕ) where
       go zero f = refl
       go (suc c) f = f (suc c)
 
-  -- a path that was read has a number
-  abbrev Some : Reply (List ℕ) → Type 0
-  Some (answer p) = 0 < length p
-  Some (refused a b) = Unit {0}
+-- ---- up by the holders
 
-  by-some : (f : ℕ → Reply (List ℕ)) (x h : ℕ) → Some (pathBy f n x h)
-  unfolding pathBy onReply
-  by-some f x zero = omega arith
-  by-some f x (suc h) = go (ltb h n) (f h)
-    where
-      go : (b : Bool) (r : Reply (List ℕ)) → Some (pick b (onReply (λ p. answer (p ++ (x ∷ []))) r) (refused 25 0))
-      go true (answer p) = simp length-append (omega arith)
-      go true (refused a b) = tt
-      go false r = tt
-
-  climb-some : (k i : ℕ) → Some (climb stmts n k i)
+module _ (stmts : List ℕ) (n k : ℕ) where
+  pub climb-end : (h : ℕ) → h ≡ 0 → climb stmts n k h ≡ 0
   unfolding climb
-  climb-some zero i = by-some (λ h. refused 26 0) (indexOf stmts i) (holderOf stmts i)
-  climb-some (suc k) i = by-some (λ h. climb stmts n k h) (indexOf stmts i) (holderOf stmts i)
+  climb-end (suc h) e = absurd (omega arith)
+  climb-end zero e = go k
+    where
+      go : (k : ℕ) → climb stmts n k 0 ≡ 0
+      go zero = refl
+      go (suc k) = refl
 
-  module _ (k i h : ℕ) (e : h ≡ holderOf stmts i) where
-    pub back-line : (r : ℕ) → h ≡ 0 → r ≡ childAt stmts n line 0 (indexOf stmts i) → located.At r ≡ locatedOf (nodeBack stmts n line k i)
-    unfolding locatedOf nodeBack climb pathBy onReply nodeAt
-    back-line r z f = go k
+  pub climb-outside : (h : ℕ) → n < h → climb stmts n k h ≡ 25
+  unfolding climb
+  climb-outside zero e = absurd (omega arith)
+  climb-outside (suc h) e = go k
+    where
+      go : (k : ℕ) → climb stmts n k (suc h) ≡ 25
+      go zero = rw (le-ltb h n (omega arith)) refl
+      go (suc k) = rw (le-ltb h n (omega arith)) refl
+
+  pub climb-deep : (h : ℕ) → (h ≡ 0 → ⊥) → h ≤ n → k ≡ 0 → climb stmts n k h ≡ 26
+  unfolding climb
+  climb-deep zero f e z = absurd (f refl)
+  climb-deep (suc h) f e z = rw (z, lt-ltb h n (omega arith)) refl
+
+  module _ (h : ℕ) (f : h ≡ 0 → ⊥) (e : h ≤ n) (z : k ≡ 0 → ⊥) where
+    step : climb stmts n k h ≡ pick (branchingWord (getD stmts ((h - 1) * 12 + 0) 0)) (climb stmts n (k - 1) (holderOf stmts (h - 1))) 26
+    unfolding climb wordOf
+    step = go k h f e z
       where
-        on : (g : ℕ → Reply (List ℕ)) → located.At r ≡ locatedOf (onReply (λ p. answer (nodeAt stmts n line 0 p)) (pathBy g n (indexOf stmts i) (holderOf stmts i)))
-        on g =
-            ap (λ (y : ℕ). located.At y) (f ∙ sym (if-self (childAt stmts n line 0 (indexOf stmts i))))
-            ∙ ap (λ (y : ℕ). locatedOf (onReply (λ p. answer (nodeAt stmts n line 0 p)) (pathBy g n (indexOf stmts i) y))) (sym z ∙ e)
-
-        go : (k : ℕ) → located.At r ≡ locatedOf (nodeBack stmts n line k i)
-        go zero = on (λ h. refused 26 0)
-        go (suc k) = on (λ h. climb stmts n k h)
-
-    pub back-outside : n < h → located.Refused 25 0 ≡ locatedOf (nodeBack stmts n line k i)
-    unfolding locatedOf nodeBack climb pathBy onReply
-    back-outside g = go k
-      where
-        on : (f : ℕ → Reply (List ℕ)) (h : ℕ) → n < h → located.Refused 25 0 ≡ locatedOf (onReply (λ p. answer (nodeAt stmts n line 0 p)) (pathBy f n (indexOf stmts i) h))
-        on f zero g = absurd (omega arith)
-        on f (suc h) g = rw (le-ltb h n (omega arith))
-
-        go : (k : ℕ) → located.Refused 25 0 ≡ locatedOf (nodeBack stmts n line k i)
-        go zero = on (λ h. refused 26 0) (holderOf stmts i) (omega (arith, e, g))
-        go (suc k) = on (λ h. climb stmts n k h) (holderOf stmts i) (omega (arith, e, g))
-
-    pub back-deep : (h ≡ 0 → ⊥) → h ≤ n → k ≡ 0 → located.Refused 26 0 ≡ locatedOf (nodeBack stmts n line k i)
-    unfolding locatedOf nodeBack climb pathBy onReply
-    back-deep f g z = rw z (on (holderOf stmts i) (λ q. f (e ∙ q)) (omega (arith, e, g)))
-      where
-        on : (h : ℕ) → (h ≡ 0 → ⊥) → h ≤ n → located.Refused 26 0 ≡ locatedOf (onReply (λ p. answer (nodeAt stmts n line 0 p)) (pathBy (λ h. refused 26 0) n (indexOf stmts i) h))
-        on zero f g = absurd (f refl)
-        on (suc h) f g = rw (lt-ltb h n (omega arith))
-
-    pub back-below : (h ≡ 0 → ⊥) → h ≤ n → (k ≡ 0 → ⊥) → belowBy stmts n line (indexOf stmts i) (locatedOf (nodeBack stmts n line (k - 1) (h - 1))) ≡ locatedOf (nodeBack stmts n line k i)
-    unfolding locatedOf nodeBack climb pathBy onReply belowBy
-    back-below f g y = go k h f g y e
-      where
-        each : (r : Reply (List ℕ)) → Some r
-            → belowBy stmts n line (indexOf stmts i) (locatedOf (onReply (λ p. answer (nodeAt stmts n line 0 p)) r))
-            ≡ locatedOf (onReply (λ p. answer (nodeAt stmts n line 0 p)) (onReply (λ p. answer (p ++ (indexOf stmts i ∷ []))) r))
-        each (answer []) s = absurd (omega arith)
-        each (answer (q ∷ qs)) s = ap (λ (z : ℕ). located.At z) (sym (node-snoc 0 q qs (indexOf stmts i)))
-        each (refused a b) s = refl
-
-        go : (k h : ℕ) → (h ≡ 0 → ⊥) → h ≤ n → (k ≡ 0 → ⊥) → h ≡ holderOf stmts i → belowBy stmts n line (indexOf stmts i) (locatedOf (nodeBack stmts n line (k - 1) (h - 1))) ≡ locatedOf (nodeBack stmts n line k i)
-        go k zero f g y e = absurd (f refl)
-        go zero (suc h) f g y e = absurd (y refl)
-        go (suc k) (suc h) f g y e =
+        go : (k h : ℕ) → (h ≡ 0 → ⊥) → h ≤ n → (k ≡ 0 → ⊥) → climb stmts n k h ≡ pick (branchingWord (getD stmts ((h - 1) * 12 + 0) 0)) (climb stmts n (k - 1) (holderOf stmts (h - 1))) 26
+        go k zero f e z = absurd (f refl)
+        go zero (suc h) f e z = absurd (z refl)
+        go (suc k) (suc h) f e z =
             let a : suc k - 1 ≡ k = omega arith in
             let b : suc h - 1 ≡ h = omega arith in
-            rw (← e, lt-ltb h n (omega arith), a, b) (each (climb stmts n k h) (climb-some k h))
+            let q : h * 12 + 0 ≡ h * 12 = omega arith in
+            rw (a, b, q, lt-ltb h n (omega arith)) refl
 
-  -- a node that was found is one of them
-  pub back-le : (k i at : ℕ) → located.At at ≡ locatedOf (nodeBack stmts n line k i) → at ≤ n
-  unfolding locatedOf nodeBack onReply
-  back-le k i at e = go (climb stmts n k i) e
-    where
-      go : (r : Reply (List ℕ)) → located.At at ≡ locatedOf (onReply (λ p. answer (nodeAt stmts n line 0 p)) r) → at ≤ n
-      go (answer p) e = let q : at ≡ nodeAt stmts n line 0 p = cc in omega (arith, q, node-le stmts n line 0 p (omega arith))
-      go (refused a b) e = let z : _≡_ {A = ℕ} 0 1 = cc in absurd (omega arith)
+    pub climb-leaf : branchingWord (getD stmts ((h - 1) * 12 + 0) 0) ≡ false → climb stmts n k h ≡ 26
+    climb-leaf g = step ∙ ap (λ (x : Bool). pick x (climb stmts n (k - 1) (holderOf stmts (h - 1))) 26) g
+
+    pub climb-on : branchingWord (getD stmts ((h - 1) * 12 + 0) 0) ≡ true → climb stmts n k h ≡ climb stmts n (k - 1) (holderOf stmts (h - 1))
+    climb-on g = step ∙ ap (λ (x : Bool). pick x (climb stmts n (k - 1) (holderOf stmts (h - 1))) 26) g
+
+module _ (stmts : List ℕ) (n i w : ℕ) (e : w ≡ getD stmts (i * 12 + 0) 0) where
+  at-start : i * 12 + 0 ≡ i * 12
+  at-start = omega arith
+
+  pub word-outside : 27 < w → 25 ≡ noStatement stmts n i
+  unfolding noStatement wordOf
+  word-outside h = let g : w ≡ getD stmts (i * 12) 0 = e ∙ ap (λ (k : ℕ). getD stmts k 0) at-start in rw (lt-ltb 27 (getD stmts (i * 12) 0) (omega (arith, g))) refl
+
+  pub word-inside : (h : ℕ) → w ≤ 27 → h ≡ holderOf stmts i → climb stmts n 16 h ≡ noStatement stmts n i
+  unfolding noStatement wordOf
+  word-inside h l f = let g : w ≡ getD stmts (i * 12) 0 = e ∙ ap (λ (k : ℕ). getD stmts k 0) at-start in rw (le-ltb 27 (getD stmts (i * 12) 0) (omega (arith, g)), f) refl
+
+-- ---- a node's statement
 
 module _ (counts stmts : List ℕ) (i n : ℕ) (e : n ≡ getD counts 1 0) where
   pub no-node : n ≤ i → stated.Refused 24 i ≡ statedOf (nodeStatement counts stmts i)
   unfolding statedOf nodeStatement
   no-node h = rw (← e, le-ltb i n h)
 
-  pub node-rows : i < n → length stmts < n * 12 → stated.Refused 25 0 ≡ statedOf (nodeStatement counts stmts i)
-  unfolding statedOf nodeStatement ifRows
-  node-rows h g = rw (← e, lt-ltb i n h, lt-ltb (length stmts) (n * 12) g)
+  module _ (h : i < n) where
+    pub node-rows : length stmts < n * 12 → stated.Refused 25 0 ≡ statedOf (nodeStatement counts stmts i)
+    unfolding statedOf nodeStatement ifRows
+    node-rows g = rw (← e, lt-ltb i n h, lt-ltb (length stmts) (n * 12) g)
 
-  module _ (line : ℕ) (h : i < n) (g : n * 12 ≤ length stmts) (l : line ≡ lineOf stmts i) where
-    back : nodeStatement counts stmts i ≡ onReply (stmtAt stmts) (nodeBack stmts n line 16 i)
-    unfolding nodeStatement ifRows
-    back = rw (← e, lt-ltb i n h, le-ltb (length stmts) (n * 12) g, l) refl
+    module _ (g : n * 12 ≤ length stmts) (c : ℕ) (f : c ≡ noStatement stmts n i) where
+      by-number : unlessRefused c (answer (i, wordOf stmts i)) ≡ nodeStatement counts stmts i
+      unfolding nodeStatement ifRows
+      by-number = rw (← e, lt-ltb i n h, le-ltb (length stmts) (n * 12) g, f) refl
 
-    pub node-found : {r : Stated} {at : ℕ} → located.At at ≡ locatedOf (nodeBack stmts n line 16 i) → r ≡ statedOf (stmtAt stmts at) → r ≡ statedOf (nodeStatement counts stmts i)
-    unfolding locatedOf onReply
-    node-found {r} {at} f q = q ∙ go (nodeBack stmts n line 16 i) f ∙ ap statedOf (sym back)
-      where
-        go : (b : Reply ℕ) → located.At at ≡ locatedOf b → statedOf (stmtAt stmts at) ≡ statedOf (onReply (stmtAt stmts) b)
-        go (answer m) f = let z : at ≡ m = cc in rw z refl
-        go (refused a b) f = let z : _≡_ {A = ℕ} 0 1 = cc in absurd (omega arith)
+      pub node-refused : (c ≡ 0 → ⊥) → stated.Refused c 0 ≡ statedOf (nodeStatement counts stmts i)
+      unfolding statedOf unlessRefused
+      node-refused z = go c z ∙ ap statedOf by-number
+        where
+          go : (c : ℕ) → (c ≡ 0 → ⊥) → stated.Refused c 0 ≡ statedOf (unlessRefused c (answer (i, wordOf stmts i)))
+          go zero z = absurd (z refl)
+          go (suc c) z = refl
 
-    pub node-refused : {a b : ℕ} → located.Refused a b ≡ locatedOf (nodeBack stmts n line 16 i) → stated.Refused a b ≡ statedOf (nodeStatement counts stmts i)
-    unfolding locatedOf onReply statedOf
-    node-refused {a} {b} f = go (nodeBack stmts n line 16 i) f ∙ ap statedOf (sym back)
-      where
-        go : (r : Reply ℕ) → located.Refused a b ≡ locatedOf r → stated.Refused a b ≡ statedOf (onReply (stmtAt stmts) r)
-        go (answer m) f = let z : _≡_ {A = ℕ} 0 1 = cc in absurd (omega arith)
-        go (refused c d) f = let x : a ≡ c = cc in let y : b ≡ d = cc in rw (x, y) refl
+      pub node-found : (w : ℕ) → c ≡ 0 → w ≡ getD stmts (i * 12 + 0) 0 → stated.Stmt i w ≡ statedOf (nodeStatement counts stmts i)
+      unfolding statedOf unlessRefused wordOf
+      node-found w z q =
+          let k : i * 12 + 0 ≡ i * 12 = omega arith in
+          ap (stated.Stmt i) (q ∙ ap (λ (j : ℕ). getD stmts j 0) k) ∙ ap (λ (j : ℕ). statedOf (unlessRefused j (answer (i, wordOf stmts i)))) (sym z) ∙ ap statedOf by-number
 
 -- ---- where the loops begin
 
@@ -281,18 +265,3 @@ first-all stmts n line h p = let q : n ≡ n - 0 = omega arith in ap (λ (k : �
 
 pub node-all : (stmts : List ℕ) (n line : ℕ) (ps : List ℕ) → nodeAt stmts n line 0 ps ≡ nodeAt stmts n line 0 (drop 0 ps)
 node-all stmts n line ps = refl
-
--- ---- from the IF found on
-
-module _ (stmts : List ℕ) (n line p h : ℕ) (x : Located) (e : x ≡ located.At h) where
-  pub below-none : h ≡ 0 → located.At 0 ≡ belowBy stmts n line p x
-  unfolding belowBy
-  below-none f = rw (e, f) refl
-
-  pub below-some : {r : ℕ} → (h ≡ 0 → ⊥) → r ≡ childAt stmts n line h p → located.At r ≡ belowBy stmts n line p x
-  unfolding belowBy
-  below-some f g = rw (e, g) (ap (λ (k : ℕ). located.At k) (sym (if-some h (λ k. childAt stmts n line k p) f)))
-
-pub below-refused : (stmts : List ℕ) (n line p a b : ℕ) (x : Located) → x ≡ located.Refused a b → located.Refused a b ≡ belowBy stmts n line p x
-unfolding belowBy
-below-refused stmts n line p a b x e = rw e refl

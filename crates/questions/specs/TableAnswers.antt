@@ -24,7 +24,7 @@ use Rattle.wiring.specs.DemandLaws.{entriesIn, graph-held, nodes-total, held-en
 use Rattle.wiring.specs.Demands.{Tables, Written, LongEnough, ListingOf, BuildWrote, demands}
 use Rattle.wiring.specs.declared.build.Built.{Built as BuiltAnswer}
 use Rattle.wiring.specs.declared.build.Built.the-variants as built
-use Rattle.questions.specs.Questions.{Reply, answer, refused, ifNode, askSuccessors, askEntry}
+use Rattle.graph.specs.Questions.{Reply, answer, refused, ifNode, askSuccessors, askPredecessors, askEntry}
 use Rattle.questions.specs.ListsAt.{listAt, successorsAt, predecessorsAt, partOf}
 use Rattle.questions.specs.ListsAtLaws.{no-node, list-found}
 use Rattle.questions.specs.EntryAt.{nodeIn, entryAt}
@@ -37,7 +37,7 @@ listReply (refused n p) table = refused n p
 -- the answers, by the tables, are those of the listing's graph
 pub record AnswersOf (L : Listing) (T : Tables) : Type 0 where
   pub successors-are : (i : ℕ) → listReply (successorsAt (T .counts) (T .lists) (length (T .succ)) i) (T .succ) ≡ askSuccessors L i
-  pub predecessors-are : (i : ℕ) → listReply (predecessorsAt (T .counts) (T .lists) (length (T .pred)) i) (T .pred) ≡ ifNode L i (answer (predecessors L i))
+  pub predecessors-are : (i : ℕ) → listReply (predecessorsAt (T .counts) (T .lists) (length (T .pred)) i) (T .pred) ≡ askPredecessors L i
   pub successor-part : (i : ℕ) → i < nodeCount L → partOf (successorsAt (T .counts) (T .lists) (length (T .succ)) i) (T .succ) ≡ successors L i
   pub predecessor-part : (i : ℕ) → i < nodeCount L → partOf (predecessorsAt (T .counts) (T .lists) (length (T .pred)) i) (T .pred) ≡ predecessors L i
   pub entry-is : (number : ℕ) → entryAt (T .counts) (T .lines) (T .entries) number ≡ askEntry L number
@@ -128,7 +128,7 @@ module _ (L : Listing) (s : Sizes) (T : Tables) (ok : InForm L) (fits : LongEnou
       ∙ node-in (nodeCount L) (entryOf (wire L .entries) number) (entry-fits (nodeCount L) (entry-ids L) number))
 
   pub answers-of : AnswersOf L T
-  unfolding successorsAt predecessorsAt askSuccessors
+  unfolding successorsAt predecessorsAt askSuccessors askPredecessors
   answers-of =
       record {
         successors-are = λ i. list-is L (T .counts) (T .lists) (T .succ) nodes-are rows i _ _ (successors L i) (succ-inside i) (held-succ held i);

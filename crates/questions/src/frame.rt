@@ -1,30 +1,28 @@
 // The frame list.
+use crate::statement::no_statement;
+use crate::successors::count_of;
 use reader::names::NameKey;
 use reader::names::is_name;
 use reader::names::key_of;
 use reader::tables::zero16;
+use wiring::calls::is_call;
 use wiring::widths::wide;
 ghost use mathlib.Core.Path.{_≡_};
 ghost use mathlib.Core.List.{[], _++_};
 ghost use Prim.Native.Nat.{_+_, _*_, _≤_, _<_};
 ghost use lib.ListN.{length, getD, drop};
 ghost use Rattle.reader.specs.Operands.{keyAnswer};
-ghost use Rattle.wiring.specs.Prepared.{callWord};
 ghost use Rattle.wiring.specs.PrintedTables.{succPart};
 ghost use Rattle.wiring.specs.Reading.{clearedBehind};
 ghost use Rattle.graph.specs.Adding.{decode};
-ghost use Rattle.questions.specs.Questions.{kept, ifRoom};
+ghost use Rattle.graph.specs.Questions.{kept, ifRoom};
 ghost use Rattle.questions.specs.FrameAt.{forgetsWord, endsFrame, keepsShared, shortTables, partOutside, fallOutside, frameOutside, frameRead, frameIn, frameAt, FrameTold};
 ghost use Rattle.questions.specs.FrameChecks.{PartInside, FrameInside};
 
 // Numbers of opening words.
-const GOSUB: u16 = 8;
-
 const RETURN: u16 = 9;
 
 const RUN: u16 = 10;
-
-const ONGOSUB: u16 = 12;
 
 const FOR: u16 = 13;
 
@@ -158,12 +156,6 @@ fn keeps_shared(word: u16, flag: bool) -> bool
     word == NEXT && flag
 }
 
-fn is_call(word: u16) -> bool
-    ensures { λ r. ⌜ r ≡ callWord word ⌝ }
-{
-    word == GOSUB || word == ONGOSUB
-}
-
 // Of the successors of a NEXT those that the header has.
 fn keep_part(lists: &[u16], succ: &[u16], header: usize, node: usize, out: &mut [u16]) -> Framed
     requires { ⌜ PartInside (now lists) (now succ) header × PartInside (now lists) (now succ) node ⌝ }
@@ -288,12 +280,6 @@ fn key_answer(k: NameKey) -> u64
     }
 }
 
-fn used(count: u32) -> usize
-    ensures { λ r. ⌜ r ≡ count ⌝ }
-{
-    count as usize
-}
-
 // Once the name is known to be one. All is decided before the first entry is written.
 fn frame_of(
     n: usize,
@@ -328,6 +314,10 @@ fn frame_of(
             place: 0,
         };
     }
+    let number = no_statement(stmts, n, node);
+    if number != 0 {
+        return Framed::Refused { number, place: 0 };
+    }
     write_frame(
         stmts,
         args,
@@ -361,7 +351,7 @@ pub fn ask_frame(
     if is_name(name) {
         let key = key_answer(key_of(name));
         return frame_of(
-            used(counts[1]),
+            count_of(counts[1]),
             stmts,
             args,
             falls,

@@ -1,4 +1,5 @@
 // The statement at a path, and a node's statement. Nothing is assumed of the tables.
+use crate::successors::count_of;
 use reader::tables::HOLDER;
 use reader::tables::INDEX;
 use reader::tables::LINE;
@@ -8,7 +9,14 @@ use wiring::widths::wide;
 ghost use mathlib.Core.Path.{_≡_};
 ghost use Prim.Native.Nat.{_+_, _*_, _≤_, _<_};
 ghost use lib.ListN.{length};
-ghost use Rattle.questions.specs.StatementAt.{statedOf, locatedOf, standsAt, childAt, nodeAt, stmtAt, nodeBack, belowBy, pathStatement, nodeStatement};
+ghost use Rattle.questions.specs.StatementAt.{statedOf, branchingWord, standsAt, childAt, nodeAt, stmtAt, pathStatement, climb as climbed, noStatement, nodeStatement};
+
+// Numbers of opening words.
+const IF: u16 = 2;
+
+const IFELSE: u16 = 3;
+
+const RCOMP: u16 = 4;
 
 // The number of the last of the 28 opening words.
 const LAST_WORD: usize = 27;
@@ -22,15 +30,16 @@ pub enum Stated {
     Refused { number: u8, place: usize },
 }
 
-// One more than the node at a node's path, or 0; or document 01's number and place if the records give no path.
-pub(crate) enum Located {
-    At { node: usize },
-    Refused { number: u8, place: usize },
+// Whether a statement with this opening word holds others.
+fn is_branching(word: u16) -> bool
+    ensures { λ r. ⌜ r ≡ branchingWord word ⌝ }
+{
+    word == IF || (word == IFELSE || word == RCOMP)
 }
 
 // Whether node i has that number under its holder, which is one more than an IF, or 0 for the line.
 fn stands_at(stmts: &[u16], i: usize, line: usize, holder: usize, index: u16) -> bool
-    requires { ⌜ i * 12 + 12 ≤ length (now stmts) ⌝ }
+    requires { ⌜ (i * 12 + 12 ≤ length (now stmts)) × (holder * 12 ≤ length (now stmts)) ⌝ }
     ensures { λ r. ⌜ r ≡ standsAt (now (stmts .entry)) line holder index i ⌝ }
 {
     let row = i * STMT_ENTRIES;
@@ -40,15 +49,15 @@ fn stands_at(stmts: &[u16], i: usize, line: usize, holder: usize, index: u16) ->
     if stmts[row + INDEX] != index {
         return false;
     }
-    if holder != 0 {
-        return true;
+    if holder == 0 {
+        return wide(stmts[row + LINE]) == line;
     }
-    wide(stmts[row + LINE]) == line
+    is_branching(stmts[(holder - 1) * STMT_ENTRIES + WORD])
 }
 
 // One more than the first of n nodes that stands there, or 0.
 fn find(stmts: &[u16], n: usize, line: usize, holder: usize, index: u16) -> usize
-    requires { ⌜ n * 12 ≤ length (now stmts) ⌝ }
+    requires { ⌜ (n * 12 ≤ length (now stmts)) × (holder ≤ n) ⌝ }
     ensures { λ r. ⌜ r ≡ childAt (now (stmts .entry)) n line holder index ⌝ }
 {
     let mut i: usize = 0;
@@ -100,17 +109,11 @@ fn state(stmts: &[u16], at: usize) -> Stated
     Stated::Stmt { node, word }
 }
 
-fn node_count(n: u32) -> usize
-    ensures { λ r. ⌜ (r ≡ n) × (r < 4294967296) ⌝ }
-{
-    n as usize
-}
-
 // The statement at a path: a line index and numbers.
 pub fn ask_path(counts: &[u32; 5], stmts: &[u16], line: usize, path: &[u16]) -> Stated
     ensures { λ r. ⌜ r ≡ statedOf (pathStatement (now (counts .entry)) (now (stmts .entry)) line (now (path .entry))) ⌝ }
 {
-    let n = node_count(counts[1]);
+    let n = count_of(counts[1]);
     if stmts.len() < n * STMT_ENTRIES {
         return Stated::Refused {
             number: 25,
@@ -120,58 +123,47 @@ pub fn ask_path(counts: &[u32; 5], stmts: &[u16], line: usize, path: &[u16]) -> 
     state(stmts, follow(stmts, n, line, path))
 }
 
-// From the IF found on to what it holds at that number.
-fn below(stmts: &[u16], n: usize, line: usize, index: u16, at: Located) -> Located
+// 0 if a record with that holder gives a path, else document 01's number. Up from holder to holder, `DEPTH` of them at most.
+fn climb(stmts: &[u16], n: usize, holder: usize) -> u8
     requires { ⌜ n * 12 ≤ length (now stmts) ⌝ }
-    ensures { λ r. ⌜ r ≡ belowBy (now (stmts .entry)) n line index at ⌝ }
+    ensures { λ r. ⌜ r ≡ climbed (now (stmts .entry)) n 16 holder ⌝ }
 {
-    match at {
-        Located::At { node } => {
-            if node == 0 {
-                return Located::At { node: 0 };
-            }
-            Located::At {
-                node: find(stmts, n, line, node, index),
-            }
+    let mut at = holder;
+    let mut left: usize = DEPTH;
+    while at != 0 {
+        if n < at {
+            return 25;
         }
-        Located::Refused { number, place } => Located::Refused { number, place },
+        if left == 0 {
+            return 26;
+        }
+        let row = (at - 1) * STMT_ENTRIES;
+        if !is_branching(stmts[row + WORD]) {
+            return 26;
+        }
+        at = wide(stmts[row + HOLDER]);
+        left -= 1;
     }
+    0
 }
 
-// The node at the path in the record of node i: by the path of the IF that holds it, and then by its own number. It goes up through `left` IFs at most.
-fn locate(stmts: &[u16], n: usize, line: usize, i: usize, left: usize) -> Located
-    requires { ⌜ (i < n) × (n * 12 ≤ length (now stmts)) ⌝ }
-    ensures { λ r. ⌜ r ≡ locatedOf (nodeBack (now (stmts .entry)) n line left i) ⌝ }
+// 0 if the record of a node has an opening word and a path, else document 01's number.
+pub(crate) fn no_statement(stmts: &[u16], n: usize, node: usize) -> u8
+    requires { ⌜ (node < n) × (n * 12 ≤ length (now stmts)) ⌝ }
+    ensures { λ r. ⌜ r ≡ noStatement (now (stmts .entry)) n node ⌝ }
 {
-    let row = i * STMT_ENTRIES;
-    let holder = wide(stmts[row + HOLDER]);
-    let index = stmts[row + INDEX];
-    if holder == 0 {
-        return Located::At {
-            node: find(stmts, n, line, 0, index),
-        };
+    let row = node * STMT_ENTRIES;
+    if LAST_WORD < wide(stmts[row + WORD]) {
+        return 25;
     }
-    if n < holder {
-        return Located::Refused {
-            number: 25,
-            place: 0,
-        };
-    }
-    if left == 0 {
-        return Located::Refused {
-            number: 26,
-            place: 0,
-        };
-    }
-    let at = locate(stmts, n, line, holder - 1, left - 1);
-    below(stmts, n, line, index, at)
+    climb(stmts, n, wide(stmts[row + HOLDER]))
 }
 
-// A node's statement: the one at the path in its record.
+// A node's statement: the node itself, if its record has a path.
 pub fn ask_statement(counts: &[u32; 5], stmts: &[u16], node: usize) -> Stated
     ensures { λ r. ⌜ r ≡ statedOf (nodeStatement (now (counts .entry)) (now (stmts .entry)) node) ⌝ }
 {
-    let n = node_count(counts[1]);
+    let n = count_of(counts[1]);
     if n <= node {
         return Stated::Refused {
             number: 24,
@@ -184,9 +176,10 @@ pub fn ask_statement(counts: &[u32; 5], stmts: &[u16], node: usize) -> Stated
             place: 0,
         };
     }
-    let line = wide(stmts[node * STMT_ENTRIES + LINE]);
-    match locate(stmts, n, line, node, DEPTH) {
-        Located::At { node: at } => state(stmts, at),
-        Located::Refused { number, place } => Stated::Refused { number, place },
+    let number = no_statement(stmts, n, node);
+    if number != 0 {
+        return Stated::Refused { number, place: 0 };
     }
+    let word = wide(stmts[node * STMT_ENTRIES + WORD]);
+    Stated::Stmt { node, word }
 }

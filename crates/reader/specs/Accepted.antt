@@ -57,7 +57,7 @@ check-true false n o t = absurd t
 abbrev moved : Reading → ℕ → Position → Reading
 moved r n p = record { handlers = r .handlers; lines = r .lines; last = r .last; lineCount = r .lineCount; stmtCount = n; position = p }
 
-first-ok : (k : CondWord) (t : BranchForm) (a : Stmts) (u : BranchForm) (b : Stmts) → BranchesOk k t a u b → BranchOk t a
+pub first-ok : (k : CondWord) (t : BranchForm) (a : Stmts) (u : BranchForm) (b : Stmts) → BranchesOk k t a u b → BranchOk t a
 unfolding BranchesOk
 first-ok if t a u b ok = ok .0
 first-ok ifelse t a u b ok = ok .0

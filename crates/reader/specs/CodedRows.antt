@@ -293,7 +293,7 @@ module _ (s : List ℕ) (e : ℕ) (found : e ≡ indexOf 32 s) where
 
 -- ---- what stands between the brackets
 
-form-false : (c : Bool) (ws : List (List ℕ)) → areWords ws ≡ false → contentOf (formRow c ws) ≡ noForm
+pub form-false : (c : Bool) (ws : List (List ℕ)) → areWords ws ≡ false → contentOf (formRow c ws) ≡ noForm
 unfolding formRow contentOf
 form-false c [] h = refl
 form-false c (w ∷ ws) h = rw h
@@ -301,7 +301,7 @@ form-false c (w ∷ ws) h = rw h
 pub form-bad : (c : Bool) (s : List ℕ) → areWords (split 32 s) ≡ false → asRow (contentOf (formRow c (split 32 s))) ≡ asRow noForm
 form-bad c s h = ap asRow (form-false c (split 32 s) h)
 
-form-true : (c : Bool) (w : List ℕ) (ws : List (List ℕ)) → areWords (w ∷ ws) ≡ true → formRow c (w ∷ ws) ≡ form c w ws
+pub form-true : (c : Bool) (w : List ℕ) (ws : List (List ℕ)) → areWords (w ∷ ws) ≡ true → formRow c (w ∷ ws) ≡ form c w ws
 unfolding formRow
 form-true c w ws h = rw h
 
@@ -332,7 +332,7 @@ unfolding rowOf contentOf
 row-empty [] h = refl
 row-empty (b ∷ l) h = absurd (omega arith)
 
-row-other : (s : List ℕ) → 0 < length s → (getD s 0 0 ≡ 40 → ⊥) → rowOf s ≡ pick (same s (41 ∷ [])) close bad
+pub row-other : (s : List ℕ) → 0 < length s → (getD s 0 0 ≡ 40 → ⊥) → rowOf s ≡ pick (same s (41 ∷ [])) close bad
 unfolding rowOf
 row-other [] h k = absurd (not-suc-le-zero h)
 row-other (b ∷ l) h k = rw (ne-eqb b 40 k)
@@ -366,7 +366,7 @@ strip-nil : stripClose [] ≡ (false, [])
 unfolding stripClose
 strip-nil = refl
 
-closed-form : (s : List ℕ) → 0 < length s → getD s 0 0 ≡ 40 → getD s (length s - 1) 0 ≡ 41 → rowOf s ≡ formRow true (split 32 (take (length s - 1 - 1) (drop 1 s)))
+pub closed-form : (s : List ℕ) → 0 < length s → getD s 0 0 ≡ 40 → getD s (length s - 1) 0 ≡ 41 → rowOf s ≡ formRow true (split 32 (take (length s - 1 - 1) (drop 1 s)))
 unfolding rowOf
 closed-form [] h k q = absurd (not-suc-le-zero h)
 closed-form (b ∷ []) h k q = absurd (let z : _≡_ {A = ℕ} 40 41 = cc in omega arith)
@@ -376,7 +376,7 @@ closed-form (b ∷ c ∷ l) h k q =
     let u : stripClose (c ∷ l) ≡ (true, take (length l) (c ∷ l)) = strip-closed (c ∷ l) (length l) refl (ap (λ (z : ℕ). getD (b ∷ c ∷ l) z 0) (sym m) ∙ q) in
     rw (eq-eqb b 40 k, u, n)
 
-opened-form : (s : List ℕ) → 0 < length s → getD s 0 0 ≡ 40 → (getD s (length s - 1) 0 ≡ 41 → ⊥) → rowOf s ≡ formRow false (split 32 (take (length s - 1) (drop 1 s)))
+pub opened-form : (s : List ℕ) → 0 < length s → getD s 0 0 ≡ 40 → (getD s (length s - 1) 0 ≡ 41 → ⊥) → rowOf s ≡ formRow false (split 32 (take (length s - 1) (drop 1 s)))
 unfolding rowOf
 opened-form [] h k q = absurd (not-suc-le-zero h)
 opened-form (b ∷ []) h k q = let u : stripClose [] ≡ (false, []) = strip-nil in rw (eq-eqb b 40 k, u)

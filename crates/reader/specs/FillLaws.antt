@@ -99,12 +99,6 @@ unfolding firstLen branchesLen branched
 branch-index none u a = omega arith
 branch-index (some b) u a = refl
 
-cond-le : (k : CondWord) → condNumber k ≤ 2
-unfolding condNumber
-cond-le if = omega arith
-cond-le ifelse = omega arith
-cond-le rcomp = omega arith
-
 code-first : (o : Option (BranchForm × Stmts)) (k x : ℕ) → eqb ((k * 2 + firstCode o + 8 * x) % 2) 1 ≡ isSome o
 unfolding firstCode
 code-first none k x = ne-eqb ((k * 2 + 0 + 8 * x) % 2) 1 (λ e. omega arith)

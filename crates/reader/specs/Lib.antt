@@ -4,6 +4,7 @@ pub mod Rows
 pub mod Read
 pub mod ListingText
 pub mod WordTable
+pub mod WordSlots
 pub mod Every
 pub mod NumberText
 pub mod WordText

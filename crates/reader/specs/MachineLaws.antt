@@ -21,7 +21,7 @@ use Rattle.reader.specs.declared.machine.Step.the-variants.{Taken, Refus
 
 -- ---- the packed IFs
 
-cond-le : (k : CondWord) → condNumber k ≤ 2
+pub cond-le : (k : CondWord) → condNumber k ≤ 2
 unfolding condNumber
 cond-le if = omega arith
 cond-le ifelse = omega arith

@@ -17,17 +17,14 @@ use Rattle.reader.specs.NumberText.{not-both, both-true, either-true, di
 use Rattle.reader.specs.Scan.{all-at}
 use Rattle.reader.specs.declared.names.NameKey.{NameKey}
 use Rattle.reader.specs.declared.names.NameKey.the-variants.{NoName, Key}
-
--- a name's bytes less 32 as digits to the base 64, the first byte lowest
-unfoldable pub encode : List ℕ → ℕ
-encode [] = 0
-encode (b ∷ l) = (b - 32) + 64 * encode l
+use Rattle.reader.specs.WordText.{capital-range, same-nil}
+use Rattle.reader.specs.Records.{nameKey}
 
 -- the code's answer for what was read
 abbrev pub asKey : Parse (List ℕ) → NameKey
 asKey malformed = NoName
 asKey invalid = NoName
-asKey (parsed w) = Key (encode w)
+asKey (parsed w) = Key (nameKey w)
 
 pub name-invalid : (w : List ℕ) → isName w ≡ false → parseName w ≡ invalid
 unfolding parseName
@@ -94,15 +91,6 @@ key-range : (b : ℕ) → inKey b ≡ true → (33 ≤ b) × (b ≤ 95)
 unfolding inKey
 key-range b h = let p = both-true (leb 33 b) (leb b 95) h in (leb-true 33 b (p .0), leb-true b 95 (p .1))
 
-capital-range : (b : ℕ) → isCapital b ≡ true → (65 ≤ b) × (b ≤ 90)
-unfolding isCapital
-capital-range b h = let p = both-true (leb 65 b) (leb b 90) h in (leb-true 65 b (p .0), leb-true b 90 (p .1))
-
-same-empty : (l : List ℕ) → same l [] ≡ true → l ≡ []
-unfolding same
-same-empty [] h = refl
-same-empty (b ∷ l) h = absurd (not-both (sym h))
-
 -- a name's end of at most k letters and a suffix
 record Ending (k : ℕ) (l : List ℕ) : Type 0 where
   short : length l ≤ suc k
@@ -112,7 +100,7 @@ suffix-ends : (k b : ℕ) (l : List ℕ) → isSuffix b l ≡ true → Ending k 
 unfolding all
 suffix-ends k b l h =
     let p = both-true (eqb b 37 || eqb b 36) (same l []) h in
-    let e : l ≡ [] = same-empty l (p .1) in
+    let e : l ≡ [] = same-nil l (p .1) in
     let g : inKey b ≡ true =
     ⊎-elim (λ x. in-key b (omega (arith, eqb-true b 37 x)) (omega (arith, eqb-true b 37 x))) (λ x. in-key b (omega (arith, eqb-true b 36 x)) (omega (arith, eqb-true b 36 x)))
     (either-true (eqb b 37) (eqb b 36) (p .0)) in
@@ -156,13 +144,13 @@ power : ℕ → ℕ
 power zero = 1
 power (suc n) = 64 * power n
 
-encode-below : (l : List ℕ) → all inKey l ≡ true → encode l < power (length l)
-unfolding encode power all
-encode-below [] h = omega arith
-encode-below (b ∷ l) h =
+key-below : (l : List ℕ) → all inKey l ≡ true → nameKey l < power (length l)
+unfolding nameKey power all
+key-below [] h = omega arith
+key-below (b ∷ l) h =
     let p = both-true (inKey b) (all inKey l) h in
     let q = key-range b (p .0) in
-    omega (arith, encode-below l (p .1))
+    omega (arith, key-below l (p .1))
 
 power-le : (n m : ℕ) → n ≤ m → power n ≤ power m
 unfolding power
@@ -180,42 +168,37 @@ tail-bytes (b ∷ l) zero h = h
 tail-bytes (b ∷ l) (suc i) h = tail-bytes l i (both-true (inKey b) (all inKey l) h .1)
 
 -- of what follows a position that is not the first: below 2^48
-pub rest-below : (w : List ℕ) (i : ℕ) → isName w ≡ true → 0 < i → encode (drop i w) < 281474976710656
+pub rest-below : (w : List ℕ) (i : ℕ) → isName w ≡ true → 0 < i → nameKey (drop i w) < 281474976710656
 unfolding power
 rest-below w i h p =
     let c : power (length (drop i w)) ≤ power 8 = power-le (length (drop i w)) 8 (omega (arith, name-short w h, length-drop i w)) in
-    omega (arith, encode-below (drop i w) (tail-bytes w i (name-bytes w h)))
+    omega (arith, key-below (drop i w) (tail-bytes w i (name-bytes w h)))
 
--- below 2^54
-pub key-below : (w : List ℕ) → isName w ≡ true → encode w < 18014398509481984
-unfolding power
-key-below w h = omega (arith, encode-below w (name-bytes w h), power-le (length w) 9 (name-short w h))
-
-pub encode-next : (w : List ℕ) (i : ℕ) → i < length w → encode (drop i w) ≡ (getD w i 0 - 32) + 64 * encode (drop (suc i) w)
-unfolding encode
-encode-next w i h = rw (drop-cons w i 0 h)
+pub key-next : (w : List ℕ) (i : ℕ) → i < length w → nameKey (drop i w) ≡ (getD w i 0 - 32) + 64 * nameKey (drop (suc i) w)
+unfolding nameKey
+key-next w i h = rw (drop-cons w i 0 h)
 
 -- ---- the key is that of one name, and never 0
 
-encode-injective : (v w : List ℕ) → all inKey v ≡ true → all inKey w ≡ true → encode v ≡ encode w → v ≡ w
-unfolding encode all
-encode-injective [] [] g h e = refl
-encode-injective [] (b ∷ w) g h e = absurd (omega (arith, key-range b (both-true (inKey b) (all inKey w) h .0)))
-encode-injective (a ∷ v) [] g h e = absurd (omega (arith, key-range a (both-true (inKey a) (all inKey v) g .0)))
-encode-injective (a ∷ v) (b ∷ w) g h e =
+keys-injective : (v w : List ℕ) → all inKey v ≡ true → all inKey w ≡ true → nameKey v ≡ nameKey w → v ≡ w
+unfolding nameKey all
+keys-injective [] [] g h e = refl
+keys-injective [] (b ∷ w) g h e = absurd (omega (arith, key-range b (both-true (inKey b) (all inKey w) h .0)))
+keys-injective (a ∷ v) [] g h e = absurd (omega (arith, key-range a (both-true (inKey a) (all inKey v) g .0)))
+keys-injective (a ∷ v) (b ∷ w) g h e =
     let p = both-true (inKey a) (all inKey v) g in
     let q = both-true (inKey b) (all inKey w) h in
     let x = key-range a (p .0) in
     let y = key-range b (q .0) in
     let n : a ≡ b = omega arith in
-    let m : v ≡ w = encode-injective v w (p .1) (q .1) (omega arith) in
+    let m : v ≡ w = keys-injective v w (p .1) (q .1) (omega arith) in
     cc
 
 -- "Names are compared whole, with their kind": by their keys
-pub key-injective : (v w : List ℕ) → isName v ≡ true → isName w ≡ true → encode v ≡ encode w → v ≡ w
-key-injective v w g h e = encode-injective v w (name-bytes v g) (name-bytes w h) e
+pub key-injective : (v w : List ℕ) → isName v ≡ true → isName w ≡ true → nameKey v ≡ nameKey w → v ≡ w
+key-injective v w g h e = keys-injective v w (name-bytes v g) (name-bytes w h) e
 
-pub key-not-zero : (w : List ℕ) → isName w ≡ true → 0 < encode w
-unfolding isName encode
+pub key-not-zero : (w : List ℕ) → isName w ≡ true → 0 < nameKey w
+unfolding isName nameKey
 key-not-zero [] h = absurd (not-both (sym h))
 key-not-zero (b ∷ l) h = omega (arith, capital-range b (both-true (isCapital b) (nameEnd 7 l) h .0))

@@ -1,9 +1,9 @@
 -- The arguments of a statement's row, word by word, as they are written. Assumes nothing.
 use mathlib.Core.Path.{_≡_, refl, sym, ap, _∙_, subst}
 use mathlib.Core.Bool.{Bool, true, false}
-use mathlib.Core.List.{List, [], _∷_, _++_, map, append-assoc, append-nil}
+use mathlib.Core.List.{List, [], _∷_, _++_, map, append-assoc}
 use mathlib.Core.Option.{none, some}
-use Prim.Native.Nat.{ℕ, suc, _+_, _*_, _-_, _≤_, _<_}
+use Prim.Native.Nat.{ℕ, suc, _+_, _-_, _≤_, _<_}
 use native.Mathlib.Nat.{not-suc-le-zero}
 use native.Mathlib.Numerals.{add-one}
 use native.Mathlib.Omega.{arith}
@@ -18,12 +18,12 @@ use Rattle.reader.specs.ListingText.{spacedWords, closedForm, simpleWord
 use Rattle.reader.specs.WordTable.{words, forms, first, wordIndex, kind, kindOf, kindAt}
 use Rattle.reader.specs.NumberText.{number-text}
 use Rattle.reader.specs.WordText.{inWord, isToken, areTokens, token-lacks, tokens-lack, decimal-token, decimals-tokens, name-token, name-text, slots-tokens, tier-token, mark-token}
-use Rattle.reader.specs.RowForms.{join, split-join, join-split}
+use Rattle.reader.specs.RowForms.{join, split-join, join-split, join-words}
 use Rattle.reader.specs.RowText.{row-simple}
 use Rattle.reader.specs.NumberText.{both-true}
 use Rattle.reader.specs.Scan.{indexOf, after, split-some, split-alone, split-first}
 use Rattle.reader.specs.Numbers.{asNumber}
-use Rattle.reader.specs.Names.{asKey, encode}
+use Rattle.reader.specs.Names.{asKey}
 use Rattle.reader.specs.Records.{nameKey, slotKey, argsOf, tierNumber, markNumber, detailOf}
 use Rattle.reader.specs.declared.operands.Given.{Given}
 use Rattle.reader.specs.declared.numbers.ParsedNumber.{ParsedNumber}
@@ -85,11 +85,6 @@ pub record Put (es : List ℕ) (d : ℕ) (t t′ : List ℕ) (r : Given) : Type 
 
 -- ---- laws for the code
 
-pub encode-key : (w : List ℕ) → encode w ≡ nameKey w
-unfolding encode nameKey
-encode-key [] = refl
-encode-key (b ∷ w) = ap (λ (n : ℕ). (b - 32) + 64 * n) (encode-key w)
-
 abbrev pub numberAnswer : ParsedNumber → ℕ
 numberAnswer Malformed = 0
 numberAnswer Invalid = 0
@@ -109,7 +104,7 @@ pub key-answer : (p : Parse Name) → keyAnswer (asKey p) ≡ keyEntry p
 unfolding keyEntry
 key-answer malformed = refl
 key-answer invalid = refl
-key-answer (parsed v) = encode-key v
+key-answer (parsed v) = refl
 
 -- the loop over the words: n entries are written, the rest of the text gives the others
 pub record Filling (f : List ℕ → ℕ) (s t₀ t : List ℕ) (at n : ℕ) : Type 0 where
@@ -379,11 +374,6 @@ args-short any h = omega arith
 args-short Simple.plain h = omega arith
 
 -- ---- a statement's row without its brackets
-
-join-words : (w : List ℕ) (ws : List (List ℕ)) → join 32 (w ∷ ws) ≡ w ++ spacedWords ws
-unfolding join spacedWords
-join-words w [] = sym (append-nil w)
-join-words w (v ∷ ws) = ap (λ (z : List ℕ). w ++ (32 ∷ z)) (join-words v ws)
 
 simple-tokens : (o : Simple) → SimpleOk o → areTokens (simpleWord o ∷ simpleArgs o) ≡ true
 unfolding simpleWord simpleArgs SimpleOk areTokens isToken all inWord bytes

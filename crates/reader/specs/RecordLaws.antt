@@ -28,7 +28,7 @@ module _ {A : Type 0} (w : ℕ) (row : A → List ℕ) (rows : List A → List �
   rows-length [] = rw rows-none (omega arith)
   rows-length (a ∷ l) = rw (rows-more a l, length-append, width a, rows-length l) (omega arith)
 
-rec-width : (r : Rec) → _≡_ {A = ℕ} (length (recRow r)) 12
+pub rec-width : (r : Rec) → _≡_ {A = ℕ} (length (recRow r)) 12
 unfolding recRow
 rec-width r = refl
 

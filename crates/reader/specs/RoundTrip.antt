@@ -14,8 +14,9 @@ use Rattle.reader.specs.ListingText.{listingRows, textOf, listingText, L
 use Rattle.reader.specs.RowForms.{split-text, text-split}
 use Rattle.reader.specs.RowText.{content-text}
 use Rattle.reader.specs.Accepted.{steps-plain, steps-read, listing-steps}
-use Rattle.reader.specs.Shown.{positionRows, shown, positionSize, openLines, PositionOk, Good, Next}
+use Rattle.reader.specs.Shown.{positionRows, shown, positionSize, openLines, Good, Next}
 use Rattle.reader.specs.ShownLaws.{row-next}
+use Rattle.reader.specs.Judge.{good-start}
 
 pick-true : {A : Type 0} (b : Bool) (x y : A) → T b → pick b x y ≡ x
 pick-true true x y t = refl
@@ -46,10 +47,6 @@ more-read : (vs us ps : List (List ℕ)) (w : List ℕ) (a : Answer) → us ≡ 
 unfolding Answered
 more-read vs us ps w (listing L) e x = (x .0, (w ∷ x .1 .0, ap (λ (l : List (List ℕ)). w ∷ l) (x .1 .1), sym (append-assoc vs (w ∷ []) (x .1 .0)) ∙ sym (ap (λ (l : List (List ℕ)). l ++ x .1 .0) e) ∙ x .1 .2))
 more-read vs us ps w (refusal n i) e x = tt
-
-good-start : Good start (start .position)
-unfolding start openLines positionSize PositionOk LinesOk total count
-good-start = record { lines = tt; lineSum = refl; lineMost = omega arith; stmtSum = refl; stmtMost = omega arith; place = (refl, refl) }
 
 pub in-form-accepted : (L : Listing) → InForm L → read (listingText L) ≡ listing L
 unfolding read listingText

@@ -84,7 +84,7 @@ text-split t rs e = sym (join-split 10 t) ∙ ap (join 10) e ∙ join-text rs
 
 -- ---- the words of a form
 
-join-words : (w : List ℕ) (ws : List (List ℕ)) → join 32 (w ∷ ws) ≡ w ++ spacedWords ws
+pub join-words : (w : List ℕ) (ws : List (List ℕ)) → join 32 (w ∷ ws) ≡ w ++ spacedWords ws
 unfolding join spacedWords
 join-words w [] = sym (append-nil w)
 join-words w (v ∷ ws) = ap (λ (z : List ℕ). w ++ (32 ∷ z)) (join-words v ws)

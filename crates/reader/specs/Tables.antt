@@ -99,7 +99,7 @@ unfolding recRow
 rec-wide [] = all[]
 rec-wide (r ∷ rs) = all∷ refl (rec-wide rs)
 
-set-past : (a l : List ℕ) (j v : ℕ) → set (a ++ l) (length a + j) v ≡ a ++ set l j v
+pub set-past : (a l : List ℕ) (j v : ℕ) → set (a ++ l) (length a + j) v ≡ a ++ set l j v
 set-past [] l j v = ap (λ (n : ℕ). set l n v) (omega arith)
 set-past (x ∷ a) l j v = let e : length (x ∷ a) + j ≡ suc (length a + j) = omega arith in ap (λ (n : ℕ). set (x ∷ (a ++ l)) n v) e ∙ ap (λ (z : List ℕ). x ∷ z) (set-past a l j v)
 

@@ -1,17 +1,18 @@
 -- The table of opening words by number: which word a text is, and the kind of form that it opens. Assumes nothing.
 use mathlib.Core.Path.{_≡_, refl, sym, ap, _∙_}
-use mathlib.Core.Bool.{Bool, true, false, _&&_}
+use mathlib.Core.Bool.{Bool, true, false, _&&_, and-false}
 use mathlib.Core.List.{List, [], _∷_, _++_, map}
 use mathlib.Core.Option.{Option, none, some}
 use Prim.Native.Nat.{ℕ, zero, suc, _+_, _-_, _≤_, _<_}
 use native.Mathlib.Nat.{not-suc-le-zero, le-of-suc-le-suc}
 use native.Mathlib.Omega.{arith}
 use lib.Dec.{eqb, leb}
-use lib.ListN.{length, getD, drop, replicate, getElem?, drop-of-length-le}
+use lib.ListN.{length, getD, drop, replicate, getElem?, drop-of-length-le, List·getD-eq-default, List·getD-map}
 use lib.Seq.{drop-cons}
 use borrow.Author.Tests.{eq-eqb, ne-eqb, leb-true}
 use Rattle.reader.specs.Bytes.{same, pick, bytes}
 use Rattle.reader.specs.Rows.{Row, form, Form, moduleForm, lineForm, toForm, stmtsForm, runForm, forForm, nextForm, condForm, bareForm, numberForm, numbersForm, openingWords, lookup, Content, wordContent, contentOf}
+use Rattle.reader.specs.NumberText.{both-true}
 
 unfoldable pub words : List (List ℕ)
 unfolding openingWords bytes
@@ -90,23 +91,19 @@ pub same-end : (a w : List ℕ) (j : ℕ) → length a ≤ j → length w ≤ j 
 unfolding same
 same-end a w j h k = rw (drop-of-length-le a h, drop-of-length-le w k)
 
-and-no : (t : Bool) → (t && false) ≡ false
-and-no true = refl
-and-no false = refl
-
 pub same-lengths : (a w : List ℕ) → (length a ≡ length w → ⊥) → same a w ≡ false
 unfolding same
 same-lengths [] [] h = absurd (h refl)
 same-lengths [] (b ∷ w) h = refl
 same-lengths (a ∷ k) [] h = refl
-same-lengths (a ∷ k) (b ∷ w) h = rw (same-lengths k w (λ e. h (ap suc e))) (and-no (eqb a b))
+same-lengths (a ∷ k) (b ∷ w) h = rw (same-lengths k w (λ e. h (ap suc e))) (and-false (eqb a b))
 
 -- ---- rows padded with zeros
 
 abbrev pub pad : List ℕ → List ℕ
 pad w = w ++ replicate (8 - length w) 0
 
-zeros : (n j : ℕ) → _≡_ {A = ℕ} (getD (replicate n 0) j 0) 0
+pub zeros : (n j : ℕ) → _≡_ {A = ℕ} (getD (replicate n 0) j 0) 0
 zeros zero zero = refl
 zeros zero (suc j) = refl
 zeros (suc n) zero = refl
@@ -123,21 +120,22 @@ row-letter [] i j h = absurd (not-suc-le-zero h)
 row-letter (w ∷ ws) zero j h = padded w (8 - length w) j
 row-letter (w ∷ ws) (suc i) j h = row-letter ws i j (le-of-suc-le-suc h)
 
+-- of a row that was fetched
+pub row-at-letter : (i j : ℕ) → i < 28 → (row : List ℕ) → row ≡ getD (map pad words) i [] → getD row j 0 ≡ getD (getD words i []) j 0
+unfolding words openingWords
+row-at-letter i j h row e = ap (λ (r : List ℕ). getD r j 0) e ∙ row-letter words i j h
+
 -- ---- a table's rule from a test over the whole table
 
 abbrev pub allLe : ℕ → List ℕ → Bool
 allLe m [] = true
 allLe m (x ∷ xs) = leb x m && allLe m xs
 
-both : (x y : Bool) → (x && y) ≡ true → (x ≡ true) × (y ≡ true)
-both true y e = (refl, e)
-both false y e = absurd (let z : _≡_ {A = ℕ} 0 1 = cc in omega arith)
-
 pub all-le : (m : ℕ) (xs : List ℕ) → allLe m xs ≡ true → (i : ℕ) → getD xs i 0 ≤ m
 all-le m [] h zero = omega arith
 all-le m [] h (suc i) = omega arith
-all-le m (x ∷ xs) h zero = leb-true x m (both (leb x m) (allLe m xs) h .0)
-all-le m (x ∷ xs) h (suc i) = all-le m xs (both (leb x m) (allLe m xs) h .1) i
+all-le m (x ∷ xs) h zero = leb-true x m (both-true (leb x m) (allLe m xs) h .0)
+all-le m (x ∷ xs) h (suc i) = all-le m xs (both-true (leb x m) (allLe m xs) h .1) i
 
 pub kind-row : (hs : List Form) (k : ℕ) → k < length hs → getD (map kind hs) k 0 ≡ kindOf (getElem? hs k)
 unfolding kindOf
@@ -151,3 +149,14 @@ kind-none [] zero h = refl
 kind-none [] (suc k) h = refl
 kind-none (h ∷ hs) zero q = absurd (omega arith)
 kind-none (h ∷ hs) (suc k) q = kind-none hs k (le-of-suc-le-suc q)
+
+-- ---- past the table
+
+pub no-word : (k : ℕ) → 28 ≤ k → _≡_ {A = List ℕ} [] (getD words k [])
+unfolding words openingWords bytes
+no-word k h = sym (List·getD-eq-default words [] h)
+
+pub no-letter : (k j : ℕ) → 8 ≤ j → _≡_ {A = ℕ} 0 (getD (getD words k []) j 0)
+unfolding words openingWords bytes
+no-letter k j h =
+    sym (List·getD-eq-default (getD words k []) 0 (omega (arith, List·getD-map length words k [], all-le 8 (map length words) refl k)))

@@ -84,14 +84,14 @@ decimals-tokens (n ∷ ns) = rw (decimal-token n) (decimals-tokens ns)
 
 -- ---- names
 
-capital-range : (b : ℕ) → isCapital b ≡ true → (65 ≤ b) × (b ≤ 90)
+pub capital-range : (b : ℕ) → isCapital b ≡ true → (65 ≤ b) × (b ≤ 90)
 unfolding isCapital
 capital-range b h = let p = both-true (leb 65 b) (leb b 90) h in (leb-true 65 b (p .0), leb-true b 90 (p .1))
 
 capital-in-word : (c : ℕ) → isCapital c ≡ true → inWord c ≡ true
 capital-in-word c h = let r = capital-range c h in in-word c (omega arith)
 
-same-nil : (l : List ℕ) → same l [] ≡ true → l ≡ []
+pub same-nil : (l : List ℕ) → same l [] ≡ true → l ≡ []
 unfolding same
 same-nil [] h = refl
 same-nil (b ∷ l) h = absurd (not-both (sym h))

@@ -16,9 +16,9 @@ ghost use Rattle.reader.specs.Numbers.{asNumber};
 ghost use Rattle.reader.specs.Arguments.{severityOf, severityBy, numberSeverity, worst, worstOf, argCheck, checkFor, checkNext, checkKind};
 
 // severity: 0 nothing is wrong, 1 a bad number or name (refusal 3), 2 no form (refusal 2).
-pub(crate) struct ArgCheck {
-    pub(crate) severity: u8,
-    pub(crate) count: usize,
+pub struct ArgCheck {
+    pub severity: u8,
+    pub count: usize,
 }
 
 // Whether a piece of a row is a word: not empty, no bracket.
@@ -43,7 +43,7 @@ fn is_word(w: &[u8]) -> bool
 }
 
 // Whether all pieces between spaces are words.
-pub(crate) fn are_words(s: &[u8]) -> bool
+pub fn are_words(s: &[u8]) -> bool
     ensures { λ r. ⌜ r ≡ areWords (split 32 (now (s .entry))) ⌝ }
 {
     let mut at: usize = 0;
@@ -130,7 +130,7 @@ fn worse(a: u8, b: u8) -> u8
 }
 
 // All words are judged, those past the 64th too: a later word may be worse.
-fn check_all(s: &[u8], slots: bool) -> ArgCheck
+pub fn check_all(s: &[u8], slots: bool) -> ArgCheck
     ensures { λ r. ⌜ r ≡ argCheck (worstOf (severityBy slots) (split 32 (now (s .entry)))) (length (split 32 (now (s .entry)))) ⌝ }
 {
     let mut at: usize = 0;
@@ -152,7 +152,7 @@ fn check_all(s: &[u8], slots: bool) -> ArgCheck
 }
 
 // The one word of s as a number.
-pub(crate) fn single_number(s: &[u8]) -> ParsedNumber
+pub fn single_number(s: &[u8]) -> ParsedNumber
     ensures { λ r. ⌜ r ≡ asNumber (single (split 32 (now (s .entry)))) ⌝ }
 {
     if find(s, 32) < s.len() {

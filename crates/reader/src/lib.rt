@@ -1,5 +1,5 @@
 // The reader: a text in bracket form to the records of its listing.
-mod arguments;
+pub mod arguments;
 mod fill;
 pub mod judge;
 pub mod listing;
@@ -8,6 +8,6 @@ pub mod names;
 pub mod numbers;
 pub mod operands;
 pub mod rows;
-mod scan;
+pub mod scan;
 pub mod tables;
 pub mod words;

@@ -6,7 +6,7 @@ ghost use Rattle.reader.specs.Bytes.{same};
 ghost use Rattle.reader.specs.Scan.{indexOf};
 
 // How many bytes stand before the first b, all of them where there is none.
-pub(crate) fn find(s: &[u8], b: u8) -> usize
+pub fn find(s: &[u8], b: u8) -> usize
     ensures { λ r. ⌜ (r ≡ indexOf b (now (s .entry))) × (r ≤ length (now (s .entry))) ⌝ }
 {
     let mut i: usize = 0;
@@ -19,7 +19,7 @@ pub(crate) fn find(s: &[u8], b: u8) -> usize
     i
 }
 
-pub(crate) fn equal(a: &[u8], w: &[u8]) -> bool
+pub fn equal(a: &[u8], w: &[u8]) -> bool
     ensures { λ r. ⌜ r ≡ same (now (a .entry)) (now (w .entry)) ⌝ }
 {
     if a.len() != w.len() {

@@ -1,10 +1,11 @@
 // The 28 opening words in one constant table: fixed byte rows with lengths.
 ghost use mathlib.Core.Path.{_≡_};
-ghost use mathlib.Core.List.{[]};
+ghost use mathlib.Core.List.{[], map};
 ghost use Prim.Native.Nat.{_≤_, _<_};
 ghost use lib.ListN.{length, getD};
 ghost use Rattle.reader.specs.Bytes.{same};
-ghost use Rattle.reader.specs.WordTable.{words, wordIndex, kindAt};
+ghost use Rattle.reader.specs.WordTable.{words, wordIndex, pad, kindAt};
+ghost use Rattle.reader.specs.WordSlots.{candidateOf};
 
 const WORDS: [[u8; 8]; 28] = [
     [109, 111, 100, 117, 108, 101, 0, 0],
@@ -37,7 +38,7 @@ const WORDS: [[u8; 8]; 28] = [
     [112, 108, 97, 105, 110, 0, 0, 0],
 ];
 
-const LENGTHS: [usize; 28] = [
+const LENGTHS: [u8; 28] = [
     6,
     4,
     2,
@@ -66,6 +67,74 @@ const LENGTHS: [usize; 28] = [
     4,
     3,
     5,
+];
+
+// For each slot the number of the opening word that has it, or 0.
+const SLOTS: [u8; 64] = [
+    0,
+    0,
+    17,
+    0,
+    0,
+    0,
+    11,
+    0,
+    0,
+    0,
+    0,
+    23,
+    22,
+    0,
+    8,
+    26,
+    16,
+    0,
+    0,
+    1,
+    0,
+    0,
+    0,
+    25,
+    18,
+    0,
+    3,
+    4,
+    0,
+    2,
+    0,
+    0,
+    12,
+    6,
+    21,
+    10,
+    0,
+    19,
+    0,
+    0,
+    0,
+    0,
+    0,
+    27,
+    0,
+    20,
+    14,
+    0,
+    24,
+    0,
+    9,
+    13,
+    7,
+    0,
+    0,
+    5,
+    0,
+    0,
+    0,
+    0,
+    15,
+    0,
+    0,
+    0,
 ];
 
 // The kinds of forms, by their opening words.
@@ -122,19 +191,49 @@ const KINDS: [u8; 28] = [
     5,
 ];
 
-// The letter j of opening word i, 0 past its end.
-fn letter(i: usize, j: usize) -> u8
-    requires { ⌜ (i < 28) × (j < 8) ⌝ }
-    ensures { λ r. ⌜ r ≡ getD (getD words i []) j 0 ⌝ }
+fn wide_byte(x: u8) -> usize
+    ensures { λ r. ⌜ (r ≡ x) × (r < 256) ⌝ }
 {
-    WORDS[i][j]
+    x as usize
+}
+
+// Opening word i with zeros past its end. The back end makes a constant array anew wherever one is indexed, so a row is fetched once.
+fn row_at(i: usize) -> [u8; 8]
+    requires { ⌜ i < 28 ⌝ }
+    ensures { λ r. ⌜ r ≡ getD (map pad words) i [] ⌝ }
+{
+    WORDS[i]
 }
 
 fn length_of(i: usize) -> usize
     requires { ⌜ i < 28 ⌝ }
     ensures { λ r. ⌜ (r ≡ length (getD words i [])) × (r ≤ 8) ⌝ }
 {
-    LENGTHS[i]
+    wide_byte(LENGTHS[i])
+}
+
+// The length of opening word k, 0 where there is no such word.
+pub fn word_length(k: usize) -> usize
+    ensures { λ r. ⌜ r ≡ length (getD words k []) ⌝ }
+{
+    if k < 28 {
+        return length_of(k);
+    }
+    0
+}
+
+// The letter j of opening word k, 0 past its end and where there is no such word.
+pub fn word_letter(k: usize, j: usize) -> u8
+    ensures { λ r. ⌜ r ≡ getD (getD words k []) j 0 ⌝ }
+{
+    if 28 <= k {
+        return 0;
+    }
+    if 8 <= j {
+        return 0;
+    }
+    let row = row_at(k);
+    row[j]
 }
 
 // Whether w is opening word i.
@@ -146,9 +245,10 @@ fn is_word(w: &[u8], i: usize) -> bool
     if w.len() != n {
         return false;
     }
+    let row = row_at(i);
     let mut j: usize = 0;
     while j < n {
-        if w[j] != letter(i, j) {
+        if w[j] != row[j] {
             return false;
         }
         j += 1;
@@ -156,16 +256,27 @@ fn is_word(w: &[u8], i: usize) -> bool
     true
 }
 
+// The only opening word that w can be, by its first and last letters and its length.
+fn candidate(w: &[u8]) -> usize
+    ensures { λ r. ⌜ (r ≡ candidateOf (now (w .entry))) × (r < 28) ⌝ }
+{
+    let n = w.len();
+    if n == 0 {
+        return 0;
+    }
+    let first = wide_byte(w[0]);
+    let last = wide_byte(w[n - 1]);
+    let slot = (first + 23 * last + 5 * (n % 8)) % 64;
+    wide_byte(SLOTS[slot])
+}
+
 // The number of the opening word that w is, or 28.
 pub fn word_of(w: &[u8]) -> usize
     ensures { λ r. ⌜ r ≡ wordIndex (now (w .entry)) ⌝ }
 {
-    let mut i: usize = 0;
-    while i < 28 {
-        if is_word(w, i) {
-            return i;
-        }
-        i += 1;
+    let k = candidate(w);
+    if is_word(w, k) {
+        return k;
     }
     28
 }

@@ -9,8 +9,8 @@ use Rattle.reader.specs.Listing.{Listing}
 use Rattle.reader.specs.Read.{Answer, listing, refusal, read}
 use Rattle.graph.specs.Build.{flowlist}
 use Rattle.graph.specs.Opened as wiring
-use Rattle.questions.specs.Opened as questions
-use Rattle.questions.specs.Questions.{Reply, answer, refused, askStatement, askPath, askFrame}
+use Rattle.graph.specs.QuestionsOpened as questions
+use Rattle.graph.specs.Questions.{Reply, answer, refused, askStatement, askPath, askFrame}
 
 -- a text of ASCII, and one with other bytes
 pub record Vector : Type 0 where

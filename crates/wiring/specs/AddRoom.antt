@@ -11,7 +11,7 @@ use Rattle.graph.specs.Adding.{decode}
 use Rattle.graph.specs.EdgeBounds.{Ids}
 use Rattle.graph.specs.Distinct.{dist[]}
 use Rattle.graph.specs.ForLaws.{each-append}
-use Rattle.wiring.specs.Growing.{Grown, Grows, RoomFor, grown-room, grows-none, ids-left, ids-right}
+use Rattle.wiring.specs.Growing.{Grown, Grows, RoomFor, grown-room, grows-none, all-left, all-right}
 
 -- all of l may be added behind the first n entries: for some number of nodes all are below it, and the part has room for so many
 pub record RoomToAdd (part : List ℕ) (n : ℕ) (l : List ℕ) : Type 0 where
@@ -34,10 +34,10 @@ room-one p n t w = grown-room (w .nodes) p n t (w .grown) (decode-within (w .nod
 
 module _ (p : List ℕ) (n : ℕ) (k l : List ℕ) (w : RoomToAdd p n (k ++ l)) where
   pub room-first : RoomToAdd p n k
-  room-first = record { nodes = w .nodes; grown = w .grown; ids = ids-left (w .nodes) k l (w .ids) }
+  room-first = record { nodes = w .nodes; grown = w .grown; ids = all-left k l (w .ids) }
 
   pub room-next : (q : List ℕ) (r : ℕ) → Grows p n q r k → RoomToAdd q r l
-  room-next q r a = record { nodes = w .nodes; grown = a .grown (w .nodes) (w .grown) (ids-left (w .nodes) k l (w .ids)); ids = ids-right (w .nodes) k l (w .ids) }
+  room-next q r a = record { nodes = w .nodes; grown = a .grown (w .nodes) (w .grown) (all-left k l (w .ids)); ids = all-right k l (w .ids) }
 
 -- ---- a loop over a list: the pieces of the first k are there
 

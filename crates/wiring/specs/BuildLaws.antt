@@ -13,8 +13,9 @@ use Rattle.reader.specs.Read.{Answer, listing, refusal, read}
 use Rattle.reader.specs.Records.{ReadAnswer, accepted, lineNumbers, lineRecs, recRows, argRows, padded, countsOf}
 use Rattle.reader.specs.Records.{refused as notRead, fitted as readFitted, answerOf as readAnswer, tableOf as readTable}
 use Rattle.reader.specs.Tables.{padded-length}
-use Rattle.reader.specs.Listed.{listedOf, lineEntries, stmtEntries, argEntries}
+use Rattle.reader.specs.Listed.{lineEntries, stmtEntries, argEntries}
 use Rattle.reader.specs.declared.listing.Listed.{Listed}
+use Rattle.reader.specs.ReadBack.{was-accepted, was-refused}
 use Rattle.reader.specs.declared.listing.Listed.the-variants as listed
 use Rattle.graph.specs.Build.{Capacity, Built, graph, refused, edgeCount, fitted, builtOf, build}
 use Rattle.wiring.specs.HoldsListing.{HoldsListing}
@@ -47,18 +48,6 @@ build-read c text = go (read text)
         let q : c .nodes * 64 / 64 ≡ c .nodes = omega arith in
         rw (p, q) (by L (leb (count (L .lines)) (c .lines)) (leb (total (L .lines)) (c .nodes)))
     go (refusal n p) = refl
-
--- ---- what the reader has answered
-
-pub was-refused : (b : ReadAnswer) (n p : ℕ) → listed.Refused n p ≡ listedOf b → b ≡ notRead n p
-unfolding listedOf
-was-refused (accepted L) n p e = absurd (let z : _≡_ {A = ℕ} 0 1 = cc in omega arith)
-was-refused (notRead k i) n p e = let x : k ≡ n = cc in let y : i ≡ p = cc in cc
-
-pub was-accepted : (b : ReadAnswer) (h : Bool) (c n : ℕ) → listed.Accepted h c n ≡ listedOf b → (L : Listing) × (b ≡ accepted L) × (h ≡ L .handlers) × (c ≡ count (L .lines)) × (n ≡ total (L .lines))
-unfolding listedOf
-was-accepted (accepted L) h c n e = (L, refl, let p : h ≡ L .handlers = cc in p, let p : c ≡ count (L .lines) = cc in p, let p : n ≡ total (L .lines) = cc in p)
-was-accepted (notRead k p) h c n e = absurd (let z : _≡_ {A = ℕ} 0 1 = cc in omega arith)
 
 -- ---- the graph, for a listing that was read and whose lines and statements fit
 

@@ -1,14 +1,14 @@
 -- The RETURNs' sets made empty again; all other rows stay. Assumes nothing.
 use mathlib.Core.Path.{_≡_, refl, sym, ap, _∙_}
 use mathlib.Core.List.{List, _++_}
-use mathlib.Core.Logic.{_⊎_, inl, inr, ⊎-elim}
+use mathlib.Core.Logic.{⊎-elim}
 use Prim.Native.Nat.{ℕ, _+_, _*_, _/_, _%_, _≤_, _<_}
 use native.Mathlib.Omega.{arith}
 use lib.ListN.{length, length-drop, length-replicate, getD, getD-replicate, take, drop, replicate}
 use lib.Seq.{length-take-le}
-use Rattle.wiring.specs.Compare.{eq-or, lt-or}
+use Rattle.wiring.specs.Compare.{eq-or}
 use Rattle.wiring.specs.ReturnSets.{returnWord}
-use Rattle.wiring.specs.ReturnSetLaws.{put-size, put-in, put-other}
+use Rattle.wiring.specs.ReturnSetLaws.{put-size, put-in, put-other, row-away}
 
 -- entry by entry: e is a word of the set of node e / 64
 pub record SetsCleared (stmts : List ℕ) (n : ℕ) (sets sets′ : List ℕ) : Type 0 where
@@ -32,7 +32,7 @@ module _ (stmts : List ℕ) where
       record {
         size = put-size xs ys (i * 64) k ly fits;
         cleared = λ e q w. here e q;
-        kept = λ e f. put-other xs ys (i * 64) k ly fits e (away e (λ q. f (q, t)) (lt-or e (i * 64)));
+        kept = λ e f. put-other xs ys (i * 64) k ly fits e (row-away e i k ek (λ q. f (q, t)));
       }
     where
       part : length (take k (drop (i * 64) xs)) ≡ k
@@ -40,10 +40,6 @@ module _ (stmts : List ℕ) where
 
       ly : length ys ≡ k
       ly = ap length ey ∙ length-replicate (length (take k (drop (i * 64) xs))) 0 ∙ part
-
-      away : (e : ℕ) → (e / 64 ≡ i → ⊥) → (e < i * 64) ⊎ (i * 64 ≤ e) → (e < i * 64) ⊎ (i * 64 + k ≤ e)
-      away e q (inl h) = inl h
-      away e q (inr h) = inr (omega arith)
 
       here : (e : ℕ) → e / 64 ≡ i → getD (take (i * 64) xs ++ (ys ++ drop k (drop (i * 64) xs))) e 0 ≡ 0
       here e q =

@@ -3,14 +3,13 @@
 use mathlib.Core.Path.{_≡_}
 use mathlib.Core.List.{List, [], List·Memᴰ}
 use mathlib.Core.Logic.{_⊎_, _↔_}
-use mathlib.Core.Bool.{Bool, true, false}
 use Prim.Native.Nat.{ℕ, _*_, _/_, _≤_, _<_}
 use lib.ListN.{length, getD}
 use Rattle.graph.specs.EdgeBounds.{Ids}
 use Rattle.graph.specs.Reach.{Reach}
 use Rattle.wiring.specs.Sets.{In}
 use Rattle.wiring.specs.ReturnSets.{returnWord, setOf}
-use Rattle.wiring.specs.Walk.{Marked}
+use Rattle.wiring.specs.Walk.{Reached}
 
 -- ---- what the closure promises
 
@@ -47,12 +46,6 @@ pub data Way (step : ℕ → List ℕ) (k a : ℕ) : ℕ → Type 0 where
   one : {b : ℕ} → List·Memᴰ b (step a) → Way step k a b
   more : {b c : ℕ} → Way step k a b → b < k → List·Memᴰ c (step b) → Way step k a c
 
--- a row takes the place of row i
-pub record RowPut (i : ℕ) (row rows rows′ : List ℕ) : Type 0 where
-  pub size : length rows′ ≡ length rows
-  pub here : setOf rows′ i ≡ row
-  pub others : (e : ℕ) → (e / 64 ≡ i → ⊥) → getD rows′ e 0 ≡ getD rows e 0
-
 -- row i took all of row k, `set`, if it has node k
 pub record RowJoined (k : ℕ) (set : List ℕ) (i : ℕ) (rows rows′ : List ℕ) : Type 0 where
   pub size : length rows′ ≡ length rows
@@ -71,23 +64,16 @@ pub record ClosedTo (n k : ℕ) (rows rows′ : List ℕ) : Type 0 where
   pub ways : (step : ℕ → List ℕ) → RowsHold step n rows → (i : ℕ) → i < n → (j : ℕ) → In (setOf rows′ i) j ↔ Way step k i j
   pub rest : (e : ℕ) → n * 64 ≤ e → getD rows′ e 0 ≡ getD rows e 0
 
--- ---- marks from a closed row
+-- ---- a node and its closed row
 
 -- The rows of nodes that are no RETURN hold all that their steps lead to. A RETURN takes no step, and its row may hold anything.
 pub record OthersClosed (step : ℕ → List ℕ) (stmts : List ℕ) (n : ℕ) (rows : List ℕ) : Type 0 where
   pub returning : (i : ℕ) → i < n → getD stmts (i * 12) 0 ≡ returnWord → step i ≡ []
   pub row : (i : ℕ) → i < n → (getD stmts (i * 12) 0 ≡ returnWord → ⊥) → (j : ℕ) → In (setOf rows i) j ↔ Leads step i j
 
--- whichever steps the rows were closed over
-abbrev pub RowMarked : (stmts rows : List ℕ) (n from : ℕ) (marks : List Bool) → Type 0
-RowMarked stmts rows n from marks = (step : ℕ → List ℕ) → OthersClosed step stmts n rows → Marked step from marks
+-- a set has all that can be reached from a node, whichever steps the rows were closed over
+abbrev pub RowReached : (stmts rows : List ℕ) (n from : ℕ) (set : List ℕ) → Type 0
+RowReached stmts rows n from set = (step : ℕ → List ℕ) → OthersClosed step stmts n rows → (v : ℕ) → In set v ↔ Reach step from v
 
--- node j has its mark too, if it is in the set
-pub record BitMarked (set : List ℕ) (j : ℕ) (m m′ : List Bool) : Type 0 where
-  pub size : length m′ ≡ length m
-  pub marks : (v : ℕ) → (getD m′ v false ≡ true) ↔ ((getD m v false ≡ true) ⊎ ((v ≡ j) × In set v))
-
--- each node below k has
-pub record BitsMarked (set : List ℕ) (k : ℕ) (m m′ : List Bool) : Type 0 where
-  pub size : length m′ ≡ length m
-  pub marks : (v : ℕ) → (getD m′ v false ≡ true) ↔ ((getD m v false ≡ true) ⊎ ((v < k) × In set v))
+abbrev pub RowListed : (stmts rows : List ℕ) (n from : ℕ) (l : List ℕ) → Type 0
+RowListed stmts rows n from l = (step : ℕ → List ℕ) → OthersClosed step stmts n rows → Reached step from l

@@ -2,23 +2,23 @@
 use mathlib.Core.Path.{_≡_, refl, sym, ap, subst, _∙_}
 use mathlib.Core.List.{List, [], _∷_, _++_, List·Memᴰ, List·Memᴰ·head, List·Memᴰ·not-nil, List·Memᴰ·cases-cons, List·Memᴰ·append-cases, Memᴰ·append-left, Memᴰ·append-right}
 use mathlib.Core.Logic.{_⊎_, inl, inr, _↔_}
-use mathlib.Core.Bool.{Bool, true, false}
-use Prim.Native.Nat.{ℕ, zero, suc, _+_, _*_, _/_, _%_, _^_, _≤_, _<_}
+use Prim.Native.Nat.{ℕ, suc, _+_, _*_, _/_, _%_, _^_, _≤_, _<_}
 use native.Mathlib.Numerals.{add-one}
 use native.Mathlib.Omega.{arith}
 use lib.Bits.{bitOr, or-zero-l}
-use lib.ListN.{length, length-set, length-drop, getD, set, take, drop, replicate, length-replicate}
-use lib.Seq.{take-suc, getD-set-same, length-take-le, getD-take, getD-drop, ext-getD, take-at, drop-at}
-use Rattle.wiring.specs.Compare.{eq-or, lt-or}
+use lib.ListN.{length, getD, take, drop, replicate, length-replicate}
+use lib.Seq.{take-suc, length-take-le, getD-take, ext-getD}
+use Rattle.reader.specs.WordTable.{zeros}
+use Rattle.wiring.specs.Compare.{eq-or}
 use Rattle.graph.specs.EdgeBounds.{Ids}
 use Rattle.graph.specs.Members.{all-mem}
 use Rattle.graph.specs.Reach.{Reach, here, on, Reach·join}
-use Rattle.wiring.specs.Sets.{bit, In, inserted, joined}
-use Rattle.wiring.specs.SetLaws.{in-below, none-in, in-inserted, inserted-length, joined-at, joined-length, in-joined}
+use Rattle.wiring.specs.Sets.{bit, In, inserted, joined, membersOf}
+use Rattle.wiring.specs.SetLaws.{none-in, in-inserted, inserted-length, joined-at, joined-length, in-joined, members-in}
 use Rattle.wiring.specs.ReturnSets.{returnWord, setOf}
-use Rattle.wiring.specs.ReturnSetLaws.{put-size, put-other}
-use Rattle.wiring.specs.WalkLaws.{id-at, no-mark, mark-old, mark-cases}
-use Rattle.wiring.specs.Closure.{Leads, RowsClosed, Closed, RowIs, Way, one, more, RowPut, RowJoined, RowsJoined, ClosedTo, OthersClosed, RowMarked, BitMarked, BitsMarked}
+use Rattle.wiring.specs.ReturnSetLaws.{row-length, row-at, row-same, row-part, row-put}
+use Rattle.wiring.specs.WalkLaws.{id-at}
+use Rattle.wiring.specs.Closure.{Leads, RowsClosed, Closed, RowIs, Way, one, more, RowJoined, RowsJoined, ClosedTo, OthersClosed, RowReached, RowListed}
 
 -- ---- ways
 
@@ -69,59 +69,19 @@ module _ (step : ℕ → List ℕ) where
 
 -- ---- rows
 
-module _ (rows : List ℕ) (i : ℕ) (fits : i * 64 + 64 ≤ length rows) where
-  pub row-length : length (setOf rows i) ≡ 64
-  unfolding setOf
-  row-length = length-take-le 64 (drop (i * 64) rows) (omega (arith, length-drop (i * 64) rows))
-
-  pub row-at : (q : ℕ) → q < 64 → getD (setOf rows i) q 0 ≡ getD rows (i * 64 + q) 0
-  unfolding setOf
-  row-at q h = getD-take 64 (drop (i * 64) rows) q 0 h ∙ getD-drop (i * 64) rows q 0
-
--- row i where only other entries changed
-pub row-same : (rows rows′ : List ℕ) (i : ℕ) → i * 64 + 64 ≤ length rows → length rows′ ≡ length rows
-    → ((e : ℕ) → e / 64 ≡ i → getD rows′ e 0 ≡ getD rows e 0) → setOf rows′ i ≡ setOf rows i
-row-same rows rows′ i fits l h =
-    let a = row-length rows i fits in
-    let b = row-length rows′ i (omega arith) in
-    ext-getD 0 (setOf rows′ i) (setOf rows i) (b ∙ sym a) (λ q lt.
-    row-at rows′ i (omega arith) q (omega arith) ∙ h (i * 64 + q) (omega arith) ∙ sym (row-at rows i fits q (omega arith)))
-
--- as code lends a row: k entries from i * 64 on
-pub row-part : (rows : List ℕ) (i k : ℕ) → k ≡ 64 → take k (drop (i * 64) rows) ≡ setOf rows i
-unfolding setOf
-row-part rows i k e = rw e
-
-pub row-put : (i k : ℕ) (row rows : List ℕ) → k ≡ 64 → length row ≡ 64 → i * 64 + 64 ≤ length rows
-    → RowPut i row rows (take (i * 64) rows ++ (row ++ drop k (drop (i * 64) rows)))
-unfolding setOf
-row-put i k row rows ek lr fits =
-    let f = length-take-le (i * 64) rows (omega arith) in
-    record {
-      size = put-size rows row (i * 64) k (lr ∙ sym ek) (omega arith);
-      here = ap (take 64) (drop-at (take (i * 64) rows) (row ++ drop k (drop (i * 64) rows)) (i * 64) f) ∙ take-at row (drop k (drop (i * 64) rows)) 64 lr;
-      others = λ e ne. put-other rows row (i * 64) k (lr ∙ sym ek) (omega arith) e (elim (lt-or e (i * 64)) [ inl h ↦ inl h | inr h ↦ inr (omega arith) ]);
-    }
-
 -- a bit of a row
 pub row-bit : (rows : List ℕ) (i j : ℕ) → i * 64 + 64 ≤ length rows → j < 4096 → getD rows (i * 64 + j / 64) 0 / 2 ^ (j % 64) % 2 ≡ bit (setOf rows i) j
 unfolding bit
 row-bit rows i j fits h = ap (λ (x : ℕ). x / 2 ^ (j % 64) % 2) (sym (row-at rows i fits (j / 64) (omega arith)))
 
-zero-at : (n q : ℕ) → _≡_ {A = ℕ} (getD (replicate n 0) q 0) 0
-zero-at zero zero = refl
-zero-at zero (suc q) = refl
-zero-at (suc n) zero = refl
-zero-at (suc n) (suc q) = zero-at n q
-
 -- a row joined into an empty one is copied
-pub row-copied : (zeros row row′ : List ℕ) → zeros ≡ replicate 64 0 → length row ≡ 64 → row′ ≡ joined zeros row → row′ ≡ row
-row-copied zeros row row′ ez lr e =
-    let lz : length zeros ≡ 64 = ap length ez ∙ length-replicate {A = ℕ} 64 0 in
-    let lj = joined-length zeros row in
-    e ∙ ext-getD 0 (joined zeros row) row (lj ∙ lz ∙ sym lr) (λ q h.
-    joined-at zeros row q (omega arith) ∙ ap (λ (l : List ℕ). bitOr (getD l q 0) (getD row q 0)) ez
-    ∙ ap (λ (x : ℕ). bitOr x (getD row q 0)) (zero-at 64 q) ∙ or-zero-l (getD row q 0))
+pub row-copied : (empty row row′ : List ℕ) → empty ≡ replicate 64 0 → length row ≡ 64 → row′ ≡ joined empty row → row′ ≡ row
+row-copied empty row row′ ez lr e =
+    let lz : length empty ≡ 64 = ap length ez ∙ length-replicate {A = ℕ} 64 0 in
+    let lj = joined-length empty row in
+    e ∙ ext-getD 0 (joined empty row) row (lj ∙ lz ∙ sym lr) (λ q h.
+    joined-at empty row q (omega arith) ∙ ap (λ (l : List ℕ). bitOr (getD l q 0) (getD row q 0)) ez
+    ∙ ap (λ (x : ℕ). bitOr x (getD row q 0)) (zeros 64 q) ∙ or-zero-l (getD row q 0))
 
 -- ---- a list as a row
 
@@ -238,7 +198,7 @@ closed-end n k xs ys e s =
       rest = s .rest;
     }
 
--- ---- marks from a closed row
+-- ---- a node and its closed row
 
 -- a way is none, or one of one step or more
 reach-cases : {step : ℕ → List ℕ} {a b : ℕ} → Reach step a b → (b ≡ a) ⊎ Leads step a b
@@ -255,75 +215,36 @@ leads-reach l = Reach·join (on here (l .stepped)) (l .reach)
 pub leads-none : {step : ℕ → List ℕ} {a b : ℕ} → step a ≡ [] → Leads step a b → ⊥
 leads-none e l = List·Memᴰ·not-nil (subst (List·Memᴰ (l .next)) e (l .stepped))
 
--- one node
-module _ (row : List ℕ) (j : ℕ) (m : List Bool) where
-  pub bit-kept : (In row j → ⊥) → BitMarked row j m m
-  bit-kept ne = record { size = refl; marks = λ v. (λ e. inl e, elim [ inl e ↦ e | inr e ↦ absurd (ne (subst (In row) (e .0) (e .1))) ]) }
+-- node e alone, where it is a RETURN, or with its row
+module _ (e : ℕ) (lt : e < 4096) (none : List ℕ) (en : none ≡ replicate 64 0) (stmts rows : List ℕ) (n : ℕ) (le : e < n) where
+  only : (v : ℕ) → In (inserted none e) v ↔ (v ≡ e)
+  only v =
+      let u = in-inserted none e v (omega (arith, ap length en ∙ length-replicate {A = ℕ} 64 0)) in (
+        λ q. elim (u .0 q) [ inl x ↦ x | inr x ↦ absurd (none-in 64 v (rw en at x)) ],
+        λ q. u .1 (inl q),
+      )
 
-  pub bit-marked : In row j → j < length m → BitMarked row j m (set m j true)
-  bit-marked h lt =
-      record {
-        size = length-set m j true;
-        marks = λ v. (
-          λ e. elim (mark-cases m j v e) [ inl q ↦ inr (q, subst (In row) (sym q) h) | inr q ↦ inl q ],
-          elim [ inl e ↦ mark-old m j v lt e | inr e ↦ let q = e .0 in rw q (getD-set-same m j true false lt) ],
-        );
-      }
+  pub return-reached : (set : List ℕ) → set ≡ inserted none e → getD stmts (e * 12) 0 ≡ returnWord → RowReached stmts rows n e set
+  return-reached set es w step s v =
+      rw es (
+        λ q. let x = only v .0 q in rw x here,
+        λ r. only v .1 (elim (reach-cases r) [ inl q ↦ q | inr l ↦ absurd (leads-none (s .returning e le w) l) ]),
+      )
 
--- node after node
-module _ (row : List ℕ) where
-  pub bits-none : (m : List Bool) → BitsMarked row 0 m m
-  bits-none m = record { size = refl; marks = λ v. (λ e. inl e, elim [ inl e ↦ e | inr e ↦ absurd (omega (arith, e .0)) ]) }
+  pub row-reached : (set root : List ℕ) (k : ℕ) → root ≡ inserted none e → k ≡ 64 → e * 64 + 64 ≤ length rows → set ≡ joined root (take k (drop (e * 64) rows))
+      → (getD stmts (e * 12) 0 ≡ returnWord → ⊥) → RowReached stmts rows n e set
+  row-reached set root k eo ek fits es w step s v =
+      let q : set ≡ joined (inserted none e) (setOf rows e) = es ∙ ap (λ (x : List ℕ). joined x (take k (drop (e * 64) rows))) eo ∙ ap (joined (inserted none e)) (row-part rows e k ek) in
+      let u = in-joined (inserted none e) (setOf rows e) v (row-length rows e fits ∙ sym (inserted-length none e ∙ ap length en ∙ length-replicate {A = ℕ} 64 0)) in
+      rw q (
+        λ x. elim (u .0 x) [ inl y ↦ (let z = only v .0 y in rw z here) | inr y ↦ leads-reach (s .row e le w v .0 y) ],
+        λ r. u .1 (elim (reach-cases r) [ inl y ↦ inl (only v .1 y) | inr l ↦ inr (s .row e le w v .1 l) ]),
+      )
 
-  pub bits-more : (k : ℕ) (m₀ m m′ : List Bool) → BitsMarked row k m₀ m → BitMarked row k m m′ → BitsMarked row (k + 1) m₀ m′
-  bits-more k m₀ m m′ s t =
-      record {
-        size = t .size ∙ s .size;
-        marks = λ v. (
-          λ e.
-              elim (t .marks v .0 e) [
-                | inl x ↦ elim (s .marks v .0 x) [ inl y ↦ inl y | inr y ↦ inr (omega (arith, y .0), y .1) ]
-                | inr x ↦ inr (omega (arith, x .0), x .1)
-              ],
-          λ e. t .marks v .1 (elim e [ inl x ↦ inl (s .marks v .1 (inl x)) | inr x ↦ last v x (eq-or v k) ]),
-        );
-      }
-    where
-      last : (v : ℕ) → (v < k + 1) × In row v → (v ≡ k) ⊎ (v ≡ k → ⊥) → (getD m v false ≡ true) ⊎ ((v ≡ k) × In row v)
-      last v x (inl q) = inr (q, x .1)
-      last v x (inr q) = inl (s .marks v .1 (inr (omega (arith, x .0), x .1)))
-
--- only node e is marked
-module _ (size e : ℕ) (lt : e < size) (none : List Bool) (en : none ≡ replicate size false) where
-  only : (v : ℕ) → (getD (set none e true) v false ≡ true) ↔ (v ≡ e)
-  only v = (
-    λ q. elim (mark-cases none e v q) [ inl x ↦ x | inr x ↦ clash (sym x ∙ ap (λ (l : List Bool). getD l v false) en ∙ no-mark size v) ],
-    λ q. rw q (getD-set-same none e true false (omega (arith, ap length en ∙ length-replicate {A = Bool} size false))),
-  )
-    where
-      clash : {A : Type 0} → true ≡ false → A
-      clash q = let z : _≡_ {A = ℕ} 0 1 = cc in absurd (omega arith)
-
-  pub return-marked : (stmts rows : List ℕ) (n : ℕ) → e < n → getD stmts (e * 12) 0 ≡ returnWord → RowMarked stmts rows n e (set none e true)
-  return-marked stmts rows n le w step s =
-      record {
-        sound = λ v q. let x = only v .0 q in rw x here;
-        complete = λ v r. only v .1 (elim (reach-cases r) [ inl q ↦ q | inr l ↦ absurd (leads-none (s .returning e le w) l) ]);
-      }
-
-  pub row-marked : (stmts rows : List ℕ) (n : ℕ) (m : List Bool) → e < n → e * 64 + 64 ≤ length rows → (getD stmts (e * 12) 0 ≡ returnWord → ⊥)
-      → BitsMarked (setOf rows e) 4096 (set none e true) m → RowMarked stmts rows n e m
-  row-marked stmts rows n m le fits w t step s =
-      record {
-        sound = λ v q.
-            elim (t .marks v .0 q) [ inl x ↦ (let y = only v .0 x in rw y here) | inr x ↦ leads-reach (s .row e le w v .0 (x .1)) ];
-        complete = λ v r.
-            t .marks v .1
-            (elim (reach-cases r) [
-              | inl q ↦ inl (only v .1 q)
-              | inr l ↦ let x = s .row e le w v .1 l in inr (omega (arith, in-below (setOf rows e) v x, row-length rows e fits), x)
-            ]);
-      }
+-- the members of such a set
+pub row-listed : (stmts rows : List ℕ) (n e : ℕ) (set l : List ℕ) → RowReached stmts rows n e set → l ≡ membersOf set → RowListed stmts rows n e l
+row-listed stmts rows n e set l h q step s =
+    rw q (record { sound = λ v m. h step s v .0 (members-in set v .0 m); complete = λ v m. members-in set v .1 (h step s v .1 m) })
 
 -- ---- rows of RETURNs
 
@@ -331,10 +252,6 @@ module _ (size e : ℕ) (lt : e < size) (none : List Bool) (en : none ≡ replic
 pub others-closed : (step : ℕ → List ℕ) (stmts : List ℕ) (n : ℕ) (rows : List ℕ) → RowsClosed step n rows
     → ((i : ℕ) → i < n → getD stmts (i * 12) 0 ≡ returnWord → step i ≡ []) → OthersClosed step stmts n rows
 others-closed step stmts n rows s r = record { returning = r; row = λ i h w. s .row i h }
-
--- a RETURN's row is empty then
-pub return-row : (step : ℕ → List ℕ) (n : ℕ) (rows : List ℕ) → RowsClosed step n rows → (i : ℕ) → i < n → step i ≡ [] → (j : ℕ) → In (setOf rows i) j → ⊥
-return-row step n rows s i h e j x = leads-none e (s .row i h j .0 x)
 
 -- while only the rows of RETURNs change, the others stay closed
 pub others-kept : (step : ℕ → List ℕ) (stmts : List ℕ) (n : ℕ) (rows rows′ : List ℕ) → n * 64 ≤ length rows → length rows′ ≡ length rows

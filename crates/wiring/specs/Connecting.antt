@@ -12,11 +12,12 @@ use lib.Seq.{sets, getD-at}
 use Rattle.reader.specs.Listing.{BranchForm, to, stmts, absent, Stmts, ∅, _▸_, branching, Lines, nolines, line, size, total, count}
 use Rattle.reader.specs.ListingText.{StmtsOk, LinesOk}
 use Rattle.reader.specs.Records.{branchNumber, branchLine, stmtRecs, lineRecs}
+use Rattle.reader.specs.ReadingRecords.{lines-length}
 use Rattle.graph.specs.Adding.{nodeNumber}
 use Rattle.graph.specs.NodeLaws.{length-nodes}
 use Rattle.graph.specs.Nodes.{branchTarget, allocate, lineEntry, nodesBefore, nodes, Entries, entryOf, entriesBefore, entries}
 use Rattle.wiring.specs.Held.{LinesHeld, StmtsHeld}
-use Rattle.wiring.specs.LineEntries.{entryNumbers, entryRows, numbers-append, numbers-length, entries-length, recs-total}
+use Rattle.wiring.specs.LineEntries.{entryNumbers, entryRows, numbers-append, numbers-length, entries-length}
 use Rattle.wiring.specs.LineSearch.{EntryTable, EntriesHeld, EntryFound, lines-exact}
 use Rattle.wiring.specs.Falls.{leads, fallRows, Head, leaf, fork, headSize, headRow, fallsOf, headFalls, Spans, HeadAt, HeadOk, Written, targetOf, BranchLed, RowConnected, StmtConnected, BranchConnected, LinesConnected, AllLines}
 use Rattle.wiring.specs.FallLaws.{rows-append, falls-nodes, falls-length, rows-length, sets-append, sets-before, sets-padded, RecsAt, recs-split, recs-at, spans-recs, Prefix, whole, prefix-∅, prefix-all, prefix-le, More, more, row-width}
@@ -260,7 +261,7 @@ module _ (lines entries rows t : List ℕ) (es : Entries) (ns : List ℕ) (et : 
       let x : getD entries l 0 ≡ nodeNumber d = ap (λ (y : List ℕ). getD y l 0) g ∙ getD-at E (nodeNumber d) others 0 l k in
       let f : from ≡ total ls = ef ∙ ap (λ (y : ℕ). startOf y end) x ∙ ap (startOf (nodeNumber d)) ee ∙ line-starts (total ls) s e fo in
       let sr = recs-split rows 0 (lineRecs ls) (stmtRecs (count ls) 0 0 (total ls) s) ra in
-      let z : 0 + length (lineRecs ls) ≡ total ls = omega (arith, recs-total ls) in
+      let z : 0 + length (lineRecs ls) ≡ total ls = omega (arith, lines-length ls) in
       let sp : Spans rows from s = rw f (spans-recs rows (count ls) 0 0 (total ls) s (rw z at (sr .1))) in
       let w = con (omega arith) es et 0 refl s sp (ok .3) (omega arith) in
       let F = fallsOf es from next s in

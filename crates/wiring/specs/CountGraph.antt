@@ -22,13 +22,14 @@ use Rattle.wiring.specs.Prepared.{Prepared, Roles, wordOf}
 use Rattle.wiring.specs.PreparedLaws.{prepared-roles, return-row}
 use Rattle.wiring.specs.ReturnTotals.{sumWhere, returnSize, sum-where-on, return-sum-le}
 use Rattle.wiring.specs.ReturnTargets.{TargetsListed, FallsFit, targets-are, roles-falls}
-use Rattle.wiring.specs.Regions.{IsReturn, ReturnRows, SetsClear, RegionsReady, RegionReturns}
+use Rattle.wiring.specs.Regions.{ReturnRows, SetsClear, RegionsReady, RegionReturns}
 use Rattle.wiring.specs.Spread.{SpreadTo}
 use Rattle.wiring.specs.FillRows.{FillReady}
 use Rattle.wiring.specs.EdgeCount.{edge-count, edges-joined}
 use Rattle.wiring.specs.FinalLists.{ReturnRowsOnly, FinalTables, SkipsHeld}
 use Rattle.wiring.specs.SkipLists.{SkipsReady, SkipTable, skips-walk}
 use Rattle.wiring.specs.WriteGraph.{SkipsStored}
+use Rattle.wiring.specs.Connecting.{no}
 
 -- ---- the RETURNs' sets
 
@@ -47,9 +48,6 @@ pub record FoundReturns (L : Listing) (handlers : Bool) (own : ℕ) (stmts : Lis
 abbrev pub ReturnsFound : (handlers : Bool) (own : ℕ) (stmts args entries falls links frames dispatched : List ℕ) (lines n d : ℕ) (lists scratch args′ : List ℕ) → Type 0
 ReturnsFound h own stmts args entries falls links frames dispatched lines n d lists scratch args′ =
     (L : Listing) → Prepared L stmts args entries falls links frames dispatched lines n d → (own ≤ 32768 → Stored lists scratch n (skipSteps (wire L))) → FoundReturns L h own stmts n args args′
-
-no : {A : Type 0} → true ≡ false → A
-no e = absurd (let z : _≡_ {A = ℕ} 0 1 = cc in omega arith)
 
 module _ {own : ℕ} {stmts args entries falls links frames dispatched : List ℕ} {lines n d : ℕ} {lists scratch : List ℕ} where
   pub returns-through : (h : Bool) → h ≡ true → ReturnsFound h own stmts args entries falls links frames dispatched lines n d lists scratch args

@@ -1,5 +1,5 @@
 -- Counting: how often a node is in a list, and sums over the nodes. Assumes nothing.
-use mathlib.Core.Path.{_≡_, refl, sym, ap, _∙_}
+use mathlib.Core.Path.{_≡_, refl, ap, _∙_}
 use mathlib.Core.Bool.{Bool, true, false, _||_}
 use mathlib.Core.List.{List, [], _∷_, _++_}
 use Prim.Native.Nat.{ℕ, zero, suc, _+_, _-_, _≤_, _<_}
@@ -12,7 +12,7 @@ use Rattle.reader.specs.Every.{all[], all∷}
 use Rattle.graph.specs.Lists.{has}
 use Rattle.graph.specs.Distinct.{Distinct, dist[], dist∷}
 use Rattle.graph.specs.EdgeBounds.{Ids}
-use Rattle.wiring.specs.EdgeTable.{joinedLists, startOf, start-zero, start-end, start-next, listsTo, length-lists, lists-at}
+use Rattle.wiring.specs.EdgeTable.{startOf, start-zero, start-next, listsTo, lists-at}
 
 abbrev pub one : Bool → ℕ
 one true = 1
@@ -108,6 +108,3 @@ pub start-sum : (f : ℕ → List ℕ) (n i : ℕ) → i ≤ n → startOf (list
 unfolding sumTo
 start-sum f n zero h = start-zero (listsTo f n)
 start-sum f n (suc i) h = start-next (listsTo f n) i ∙ omega (arith, start-sum f n i (omega arith), ap length (lists-at f n i (omega arith)))
-
-pub joined-sum : (f : ℕ → List ℕ) (n : ℕ) → length (joinedLists (listsTo f n)) ≡ sumTo (λ x. length (f x)) n
-joined-sum f n = sym (start-end (listsTo f n)) ∙ ap (startOf (listsTo f n)) (length-lists f n) ∙ start-sum f n n (omega arith)

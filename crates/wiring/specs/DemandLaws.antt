@@ -21,15 +21,13 @@ use Rattle.graph.specs.Adding.{nodeNumber, decode-number}
 use Rattle.graph.specs.Nodes.{Node, Entries, nodes, entries, entriesBefore}
 use Rattle.graph.specs.NodeLaws.{length-nodes}
 use Rattle.graph.specs.Graph.{returns, noNode, wire, role, roleOf, continuation, allSuccessors, returnTargets, successors, predecessors}
-use Rattle.graph.specs.GraphLaws.{nodeCount, target-ids}
-use Rattle.graph.specs.Distinct.{dist[], few, distinct-all}
+use Rattle.graph.specs.GraphLaws.{nodeCount}
 use Rattle.graph.specs.Build.{Capacity, graph, refused, edgeCount, fitted}
 use Rattle.graph.specs.Run.{State, run}
 use Rattle.graph.specs.ReturnLists.{Returns}
 use Rattle.graph.specs.Demand3.{IsReturn, demand3}
-use Rattle.wiring.specs.EdgeTable.{joinedLists, startOf, length-rows, listRows, lists-at}
+use Rattle.wiring.specs.EdgeTable.{startOf, length-rows, listRows, lists-at}
 use Rattle.wiring.specs.Predecessors.{predsOf, preds-total, successor-lists, all-lists}
-use Rattle.wiring.specs.EdgeCount.{edges-joined}
 use Rattle.wiring.specs.ReturnTargets.{continuationEntry}
 use Rattle.wiring.specs.LineEntries.{entryNumbers, entryRows, numbers-length, entries-length}
 use Rattle.wiring.specs.LineSearch.{numbersOf, EntryTable, entry-table, entries-held}
@@ -43,6 +41,7 @@ use Rattle.wiring.specs.PrintedTables.{succPart, predPart}
 use Rattle.wiring.specs.GraphHeld.{GraphHeld}
 use Rattle.wiring.specs.PrintLaws.{node-count, reads, succ-part, pred-part, continuation-is}
 use Rattle.wiring.specs.declared.build.Built.{Built as BuiltAnswer}
+use Rattle.wiring.specs.WriteGraph.{edges-are, few-targets}
 
 -- ---- the definition's answer for a listing that was read, case by case
 
@@ -87,16 +86,9 @@ module _ (c : Capacity) (L : Listing) where
 again : (k : ℕ) (l t : List ℕ) → length l ≤ k → t ≡ padded k l → (length t ≡ k) × (t ≡ padded (length t) l)
 again k l t h e = let q : length t ≡ k = ap length e ∙ padded-length k l h in (q, e ∙ ap (λ (x : ℕ). padded x l) (sym q))
 
-few-targets : (L : Listing) → length (returnTargets (wire L)) ≤ nodeCount L
-unfolding returnTargets
-few-targets L = few (nodeCount L) (distinct-all _ dist[]) (target-ids L)
-
 pub nodes-total : (L : Listing) → nodeCount L ≡ total (L .lines)
 unfolding wire nodes
 nodes-total L = length-nodes none (L .lines)
-
-pub edges-total : (L : Listing) → edgeCount L ≡ length (joinedLists (allSuccessors L))
-edges-total L = edges-joined L ∙ ap (λ (ls : List (List ℕ)). length (joinedLists ls)) (sym (all-lists L))
 
 entry-count : (ls : Lines) → length (entryRows ls) ≡ count ls
 unfolding entryRows entries
@@ -112,7 +104,7 @@ graph-held L s c l t a e f k m d i r u p x ok hl hn he w =
     let n = nodes-total L in
     let ls = allSuccessors L in
     let ps = predsOf ls in
-    let b = edges-total L in
+    let b = edges-are L in
     let xl = again (s .lines) _ l (omega (arith, numbers-count (L .lines), hl .0)) (w .lines) in
     let xt = again (s .stmts) _ t (omega (arith, recs-length (lineRecs (L .lines)), lines-length (L .lines), hn .in-stmts)) (w .stmts) in
     let xe = again (s .entries) _ e (omega (arith, entry-count (L .lines), hl .1)) (w .entries) in

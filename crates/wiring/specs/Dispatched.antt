@@ -2,7 +2,7 @@
 use Prim.Native.Nat.{ℕ, zero, suc, _+_, _*_, _-_, _≤_, _<_}
 use mathlib.Core.Path.{_≡_, refl, sym, ap, _∙_}
 use mathlib.Core.Bool.{Bool, true, false, not}
-use mathlib.Core.List.{List, [], _∷_, _++_, append-assoc, append-nil}
+use mathlib.Core.List.{List, [], _∷_, _++_, append-nil}
 use mathlib.Core.Option.{Option, none, some}
 use native.Mathlib.Omega.{arith}
 use native.Mathlib.Numerals.{add-one}
@@ -19,7 +19,9 @@ use Rattle.graph.specs.Adding.{nodeNumber}
 use Rattle.graph.specs.Nodes.{NodeStmt, Node}
 use Rattle.graph.specs.NodeRecords.{stmtNumber}
 use Rattle.graph.specs.Targets.{onFor, onSimple, dispatchTarget, dispatchTargets}
-use Rattle.wiring.specs.ListedNodes.{StmtListed, Listed, FallsListed, ForKind, isFor, isNext, isOther, for-kind, for-number, next-number, node-at}
+use Rattle.wiring.specs.ListedNodes.{StmtListed, Listed, FallsListed, ForKind, isFor, isNext, isOther, for-kind, for-number, next-number}
+use Rattle.wiring.specs.Growing.{each-snoc}
+use Rattle.wiring.specs.LineEntries.{at-place}
 
 -- ts: the records; es: where nodes fall. A FOR, dispatched, that falls:
 unfoldable pub isDispatched : List ℕ → List ℕ → ℕ → Bool
@@ -117,11 +119,6 @@ module _ (ts ks es : List ℕ) (k : ℕ) where
   node-bodies s e w h f (isNext m ss) = rw (not-for ts es k (λ q. omega (arith, w, q, next-number m ss))) bodies[]
   node-bodies s e w h f (isOther n) = rw (n .no-dispatch e, not-for ts es k (λ q. eqb-false (stmtNumber s) 13 (n .not-for) (sym w ∙ q))) bodies[]
 
-each-snoc : {A B : Type 0} (f : A → List B) (l : List A) (a : A) → each f (l ++ (a ∷ [])) ≡ each f l ++ f a
-unfolding each
-each-snoc f [] a = append-nil (f a)
-each-snoc f (x ∷ l) a = rw (each-snoc f l a, append-assoc)
-
 pub take-node : {A : Type 0} (l : List A) (k : ℕ) (a : A) → getElem? l k ≡ some a → take (suc k) l ≡ take k l ++ (a ∷ [])
 take-node [] k a e = absurd (let z : _≡_ {A = ℕ} 0 1 = cc in omega arith)
 take-node (x ∷ l) zero a e = let q : x ≡ a = cc in rw q
@@ -131,7 +128,7 @@ bodies-upto : (ts ks es : List ℕ) (ns : List Node) → Listed ts ks ns → Fal
 unfolding dispatchedIds dispatchTargets each
 bodies-upto ts ks es ns h f zero lt = bodies[]
 bodies-upto ts ks es ns h f (suc k) lt =
-    let d = node-at ns k (omega arith) in
+    let d = at-place ns k (omega arith) in
     let n = d .0 in
     let r = h k n (d .1) in
     rw (take-node ns k n (d .1), each-snoc) (bodies-append (bodies-upto ts ks es ns h f k (omega arith)) (node-bodies ts ks es k (n .stmt) (n .fall) (r .word) (r .stmt) (f k n (d .1)) (for-kind (n .stmt))))

@@ -283,31 +283,6 @@ module _ {n : ℕ} {f g h k : ℕ → ℕ} {t₀ t : List ℕ} (b : n * 4 ≤ le
         | no ne ↦ getD-set-other t (x * 4 + p) (i * 4 + p) v 0 (λ z. ne (omega arith)) ∙ old i m ∙ sym (changed-other f x v i ne)
       ]
 
-  pub columns-set0 : Columns n (changed f x v) g h k t₀ (set t (x * 4) v)
-  columns-set0 =
-      record {
-        size = length-set t (x * 4) v ∙ c .size;
-        col0 = λ i m. elim (ℕ-discrete i x) [
-          | yes e ↦ ap (λ (z : ℕ). getD (set t (x * 4) v) (z * 4) 0) e ∙ getD-set-same t (x * 4) v 0 (omega (arith, c .size)) ∙ sym (changed-here f x v i e)
-          | no ne ↦ getD-set-other t (x * 4) (i * 4) v 0 (λ z. ne (omega arith)) ∙ c .col0 i m ∙ sym (changed-other f x v i ne)
-        ];
-        col1 = λ i m. getD-set-other t (x * 4) (i * 4 + 1) v 0 (λ z. omega arith) ∙ c .col1 i m;
-        col2 = λ i m. getD-set-other t (x * 4) (i * 4 + 2) v 0 (λ z. omega arith) ∙ c .col2 i m;
-        col3 = λ i m. getD-set-other t (x * 4) (i * 4 + 3) v 0 (λ z. omega arith) ∙ c .col3 i m;
-        past = λ j m. getD-set-other t (x * 4) j v 0 (λ z. omega arith) ∙ c .past j m;
-      }
-
-  pub columns-set1 : Columns n f (changed g x v) h k t₀ (set t (x * 4 + 1) v)
-  columns-set1 =
-      record {
-        size = length-set t (x * 4 + 1) v ∙ c .size;
-        col0 = λ i m. getD-set-other t (x * 4 + 1) (i * 4) v 0 (λ z. omega arith) ∙ c .col0 i m;
-        col1 = at-entry g 1 (c .col1) (omega (arith, c .size));
-        col2 = λ i m. getD-set-other t (x * 4 + 1) (i * 4 + 2) v 0 (λ z. omega arith) ∙ c .col2 i m;
-        col3 = λ i m. getD-set-other t (x * 4 + 1) (i * 4 + 3) v 0 (λ z. omega arith) ∙ c .col3 i m;
-        past = λ j m. getD-set-other t (x * 4 + 1) j v 0 (λ z. omega arith) ∙ c .past j m;
-      }
-
   pub columns-set2 : Columns n f g (changed h x v) k t₀ (set t (x * 4 + 2) v)
   columns-set2 =
       record {

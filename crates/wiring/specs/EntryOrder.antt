@@ -19,7 +19,7 @@ use Rattle.graph.specs.Nodes.{lineEntry, Entries, entriesBefore, entries}
 use Rattle.graph.specs.Targets.{firstEntry, allEntries}
 use Rattle.graph.specs.ForLaws.{each-append}
 use Rattle.wiring.specs.LineEntries.{entryNumbers, entryRows, numbers-append}
-use Rattle.wiring.specs.Growing.{Grows, RoomFor, grows-old, grows-new}
+use Rattle.wiring.specs.Growing.{Grows, RoomFor, grows-old, grows-new, all-left}
 use Rattle.wiring.specs.NextBodies.{all-get}
 use Rattle.wiring.specs.AddRoom.{RoomToAdd, room-one, room-each}
 
@@ -115,10 +115,6 @@ pub record Steps (a e : ℕ) : Type 0 where
   pub none : a ≡ 0 → e ≡ 0
   pub up : (e ≡ 0 → ⊥) → a ≤ e
 
-all-front : {P : ℕ → Type 0} (k l : List ℕ) → All P (k ++ l) → All P k
-all-front [] l h = all[]
-all-front (a ∷ k) l (all∷ p h) = all∷ p (all-front k l h)
-
 all-last : {P : ℕ → Type 0} (l : List ℕ) (a : ℕ) → All P (l ++ (a ∷ [])) → P a
 all-last [] a (all∷ p h) = p
 all-last (b ∷ l) a (all∷ p h) = all-last l a h
@@ -139,7 +135,7 @@ rises-snoc (x ∷ l) a b e (zeros r) s = zeros (zeros-snoc (x ∷ l) b e r s)
 rises-front : (l : List ℕ) (a e : ℕ) → Rises a (l ++ (e ∷ [])) → Rises a l
 rises-front [] a e r = rises[]
 rises-front (x ∷ l) a e (rises∷ h z r) = rises∷ h z (rises-front l x e r)
-rises-front (x ∷ l) a e (zeros r) = zeros (all-front (x ∷ l) (e ∷ []) r)
+rises-front (x ∷ l) a e (zeros r) = zeros (all-left (x ∷ l) (e ∷ []) r)
 
 -- no statement of the lines before is node e or one after it
 abbrev AtLeast : ℕ → Option ℕ → Type 0

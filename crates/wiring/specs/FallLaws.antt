@@ -1,17 +1,20 @@
 -- Laws of where statements fall: the definition's nodes have these rows; a list's statements one after the other. Assumes nothing.
 use Prim.Native.Nat.{ℕ, suc, _+_, _*_, _≤_, _<_}
 use mathlib.Core.Path.{_≡_, refl, sym, ap, _∙_}
-use mathlib.Core.List.{List, [], _∷_, _++_, append-assoc, append-nil}
+use mathlib.Core.List.{List, [], _∷_, _++_, append-assoc}
 use mathlib.Core.Option.{Option, some}
 use native.Mathlib.Omega.{arith}
 use native.Mathlib.Numerals.{add-one}
 use native.Mathlib.Nat.{add-zero}
 use lib.ListN.{length, getD, getElem?, set, replicate, drop, length-append, List·getD-append}
 use lib.Seq.{sets, sets-eq, set-comm, getD-append-add}
-use Rattle.reader.specs.Listing.{Simple, CondWord, if, ifelse, rcomp, BranchForm, to, stmts, absent, Stmts, ∅, _▸_, branching, size, len}
-use Rattle.reader.specs.ListingText.{BranchOk, BranchesOk, StmtsOk}
+use Rattle.reader.specs.Listing.{Simple, CondWord, BranchForm, to, stmts, absent, Stmts, ∅, _▸_, branching, size, len}
+use Rattle.reader.specs.ListingText.{BranchOk, StmtsOk}
 use Rattle.reader.specs.Records.{Rec, branchNumber, simpleRec, condRec, stmtRecs, recRow, recRows, padded, joined}
 use Rattle.reader.specs.Tables.{drop-zeros}
+use Rattle.reader.specs.ReadingRecords.{stmts-length}
+use Rattle.reader.specs.Accepted.{first-ok}
+use Rattle.reader.specs.RecordLaws.{rec-width}
 use Rattle.reader.specs.RecordLaws as records
 use Rattle.graph.specs.Adding.{nodeNumber}
 use Rattle.graph.specs.Nodes.{NodeStmt, simple, cond, Node, allocate, nodes, Entries}
@@ -23,10 +26,6 @@ pub rows-append : (es : Entries) (k l : List Node) → fallRows es (k ++ l) ≡ 
 unfolding fallRows
 rows-append es [] l = refl
 rows-append es (n ∷ k) l = ap (λ (x : List ℕ). fallRow es n ++ x) (rows-append es k l) ∙ sym (append-assoc (fallRow es n) (fallRows es k) (fallRows es l))
-
-row-one : (es : Entries) (n : Node) → fallRows es (n ∷ []) ≡ fallRow es n
-unfolding fallRows
-row-one es n = append-nil (fallRow es n)
 
 row-more : (es : Entries) (n : Node) (l : List Node) → fallRows es (n ∷ l) ≡ fallRow es n ++ fallRows es l
 unfolding fallRows
@@ -113,42 +112,29 @@ recs-split rows i (r ∷ rs) qs h =
     let z : suc i + length rs ≡ i + suc (length rs) = omega arith in
     ((h .0, s .0), rw z at (s .1))
 
-row-12 : (r : Rec) → _≡_ {A = ℕ} (length (recRow r)) 12
-unfolding recRow
-row-12 r = refl
-
 pub recs-at : (rs : List Rec) (before rest : List ℕ) (i : ℕ) → length before ≡ i * 12 → RecsAt (before ++ (recRows rs ++ rest)) i rs
 unfolding joined
 recs-at [] before rest i e = tt
 recs-at (r ∷ rs) before rest i e =
     let q : before ++ ((recRow r ++ recRows rs) ++ rest) ≡ (before ++ recRow r) ++ (recRows rs ++ rest) = simp append-assoc in (
       (λ c h.
-          rw (← e, getD-append-add, append-assoc) (List·getD-append (recRow r) (recRows rs ++ rest) 0 c (omega (arith, row-12 r)))),
-      rw q (recs-at rs (before ++ recRow r) rest (suc i) (simp length-append (omega (arith, row-12 r)))),
+          rw (← e, getD-append-add, append-assoc) (List·getD-append (recRow r) (recRows rs ++ rest) 0 c (omega (arith, rec-width r)))),
+      rw q (recs-at rs (before ++ recRow r) rest (suc i) (simp length-append (omega (arith, rec-width r)))),
     )
-
-pub stmt-recs-length : (li h k i : ℕ) (s : Stmts) → length (stmtRecs li h k i s) ≡ size s
-unfolding stmtRecs size
-stmt-recs-length li h k i ∅ = refl
-stmt-recs-length li h k i (s ▸ o) = simp length-append (omega (arith, stmt-recs-length li h k i s))
-stmt-recs-length li h k i (branching s w t a u b) =
-    let j = i + size s in
-    simp length-append
-    (omega (arith, stmt-recs-length li h k i s, stmt-recs-length li (suc j) 0 (suc j) a, stmt-recs-length li (suc j) (len a) (suc j + size a) b))
 
 pub spans-recs : (rows : List ℕ) (li h k i : ℕ) (s : Stmts) → RecsAt rows i (stmtRecs li h k i s) → Spans rows i s
 unfolding stmtRecs simpleRec condRec recRow
 spans-recs rows li h k i ∅ q = tt
 spans-recs rows li h k i (s ▸ o) q =
     let x = recs-split rows i (stmtRecs li h k i s) (simpleRec o li h (k + len s) (i + size s) ∷ []) q in
-    let y = rw (stmt-recs-length li h k i s) at (x .1) in
+    let y = rw (stmts-length li h k i s) at (x .1) in
     (spans-recs rows li h k i s (x .0), record { end-at = y .0 4 (omega arith); form-at = y .0 6 (omega arith) })
 spans-recs rows li h k i (branching s w t a u b) q =
     let j = i + size s in
     let ra = stmtRecs li (suc j) 0 (suc j) a in
     let rb = stmtRecs li (suc j) (len a) (suc j + size a) b in
     let x = recs-split rows i (stmtRecs li h k i s) (condRec w li h (k + len s) (suc j + size a + size b) (suc j + size a) t u ∷ (ra ++ rb)) q in
-    let y = rw (stmt-recs-length li h k i s) at (x .1) in
+    let y = rw (stmts-length li h k i s) at (x .1) in
     let z = recs-split rows (suc j) ra rb (y .1) in (
       spans-recs rows li h k i s (x .0),
       record {
@@ -160,7 +146,7 @@ spans-recs rows li h k i (branching s w t a u b) q =
         number2-at = y .0 9 (omega arith);
       },
       spans-recs rows li (suc j) 0 (suc j) a (z .0),
-      spans-recs rows li (suc j) (len a) (suc j + size a) b (rw (stmt-recs-length li (suc j) 0 (suc j) a) at (z .1)),
+      spans-recs rows li (suc j) (len a) (suc j + size a) b (rw (stmts-length li (suc j) 0 (suc j) a) at (z .1)),
     )
 
 -- ---- the first statements of a list, and the one after them
@@ -198,12 +184,6 @@ pub record More (rows : List ℕ) (i d : ℕ) (p s : Stmts) : Type 0 where
   pub ok : HeadOk d head
   pub rows-are : (es : Entries) (e : ℕ) → fallsOf es i e then ≡ fallsOf es i (suc (i + size p)) p ++ headFalls es (i + size p) e head
 
-branch-there : (w : CondWord) (t : BranchForm) (a : Stmts) (u : BranchForm) (b : Stmts) → BranchesOk w t a u b → BranchOk t a
-unfolding BranchesOk
-branch-there if t a u b h = h .0
-branch-there ifelse t a u b h = h .0
-branch-there rcomp t a u b h = h .0
-
 form-there : (t : BranchForm) (a : Stmts) → BranchOk t a → branchNumber t ≡ 0 → ⊥
 unfolding BranchOk branchNumber
 form-there (to n) a h e = omega arith
@@ -229,7 +209,7 @@ module _ (rows : List ℕ) (i : ℕ) where
         pre = whole;
         sized = omega arith;
         at = (sp .1, sp .2, sp .3);
-        ok = (n .1, form-there t a (branch-there w t a u b (n .2)), n .3, n .4);
+        ok = (n .1, form-there t a (first-ok w t a u b (n .2)), n .3, n .4);
         rows-are = λ es e. refl;
       }
   more d (past-fork (past {o = o} q)) h sp n = longer (λ r. past-fork) (more d (past {o = o} q) (omega (arith, prefix-le q)) (sp .0) (n .0))

@@ -1,62 +1,27 @@
 -- Laws of filling the rows: a node's steps by its word, one row, one pass, both. Assumes nothing.
-use Prim.Native.Nat.{ℕ, zero, suc, _+_, _-_, _*_, _/_, _≤_, _<_}
+use Prim.Native.Nat.{ℕ, _+_, _-_, _*_, _/_, _≤_, _<_}
 use mathlib.Core.Path.{_≡_, refl, sym, ap, subst, _∙_}
 use mathlib.Core.Bool.{Bool, true, false}
-use mathlib.Core.List.{List, [], _∷_, _++_}
+use mathlib.Core.List.{List, [], _++_}
 use mathlib.Core.Logic.{_⊎_, inl, inr}
 use native.Mathlib.Omega.{arith}
 use borrow.Author.Tests.{eq-eqb, ne-eqb, eqb-true}
 use lib.Dec.{eqb}
-use lib.ListN.{length, getD, set, take, drop}
-use Rattle.reader.specs.Every.{all[]}
+use lib.ListN.{length, getD, take, drop}
 use Rattle.reader.specs.Bytes.{pick}
 use Rattle.reader.specs.Listing.{Listing}
 use Rattle.wiring.specs.Compare.{eq-or}
-use Rattle.graph.specs.Adding.{decode}
-use Rattle.graph.specs.EdgeBounds.{Ids, list-ids}
+use Rattle.graph.specs.EdgeBounds.{Ids}
 use Rattle.graph.specs.Members.{all-map}
-use Rattle.graph.specs.Graph.{Wired, wire, Role, call, returns, forgets, steps, noNode, role, fallFrom, base, skipStepsBy, skipSteps}
-use Rattle.graph.specs.GraphLaws.{nodeCount, fall-below, base-ids}
+use Rattle.graph.specs.Graph.{Wired, wire, base, skipSteps}
 use Rattle.wiring.specs.Prepared.{Prepared, KeysKept, Keys, callWord, wordOf, fallEntry, Roles}
 use Rattle.wiring.specs.NodeList.{ListIs}
-use Rattle.wiring.specs.Sets.{In}
 use Rattle.wiring.specs.ReturnSets.{setOf}
 use Rattle.wiring.specs.Closure.{RowsClosed, RowIs, OthersClosed}
-use Rattle.wiring.specs.ClosureLaws.{row-put, row-same, others-closed, return-row}
+use Rattle.wiring.specs.ClosureLaws.{others-closed}
+use Rattle.wiring.specs.ReturnSetLaws.{row-put, row-same}
 use Rattle.wiring.specs.FillRows.{SkipReady, SkipMade, Steps, inPass, passes, RowReady, RowFilled, PassReady, PassFilled, FillReady, RowsFilled}
-
--- a node steps to nodes
-pub skip-ids : (L : Listing) (i : ℕ) → Ids (nodeCount L) (skipSteps (wire L) i)
-unfolding skipSteps skipStepsBy
-skip-ids L i = go (role (wire L) i)
-  where
-    go : (q : Role) → Ids (nodeCount L) (skipStepsBy q (fallFrom (wire L) i) (base (wire L) i))
-    go (call m ts) = list-ids (nodeCount L) (fallFrom (wire L) i) (fall-below L i)
-    go returns = all[]
-    go forgets = base-ids L i
-    go steps = base-ids L i
-    go noNode = all[]
-
--- ---- where a node falls, put to the front of a part
-
-pub list-none : (part : List ℕ) → ListIs [] part part 0
-list-none part = record { count = refl; list = refl; size = refl; within = omega arith }
-
-module _ (falls : List ℕ) (i : ℕ) (part : List ℕ) where
-  pub fall-none : getD falls (i * 3) 0 ≡ 0 → ListIs (fallEntry falls i) part part 0
-  unfolding fallEntry
-  fall-none e = rw e (list-none part)
-
-  pub fall-one : (getD falls (i * 3) 0 ≡ 0 → ⊥) → 0 < length part → ListIs (fallEntry falls i) part (set part 0 (getD falls (i * 3) 0 - 1)) 1
-  unfolding fallEntry
-  fall-one ne h = go (getD falls (i * 3) 0) ne part h
-    where
-      go : (x : ℕ) → (x ≡ 0 → ⊥) → (p : List ℕ) → 0 < length p → ListIs (decode x) p (set p 0 (x - 1)) 1
-      go zero z p lt = absurd (z refl)
-      go (suc x) z [] lt = absurd (omega arith)
-      go (suc x) z (a ∷ p) lt =
-          let q : suc x - 1 ≡ x = omega arith in
-          rw q (record { count = refl; list = refl; size = refl; within = omega arith })
+use Rattle.wiring.specs.SkipLists.{skip-ids, list-none}
 
 -- ---- a node's steps by its word
 
@@ -247,8 +212,3 @@ module _ (stmts args entries falls links frames dispatched : List ℕ) (lines n 
 -- once the rows are closed, they serve in place of walks
 pub skips-closed : (W : Wired) (stmts falls links : List ℕ) (n : ℕ) (rows : List ℕ) → Roles W stmts falls links n → RowsClosed (skipSteps W) n rows → OthersClosed (skipSteps W) stmts n rows
 skips-closed W stmts falls links n rows r s = others-closed (skipSteps W) stmts n rows s (λ i h e. skip-none W stmts falls links n i r h e)
-
--- and the row of a RETURN is empty
-pub return-empty : (W : Wired) (stmts falls links : List ℕ) (n : ℕ) (rows : List ℕ) → Roles W stmts falls links n → RowsClosed (skipSteps W) n rows
-    → (i : ℕ) → i < n → getD stmts (i * 12) 0 ≡ 9 → (j : ℕ) → In (setOf rows i) j → ⊥
-return-empty W stmts falls links n rows r s i h e = return-row (skipSteps W) n rows s i h (skip-none W stmts falls links n i r h e)

@@ -21,10 +21,11 @@ use Rattle.graph.specs.NodeRecords.{stmtNumber}
 use Rattle.graph.specs.Edges.{ForMove, keepFors, pushFor, popFors, onFors, movesOf, nodeMoves}
 use Rattle.graph.specs.PerNode.{Openers, noOpeners, findOpener, openersUnder, openerFound, popOpener, openersPopped, openersLeft, forOpenersAfter, after, pops, Fact, factOf, facts}
 use Rattle.wiring.specs.FrameStacks.{topOf, Holds}
-use Rattle.wiring.specs.ListedNodes.{StmtListed, Listed, keysAt, keys-are, ForKind, isFor, isNext, isOther, for-kind, for-number, next-number, key-some, key-same, node-at}
+use Rattle.wiring.specs.ListedNodes.{StmtListed, Listed, keysAt, keys-are, ForKind, isFor, isNext, isOther, for-kind, for-number, next-number, key-some, key-same}
 use Rattle.wiring.specs.ForStack.{findKey, foundNumber, underFound, popKey, keyLinks, keysLeft, pushKey, forsOpen, forsLinked, NodeLinked}
 use Rattle.wiring.specs.ForStackLaws.{open-le}
 use Rattle.wiring.specs.ForLinks.{slotLinks, linkedRow, linkedRows, ForsLinked, poppedBy}
+use Rattle.wiring.specs.LineEntries.{at-place}
 
 -- ---- open FORs by name, and by key
 
@@ -188,7 +189,7 @@ module _ (ts ks : List ℕ) (n : ℕ) (t₀ ws us t t′ : List ℕ) (i : ℕ) (
   unfolding linkedRows
   going-on p q ns h e =
       let g = p ns h e in
-      let d = node-at ns i (omega arith) in
+      let d = at-place ns i (omega arith) in
       let s = (d .0) .stmt in
       let m = (nodeMoves s) .fors in
       let fs = g .fors in

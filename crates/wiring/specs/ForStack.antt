@@ -1,6 +1,7 @@
 -- The FOR stack as the tables have it: the open FORs by their ids, newest first; a FOR's name is the first key of its row of arguments. Assumes nothing.
 use Prim.Native.Nat.{ℕ, zero, suc, _+_, _*_, _≤_}
 use mathlib.Core.Path.{_≡_}
+use mathlib.Core.Bool.{Bool, _||_}
 use mathlib.Core.List.{List, [], _∷_, _++_}
 use mathlib.Core.Option.{Option, none, some}
 use lib.Dec.{eqb}
@@ -44,6 +45,10 @@ keysLeft ks (v ∷ vs) l = keysLeft ks vs ((popKey ks v l) .1)
 unfoldable pub pushKey : List ℕ → ℕ → List ℕ → List ℕ
 pushKey ks i l = i ∷ underFound l (findKey ks (getD ks (i * 64) 0) l)
 
+-- whether a statement whose opening word has the number w does anything to the stack
+unfoldable pub movesFors : ℕ → Bool
+movesFors w = eqb w 13 || eqb w 14
+
 -- after node i, whose opening word has the number w
 unfoldable pub forsOpen : List ℕ → ℕ → ℕ → List ℕ → List ℕ → List ℕ
 forsOpen ks w i vs l = pick (eqb w 13) (pushKey ks i l) (pick (eqb w 14) (keysLeft ks vs l) l)
@@ -53,14 +58,11 @@ forsLinked ks w i vs l t = pick (eqb w 14) (take (i * 64) t ++ (keyLinks ks vs l
 
 -- ---- what the code ensures of words that hold open FORs
 
--- some are open, all of them below i
-pub record OpenBelow (ws : List ℕ) (i : ℕ) : Type 0 where
-  pub list : List ℕ
-  pub held : Holds ws list
-  pub below : topOf list ≤ i
-
 abbrev pub Sought : List ℕ → ℕ → List ℕ → ℕ → Type 0
 Sought ks v ws r = (l : List ℕ) → Holds ws l → r ≡ foundNumber (findKey ks v l)
+
+abbrev pub SlotFound : List ℕ → ℕ → List ℕ → ℕ → Type 0
+SlotFound ks v ws f = (l : List ℕ) → Holds ws l → f ≡ (popKey ks v l) .0
 
 abbrev pub SlotPopped : List ℕ → ℕ → List ℕ → List ℕ → ℕ → Type 0
 SlotPopped ks v ws us f = (l : List ℕ) → Holds ws l → (f ≡ (popKey ks v l) .0) × Holds us ((popKey ks v l) .1)

@@ -1,33 +1,31 @@
 -- The search down the FOR stack, slot by slot. Assumes nothing.
 use Prim.Native.Nat.{ℕ, zero, suc, _+_, _*_, _-_, _≤_, _<_}
 use mathlib.Core.Path.{_≡_, refl, sym, ap, _∙_}
-use mathlib.Core.Bool.{Bool, true, false}
+use mathlib.Core.Bool.{Bool, true, false, _||_}
 use mathlib.Core.List.{List, [], _∷_, _++_, append-assoc, append-nil}
 use mathlib.Core.Option.{Option, none, some}
 use native.Mathlib.Omega.{arith}
 use native.Mathlib.Numerals.{add-one}
-use borrow.Author.Tests.{eq-eqb, ne-eqb}
+use borrow.Author.Tests.{eq-eqb, ne-eqb, eqb-true}
 use lib.Dec.{eqb}
-use lib.ListN.{length, getD, set, take, drop, drop-of-length-le, length-drop}
-use lib.Seq.{take-suc, take-all, drop-cons, set-at, length-take-le, drop-drop}
+use lib.ListN.{length, getD, set, take, drop, replicate, drop-of-length-le, length-append, length-drop, take-append-drop}
+use lib.Seq.{take-suc, take-at, take-all, drop-cons, set-at, length-take-le, drop-drop}
 use Rattle.reader.specs.Bytes.{pick}
-use Rattle.wiring.specs.FrameStacks.{topOf, Holds, holds[], holds∷, Highest, PoppedIs, PoppedTo, Pushed, Room, BelowIs, CutAt}
-use Rattle.wiring.specs.FrameStackLaws.{top-at, room}
-use Rattle.wiring.specs.ForStack.{findKey, foundNumber, underFound, underTop, popKey, keyLinks, keysLeft, pushKey, forsOpen, forsLinked, OpenBelow, Sought, SlotPopped, ForPushed, SlotsPopped, NodeLinked}
+use Rattle.wiring.specs.FrameStacks.{topOf, Holds, holds[], holds∷, HoldsBelow, TopIs, Pushed, BelowIs, CutAt}
+use Rattle.wiring.specs.FrameStackLaws.{holds-same}
+use Rattle.wiring.specs.ForStack.{findKey, foundNumber, underFound, popKey, keyLinks, keysLeft, pushKey, movesFors, forsOpen, forsLinked, Sought, SlotFound, SlotPopped, ForPushed, SlotsPopped, NodeLinked}
 use Rattle.wiring.specs.ListedNodes.{keysAt}
+use Rattle.wiring.specs.Reading.{clearedBehind}
 
-pub open-wider : {ws : List ℕ} (i j : ℕ) → i ≤ j → OpenBelow ws i → OpenBelow ws j
-open-wider i j h o = record { list = o .list; held = o .held; below = omega (arith, o .below) }
+pub open-wider : {ws : List ℕ} (i j : ℕ) → i ≤ j → HoldsBelow ws i → HoldsBelow ws j
+open-wider i j h o = record { openers = o .openers; held = o .held; below = omega (arith, o .below) }
 
 top-few : {ws l : List ℕ} → Holds ws l → topOf l ≤ 4096
 top-few (holds[] e f) = omega arith
 top-few (holds∷ o le lt e) = lt
 
-pub open-few : {ws : List ℕ} {i : ℕ} → OpenBelow ws i → OpenBelow ws 4096
-open-few o = record { list = o .list; held = o .held; below = top-few (o .held) }
-
-pub open-room : (ws : List ℕ) (i : ℕ) → OpenBelow ws i → Room ws i
-open-room ws i o = room (o .held) i (o .below)
+pub open-few : {ws : List ℕ} {i : ℕ} → HoldsBelow ws i → HoldsBelow ws 4096
+open-few o = record { openers = o .openers; held = o .held; below = top-few (o .held) }
 
 -- ---- openers descend
 
@@ -53,7 +51,7 @@ split-more : (o : ℕ) (l : List ℕ) {s : Option (ℕ × List ℕ)} → Split l
 split-more o l nowhere = nowhere
 split-more o l (split p k r e) = split (o ∷ p) k r (ap (λ x. o ∷ x) e)
 
-find-split : (ks : List ℕ) (v : ℕ) (l : List ℕ) → Split l (findKey ks v l)
+pub find-split : (ks : List ℕ) (v : ℕ) (l : List ℕ) → Split l (findKey ks v l)
 unfolding findKey
 find-split ks v [] = nowhere
 find-split ks v (o ∷ l) = go (eqb (getD ks (o * 64) 0) v) (find-split ks v l)
@@ -85,11 +83,8 @@ pub record Left (ks : List ℕ) (v t : ℕ) (l : List ℕ) : Type 0 where
 abbrev pub Seeking : List ℕ → ℕ → List ℕ → ℕ → Type 0
 Seeking ks v ws t = (l : List ℕ) → Holds ws l → Left ks v t l
 
-pub seek-start : (ks : List ℕ) (v : ℕ) (ws : List ℕ) (t : ℕ) → Highest ws 64 t → Seeking ks v ws t
-seek-start ks v ws t u l o = record { gone = []; rest = l; whole = refl; top = top-at ws t u l o; alike = refl }
-
-pub seek-le : (ws : List ℕ) (t i : ℕ) → Highest ws 64 t → OpenBelow ws i → t ≤ i
-seek-le ws t i u o = omega (arith, top-at ws t u (o .list) (o .held), o .below)
+pub seek-start : (ks : List ℕ) (v : ℕ) (ws : List ℕ) (t : ℕ) → TopIs ws t → Seeking ks v ws t
+seek-start ks v ws t u l o = record { gone = []; rest = l; whole = refl; top = u l o; alike = refl }
 
 module _ (ks : List ℕ) (v : ℕ) (ws : List ℕ) (t : ℕ) (s : Seeking ks v ws t) where
   pub seek-none : t ≡ 0 → Sought ks v ws 0
@@ -138,41 +133,61 @@ found-none ws t l (some x) o e z = absurd (omega arith)
 
 -- ---- one slot
 
-name-popped : (ks : List ℕ) (v : ℕ) (l : List ℕ) → (v ≡ 0 → ⊥) → popKey ks v l ≡ (foundNumber (findKey ks v l), underFound l (findKey ks v l))
+-- what it pops is found as a search finds it
+pub record PopSplit (ks : List ℕ) (v : ℕ) (l : List ℕ) : Type 0 where
+  pub found : Option (ℕ × List ℕ)
+  pub split : Split l found
+  pub popped : popKey ks v l ≡ (foundNumber found, underFound l found)
+
+pub pop-split : (ks : List ℕ) (v : ℕ) (l : List ℕ) → PopSplit ks v l
 unfolding popKey
-name-popped ks zero l z = absurd (z refl)
-name-popped ks (suc v) l z = refl
+pop-split ks zero [] = record { found = none; split = nowhere; popped = refl }
+pop-split ks zero (o ∷ l) = record { found = some (o, l); split = split [] o l refl; popped = refl }
+pop-split ks (suc v) l = record { found = findKey ks (suc v) l; split = find-split ks (suc v) l; popped = refl }
 
-module _ (ks : List ℕ) (v : ℕ) (ws us : List ℕ) (f : ℕ) where
-  pub slot-any : v ≡ 0 → PoppedTo ws us f → SlotPopped ks v ws us f
-  unfolding popKey
-  slot-any z p l o = rw z (go l (p l o))
+pub slot-any : (ks : List ℕ) (v : ℕ) (ws : List ℕ) (f : ℕ) → v ≡ 0 → TopIs ws f → SlotFound ks v ws f
+unfolding popKey
+slot-any ks v ws f z t l o = rw z (t l o)
+
+pub slot-name : (ks : List ℕ) (v : ℕ) (ws : List ℕ) (f : ℕ) → (v ≡ 0 → ⊥) → Sought ks v ws f → SlotFound ks v ws f
+unfolding popKey
+slot-name ks zero ws f z s l o = absurd (z refl)
+slot-name ks (suc v) ws f z s l o = s l o
+
+module _ (ks : List ℕ) (v : ℕ) (ws : List ℕ) (f : ℕ) (s : SlotFound ks v ws f) where
+  number-found : (l : List ℕ) → Holds ws l → f ≡ foundNumber (pop-split ks v l .found)
+  number-found l o = s l o ∙ ap (λ (x : ℕ × List ℕ). x .0) (pop-split ks v l .popped)
+
+  pub slot-none : f ≡ 0 → SlotPopped ks v ws ws f
+  slot-none z l o = let g = pop-split ks v l in rw (g .popped) (number-found l o, found-none ws f l (g .found) o (number-found l o) z)
+
+  pub slot-cut : (us : List ℕ) → (f ≡ 0 → ⊥) → CutAt ws (f - 1) us → SlotPopped ks v ws us f
+  slot-cut us z c l o = let g = pop-split ks v l in rw (g .popped) (number-found l o, found-cut ws us f l (g .found) (g .split) o (number-found l o) z c)
+
+  -- the newest of those that are left
+  pub slot-top : (us : List ℕ) (i r : ℕ) → HoldsBelow ws i → (f ≡ 0 → ⊥) → CutAt ws (f - 1) us → BelowIs ws (f - 1) r → TopIs us r
+  slot-top us i r b z c e l o = go (pop-split ks v (b .openers) .found) (pop-split ks v (b .openers) .split) (number-found (b .openers) (b .held))
     where
-      go : (l : List ℕ) → PoppedIs l us f → (f ≡ topOf l) × Holds us (underTop l)
-      go [] q = q
-      go (a ∷ l) q = q
-
-  pub slot-name : (v ≡ 0 → ⊥) → Sought ks v ws f → (f ≡ 0 → ⊥) → CutAt ws (f - 1) us → SlotPopped ks v ws us f
-  slot-name z s h c l o = rw (name-popped ks v l z) (s l o, found-cut ws us f l (findKey ks v l) (find-split ks v l) o (s l o) h c)
-
-pub slot-none : (ks : List ℕ) (v : ℕ) (ws : List ℕ) (f : ℕ) → (v ≡ 0 → ⊥) → Sought ks v ws f → f ≡ 0 → SlotPopped ks v ws ws 0
-slot-none ks v ws f z s h l o = rw (name-popped ks v l z) (sym h ∙ s l o, found-none ws f l (findKey ks v l) o (s l o) h)
+      go : (x : Option (ℕ × List ℕ)) → Split (b .openers) x → f ≡ foundNumber x → r ≡ topOf l
+      go none nowhere q = absurd (z q)
+      go (some x) (split p k m w) q =
+          let d : f - 1 ≡ k = omega arith in
+          let held = rw w at (b .held) in
+          let under : Holds us m = (rw d at c) p m held in
+          (rw d at e) p m held ∙ ap topOf (holds-same m l under o)
 
 pop-le : (ks : List ℕ) (v : ℕ) (l : List ℕ) → Descends l → Lower l ((popKey ks v l) .1) ((popKey ks v l) .0)
-unfolding popKey
-pop-le ks zero [] d = record { top = omega arith; frame = omega arith; descends = d }
-pop-le ks zero (a ∷ l) (desc∷ h d) = record { top = omega arith; frame = omega arith; descends = d }
-pop-le ks (suc v) l d = under-le l (findKey ks (suc v) l) (find-split ks (suc v) l) d
+pop-le ks v l d = let g = pop-split ks v l in rw (g .popped) (under-le l (g .found) (g .split) d)
 
-module _ (ks : List ℕ) (v : ℕ) (ws us : List ℕ) (f i : ℕ) (o : OpenBelow ws i) where
-  pub slot-open : SlotPopped ks v ws us f → OpenBelow us i
-  slot-open p = record { list = (popKey ks v (o .list)) .1; held = p (o .list) (o .held) .1; below = omega (arith, o .below, pop-le ks v (o .list) (holds-desc (o .held)) .top) }
+pub slot-open : (ks : List ℕ) (v : ℕ) (ws us : List ℕ) (f i : ℕ) → HoldsBelow ws i → SlotPopped ks v ws us f → HoldsBelow us i
+slot-open ks v ws us f i o p =
+    record { openers = (popKey ks v (o .openers)) .1; held = p (o .openers) (o .held) .1; below = omega (arith, o .below, pop-le ks v (o .openers) (holds-desc (o .held)) .top) }
 
-  pub slot-fits : SlotPopped ks v ws us f → f ≤ i
-  slot-fits p = omega (arith, o .below, p (o .list) (o .held) .0, pop-le ks v (o .list) (holds-desc (o .held)) .frame)
+pub slot-fits : (ks : List ℕ) (v : ℕ) (ws : List ℕ) (f i : ℕ) → HoldsBelow ws i → SlotFound ks v ws f → f ≤ i
+slot-fits ks v ws f i o p = omega (arith, o .below, p (o .openers) (o .held), pop-le ks v (o .openers) (holds-desc (o .held)) .frame)
 
-pub sought-fits : (ks : List ℕ) (v : ℕ) (ws : List ℕ) (f i : ℕ) → OpenBelow ws i → Sought ks v ws f → f ≤ i
-sought-fits ks v ws f i o s = omega (arith, o .below, s (o .list) (o .held), under-le (o .list) (findKey ks v (o .list)) (find-split ks v (o .list)) (holds-desc (o .held)) .frame)
+pub sought-fits : (ks : List ℕ) (v : ℕ) (ws : List ℕ) (f i : ℕ) → HoldsBelow ws i → Sought ks v ws f → f ≤ i
+sought-fits ks v ws f i o s = omega (arith, o .below, s (o .openers) (o .held), under-le (o .openers) (findKey ks v (o .openers)) (find-split ks v (o .openers)) (holds-desc (o .held)) .frame)
 
 -- ---- FOR
 
@@ -190,23 +205,30 @@ module _ (ks : List ℕ) (i : ℕ) (ws us : List ℕ) (f : ℕ) (s : Sought ks (
       let w = find-split ks (getD ks (i * 64) 0) l in
       p (underFound l r) (found-cut ws xs f l r w o (s l o) z c) (omega (arith, under-le l r w (holds-desc o) .top))
 
-pub cut-open : (ks : List ℕ) (v : ℕ) (ws xs : List ℕ) (f i : ℕ) → Sought ks v ws f → (f ≡ 0 → ⊥) → CutAt ws (f - 1) xs → OpenBelow ws i → OpenBelow xs i
+pub cut-open : (ks : List ℕ) (v : ℕ) (ws xs : List ℕ) (f i : ℕ) → Sought ks v ws f → (f ≡ 0 → ⊥) → CutAt ws (f - 1) xs → HoldsBelow ws i → HoldsBelow xs i
 cut-open ks v ws xs f i s z c o =
-    let r = findKey ks v (o .list) in
-    let w = find-split ks v (o .list) in
-    record { list = underFound (o .list) r; held = found-cut ws xs f (o .list) r w (o .held) (s (o .list) (o .held)) z c; below = omega (arith, o .below, under-le (o .list) r w (holds-desc (o .held)) .top) }
+    let r = findKey ks v (o .openers) in
+    let w = find-split ks v (o .openers) in
+    record { openers = underFound (o .openers) r; held = found-cut ws xs f (o .openers) r w (o .held) (s (o .openers) (o .held)) z c; below = omega (arith, o .below, under-le (o .openers) r w (holds-desc (o .held)) .top) }
 
 -- ---- slot by slot
 
-links-snoc : (ks vs : List ℕ) (v : ℕ) (l : List ℕ) → keyLinks ks (vs ++ (v ∷ [])) l ≡ keyLinks ks vs l ++ ((popKey ks v (keysLeft ks vs l)) .0 ∷ [])
+links-append : (ks us vs l : List ℕ) → keyLinks ks (us ++ vs) l ≡ keyLinks ks us l ++ keyLinks ks vs (keysLeft ks us l)
 unfolding keyLinks keysLeft
-links-snoc ks [] v l = refl
-links-snoc ks (u ∷ vs) v l = ap (λ x. (popKey ks u l) .0 ∷ x) (links-snoc ks vs v ((popKey ks u l) .1))
+links-append ks [] vs l = refl
+links-append ks (u ∷ us) vs l = ap (λ x. (popKey ks u l) .0 ∷ x) (links-append ks us vs ((popKey ks u l) .1))
 
-left-snoc : (ks vs : List ℕ) (v : ℕ) (l : List ℕ) → keysLeft ks (vs ++ (v ∷ [])) l ≡ (popKey ks v (keysLeft ks vs l)) .1
+left-append : (ks us vs l : List ℕ) → keysLeft ks (us ++ vs) l ≡ keysLeft ks vs (keysLeft ks us l)
 unfolding keysLeft
-left-snoc ks [] v l = refl
-left-snoc ks (u ∷ vs) v l = left-snoc ks vs v ((popKey ks u l) .1)
+left-append ks [] vs l = refl
+left-append ks (u ∷ us) vs l = left-append ks us vs ((popKey ks u l) .1)
+
+-- with no FOR open every slot pops nothing
+none-links : (ks vs : List ℕ) → (keyLinks ks vs [] ≡ replicate (length vs) 0) × (keysLeft ks vs [] ≡ [])
+unfolding keyLinks keysLeft popKey findKey
+none-links ks [] = (refl, refl)
+none-links ks (zero ∷ vs) = let r = none-links ks vs in (ap (λ x. 0 ∷ x) (r .0), r .1)
+none-links ks (suc v ∷ vs) = let r = none-links ks vs in (ap (λ x. 0 ∷ x) (r .0), r .1)
 
 pub links-length : (ks vs l : List ℕ) → length (keyLinks ks vs l) ≡ length vs
 unfolding keyLinks
@@ -230,6 +252,7 @@ set-next a row j v n h = rw (drop-cons row j 0 h) (set-at a (getD row j 0) (drop
 
 pub popping-on : (ks vs ws us xs row₀ row : List ℕ) (j f e : ℕ) → j < length vs → length vs ≡ length row₀ → e ≡ f → PoppingTo ks vs ws us row₀ row j → SlotPopped ks (getD vs j 0) us xs f
     → PoppingTo ks vs ws xs row₀ (set row j e) (j + 1)
+unfolding keyLinks keysLeft
 popping-on ks vs ws us xs row₀ row j f e h s q p t l o =
     let g = p l o in
     let u = t (keysLeft ks (take j vs) l) (g .held) in
@@ -237,7 +260,7 @@ popping-on ks vs ws us xs row₀ row j f e h s q p t l o =
     let n : length a ≡ j = links-length ks (take j vs) l ∙ length-take-le j vs (omega arith) in
     let r : set row j e ≡ (a ++ ((popKey ks (getD vs j 0) (keysLeft ks (take j vs) l)) .0 ∷ [])) ++ drop (suc j) row₀
     = ap (λ (x : List ℕ). set x j e) (g .row-is) ∙ set-next a row₀ j e n (omega arith) ∙ ap (λ (x : ℕ). (a ++ (x ∷ [])) ++ drop (suc j) row₀) (q ∙ u .0) in
-    record { row-is = rw (add-one, take-suc vs j 0 h, links-snoc) r; held = rw (add-one, take-suc vs j 0 h, left-snoc) (u .1) }
+    record { row-is = rw (add-one, take-suc vs j 0 h, links-append) r; held = rw (add-one, take-suc vs j 0 h, left-append) (u .1) }
 
 pub popping-end : (ks vs ws us row₀ row : List ℕ) (j : ℕ) → length row₀ ≤ j → length vs ≡ length row₀ → PoppingTo ks vs ws us row₀ row j → SlotsPopped ks vs ws us row
 popping-end ks vs ws us row₀ row j h s p l o =
@@ -245,6 +268,31 @@ popping-end ks vs ws us row₀ row j h s p l o =
     let t : take j vs ≡ vs = take-all j vs (omega arith) in
     let d : drop j row₀ ≡ [] = drop-of-length-le row₀ h in
     (g .row-is ∙ rw (t, d) (append-nil (keyLinks ks vs l)), rw t at (g .held))
+
+pub popping-none : (ks vs ws us row₀ row : List ℕ) (j f : ℕ) → j ≤ length row₀ → length vs ≡ length row₀ → f ≡ 0 → TopIs us f → PoppingTo ks vs ws us row₀ row j → SlotsPopped ks vs ws us (clearedBehind j row)
+unfolding clearedBehind
+popping-none ks vs ws us row₀ row j f h s z t p l o = go (keysLeft ks (take j vs) l) (g .held) refl (t (keysLeft ks (take j vs) l) (g .held))
+  where
+    g : Popping ks vs ws us row₀ row j l
+    g = p l o
+
+    a : List ℕ
+    a = keyLinks ks (take j vs) l
+
+    go : (m : List ℕ) → Holds us m → keysLeft ks (take j vs) l ≡ m → f ≡ topOf m → (take j row ++ replicate (length row - j) 0 ≡ keyLinks ks vs l) × Holds us (keysLeft ks vs l)
+    go (x ∷ m) u e q = absurd (omega arith)
+    go [] u e q =
+        let r = none-links ks (drop j vs) in
+        let n : length a ≡ j = links-length ks (take j vs) l ∙ length-take-le j vs (omega arith) in
+        let front : take j row ≡ a = ap (take j) (g .row-is) ∙ take-at a (drop j row₀) j n in
+        let size : length row - j ≡ length (drop j vs) = omega (arith, ap length (g .row-is), length-append a (drop j row₀), length-drop j row₀, length-drop j vs) in
+        let links : keyLinks ks vs l ≡ a ++ replicate (length (drop j vs)) 0
+        = ap (λ (x : List ℕ). keyLinks ks x l) (sym (take-append-drop j vs)) ∙ links-append ks (take j vs) (drop j vs) l
+        ∙ ap (λ (x : List ℕ). a ++ keyLinks ks (drop j vs) x) e ∙ ap (λ (x : List ℕ). a ++ x) (r .0) in
+        let left : keysLeft ks vs l ≡ []
+        = ap (λ (x : List ℕ). keysLeft ks x l) (sym (take-append-drop j vs)) ∙ left-append ks (take j vs) (drop j vs) l
+        ∙ ap (λ (x : List ℕ). keysLeft ks (drop j vs) x) e ∙ r .1 in
+        (rw (front, size, links), rw left u)
 
 slots-le : (ks vs l : List ℕ) → Descends l → topOf (keysLeft ks vs l) ≤ topOf l
 unfolding keysLeft
@@ -262,11 +310,11 @@ open-le ks w i vs l o h = go (eqb w 13) (eqb w 14)
     go false true = omega (arith, slots-le ks vs l (holds-desc o))
     go false false = omega arith
 
-pub node-open : (ts ks : List ℕ) (i : ℕ) (ws us t t′ : List ℕ) → OpenBelow ws i → NodeLinked ts ks i ws us t t′ → OpenBelow us (i + 1)
+pub node-open : (ts ks : List ℕ) (i : ℕ) (ws us t t′ : List ℕ) → HoldsBelow ws i → NodeLinked ts ks i ws us t t′ → HoldsBelow us (i + 1)
 node-open ts ks i ws us t t′ o p =
     let w = getD ts (i * 12) 0 in
     let vs = keysAt ts ks i in
-    record { list = forsOpen ks w i vs (o .list); held = p .held (o .list) (o .held) (o .below); below = open-le ks w i vs (o .list) (o .held) (o .below) }
+    record { openers = forsOpen ks w i vs (o .openers); held = p .held (o .openers) (o .held) (o .below); below = open-le ks w i vs (o .openers) (o .held) (o .below) }
 
 module _ (ts ks : List ℕ) (i : ℕ) (ws us t : List ℕ) where
   pub node-for : getD ts (i * 12) 0 ≡ 13 → ForPushed ks i ws us → NodeLinked ts ks i ws us t t
@@ -286,8 +334,21 @@ module _ (ts ks : List ℕ) (i : ℕ) (ws us t : List ℕ) where
       let g : SlotsPopped ks (keysAt ts ks i) ws us row = rw k at p in
       record { links = λ l o h. rw (w, d, g l o .0); held = λ l o h. rw w (g l o .1) }
 
-pub node-other : (ts ks : List ℕ) (i : ℕ) (ws t : List ℕ) → (getD ts (i * 12) 0 ≡ 13 → ⊥) → (getD ts (i * 12) 0 ≡ 14 → ⊥) → NodeLinked ts ks i ws ws t t
+not-any : (w : ℕ) → movesFors w ≡ false → (eqb w 13 ≡ false) × (eqb w 14 ≡ false)
+unfolding movesFors
+not-any w e = go (eqb w 13) (eqb w 14) e
+  where
+    go : (x y : Bool) → (x || y) ≡ false → (x ≡ false) × (y ≡ false)
+    go true y q = absurd (let z : _≡_ {A = ℕ} 0 1 = cc in omega arith)
+    go false y q = (refl, q)
+
+pub node-other : (ts ks : List ℕ) (i : ℕ) (ws t : List ℕ) → movesFors (getD ts (i * 12) 0) ≡ false → NodeLinked ts ks i ws ws t t
 unfolding forsOpen forsLinked
-node-other ts ks i ws t f g =
-    let w = getD ts (i * 12) 0 in
-    record { links = λ l o h. rw (ne-eqb w 14 g); held = λ l o h. rw (ne-eqb w 13 f, ne-eqb w 14 g) o }
+node-other ts ks i ws t e =
+    let n = not-any (getD ts (i * 12) 0) e in
+    record { links = λ l o h. rw (n .1); held = λ l o h. rw (n .0, n .1) o }
+
+-- what moves the stack is a FOR or a NEXT
+pub must-next : (w : ℕ) → movesFors w ≡ true → (w ≡ 13 → ⊥) → w ≡ 14
+unfolding movesFors
+must-next w e f = eqb-true w 14 (rw (ne-eqb w 13 f) at e)

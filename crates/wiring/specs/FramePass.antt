@@ -1,7 +1,7 @@
 -- One node's step on the loop stack or on the DO stack, and the table of frames as the passes write it. Assumes nothing.
 use Prim.Native.Nat.{ℕ, zero, suc, _+_, _*_, _<_, _≤_}
 use mathlib.Core.Path.{_≡_}
-use mathlib.Core.Bool.{_||_}
+use mathlib.Core.Bool.{Bool, true, false, _||_}
 use mathlib.Core.List.{List}
 use lib.Dec.{eqb, leb}
 use lib.ListN.{length, getD, getElem?, set}
@@ -20,12 +20,6 @@ moveOf Opens = opens
 moveOf Closes = closes
 moveOf Joins = joins
 
--- the words hold some openers, all below i
-pub record HoldsBelow (ws : List ℕ) (i : ℕ) : Type 0 where
-  pub openers : List ℕ
-  pub held : Holds ws openers
-  pub below : topOf openers ≤ i
-
 -- node i writes the opener of the frame that it closes or joins
 abbrev pub metWritten : Move → ℕ → List ℕ → List ℕ → List ℕ
 metWritten stays i l t = t
@@ -33,13 +27,24 @@ metWritten opens i l t = t
 metWritten closes i l t = set t (i * 3) (topOf l)
 metWritten joins i l t = set t (i * 3) (topOf l)
 
-pub record Step (m : Move) (i : ℕ) (us t t′ l : List ℕ) : Type 0 where
-  pub held : Holds us (openersAfter i m l)
-  pub written : t′ ≡ metWritten m i l t
+-- whether a move changes the stack
+abbrev pub movesStack : Move → Bool
+movesStack stays = false
+movesStack opens = true
+movesStack closes = true
+movesStack joins = false
 
--- of all openers l that the words hold
-abbrev pub Stepped : Move → ℕ → List ℕ → List ℕ → List ℕ → List ℕ → Type 0
-Stepped m i ws us t t′ = (l : List ℕ) → Holds ws l → topOf l ≤ i → Step m i us t t′ l
+-- of all openers l that the words hold: what is written, and what they hold after
+abbrev pub FrameMet : Move → ℕ → List ℕ → List ℕ → List ℕ → Type 0
+FrameMet m i ws t t′ = (l : List ℕ) → Holds ws l → topOf l ≤ i → t′ ≡ metWritten m i l t
+
+abbrev pub FrameMoved : Move → ℕ → List ℕ → List ℕ → Type 0
+FrameMoved m i ws us = (l : List ℕ) → Holds ws l → topOf l ≤ i → Holds us (openersAfter i m l)
+
+-- both
+pub record Stepped (m : Move) (i : ℕ) (ws us t t′ : List ℕ) : Type 0 where
+  pub held : FrameMoved m i ws us
+  pub written : FrameMet m i ws t t′
 
 -- ---- the pass over the stacks
 

@@ -1,6 +1,7 @@
 -- The pass over the stacks: one node's step, and the entries that it leaves. Assumes nothing.
 use Prim.Native.Nat.{ℕ, suc, _+_, _*_, _<_, _≤_}
 use mathlib.Core.Path.{_≡_, refl, sym, ap, _∙_}
+use mathlib.Core.Bool.{false}
 use mathlib.Core.List.{List, [], _∷_}
 use mathlib.Core.Logic.{_⊎_, inl, inr}
 use mathlib.Core.Option.{some}
@@ -9,52 +10,51 @@ use native.Mathlib.Numerals.{add-one}
 use native.Mathlib.Decide.{ℕ-discrete}
 use lib.ListN.{length, length-set, getD, getElem?, set, replicate}
 use lib.Seq.{getD-set-same, getD-set-other}
+use Rattle.reader.specs.WordTable.{zeros}
 use Rattle.graph.specs.Nodes.{Node}
 use Rattle.graph.specs.NodeRecords.{stmtNumber}
 use Rattle.graph.specs.Edges.{Move, stays, opens, closes, joins, nodeMoves, Stack, loopStack, doStack}
 use Rattle.graph.specs.PerNode.{openersAfter, Met, nothing, closing, joining, meets, moveOn, metOn, noOpeners, Fact, facts}
 use Rattle.wiring.specs.Frames.{loopMove, doMove, wordMove, Worded, eitherMet, metNumber, frameMet, metEntry}
-use Rattle.wiring.specs.FrameStacks.{topOf, Holds, holds∷, Room, Pushed, PoppedIs, PoppedTo, TopIs}
-use Rattle.wiring.specs.FrameStackLaws.{zeros, room}
+use Rattle.wiring.specs.FrameStacks.{topOf, Holds, holds∷, HoldsBelow, Pushed, PoppedIs, PoppedTo, TopIs}
 use Rattle.graph.specs.PerNodeLaws.{length-facts}
 use Rattle.wiring.specs.OpenerLaws.{some-at, in-range, openAt, open-start, open-next, open-desc, desc-top, met-at}
 use Rattle.wiring.specs.MoveLaws.{word-move, one-stack}
-use Rattle.wiring.specs.FramePass.{HoldsBelow, metWritten, Stepped, AllZero, MetUpto, MetBelow, MetFrames}
-
-pub room-for : (ws : List ℕ) (i : ℕ) → HoldsBelow ws i → Room ws i
-room-for ws i h = room (h .held) i (h .below)
-
-popped-top : (l us : List ℕ) (f : ℕ) → PoppedIs l us f → f ≡ topOf l
-popped-top [] us f p = p .0
-popped-top (o ∷ l) us f p = p .0
+use Rattle.wiring.specs.FramePass.{movesStack, metWritten, FrameMet, FrameMoved, Stepped, AllZero, MetUpto, MetBelow, MetFrames}
 
 popped-left : (i : ℕ) (l us : List ℕ) (f : ℕ) → PoppedIs l us f → Holds us (openersAfter i closes l)
 unfolding openersAfter
 popped-left i [] us f p = p .1
 popped-left i (o ∷ l) us f p = p .1
 
-pub popped-le : (ws us : List ℕ) (f i : ℕ) → HoldsBelow ws i → PoppedTo ws us f → f ≤ i
-popped-le ws us f i h p = omega (arith, popped-top (h .openers) us f (p (h .openers) (h .held)), h .below)
-
-pub top-le : (ws : List ℕ) (f i : ℕ) → HoldsBelow ws i → TopIs ws f → f ≤ i
-top-le ws f i h p = omega (arith, p (h .openers) (h .held), h .below)
-
 -- ---- one node's step, by its move
-module _ (i : ℕ) (ws us t : List ℕ) (m : Move) where
-  pub step-stays : m ≡ stays → Stepped m i ws ws t t
+module _ (i : ℕ) (ws us : List ℕ) (m : Move) where
+  pub moved-opens : m ≡ opens → Pushed ws i us → FrameMoved m i ws us
   unfolding openersAfter
-  step-stays e l o h = rw e (record { held = o; written = refl })
+  moved-opens e p l o h = rw e (p l o h)
 
-  pub step-opens : m ≡ opens → Pushed ws i us → Stepped m i ws us t t
-  unfolding openersAfter
-  step-opens e p l o h = rw e (record { held = p l o h; written = refl })
+  pub moved-closes : (f : ℕ) → m ≡ closes → PoppedTo ws us f → FrameMoved m i ws us
+  moved-closes f e p l o h = rw e (popped-left i l us f (p l o))
 
-  pub step-closes : (f n : ℕ) → m ≡ closes → PoppedTo ws us f → n ≡ f → Stepped m i ws us t (set t (i * 3) n)
-  step-closes f n e p q l o h = rw e (record { held = popped-left i l us f (p l o); written = rw (q, popped-top l us f (p l o)) })
+pub moved-none : (i : ℕ) (ws : List ℕ) (m : Move) → movesStack m ≡ false → FrameMoved m i ws ws
+unfolding openersAfter
+moved-none i ws stays e l o h = o
+moved-none i ws opens e l o h = absurd (let z : _≡_ {A = ℕ} 0 1 = cc in omega arith)
+moved-none i ws closes e l o h = absurd (let z : _≡_ {A = ℕ} 0 1 = cc in omega arith)
+moved-none i ws joins e l o h = o
 
-  pub step-joins : (f n : ℕ) → m ≡ joins → TopIs ws f → n ≡ f → Stepped m i ws ws t (set t (i * 3) n)
-  unfolding openersAfter
-  step-joins f n e p q l o h = rw e (record { held = o; written = rw (q, p l o) })
+module _ (i : ℕ) (ws t : List ℕ) (m : Move) where
+  pub met-stays : m ≡ stays → FrameMet m i ws t t
+  met-stays e l o h = rw e
+
+  pub met-opens : m ≡ opens → FrameMet m i ws t t
+  met-opens e l o h = rw e
+
+  pub met-closes : (f n : ℕ) → m ≡ closes → TopIs ws f → n ≡ f → FrameMet m i ws t (set t (i * 3) n)
+  met-closes f n e p q l o h = rw (e, q, p l o)
+
+  pub met-joins : (f n : ℕ) → m ≡ joins → TopIs ws f → n ≡ f → FrameMet m i ws t (set t (i * 3) n)
+  met-joins f n e p q l o h = rw (e, q, p l o)
 
 -- ---- what a step writes
 written-length : (m : Move) (i : ℕ) (l t : List ℕ) → length (metWritten m i l t) ≡ length t
@@ -118,13 +118,13 @@ next-below joins i l ws o h = omega arith
 
 holds-next : (m : Move) (i : ℕ) (ws us t t′ : List ℕ) → HoldsBelow ws i → Stepped m i ws us t t′ → HoldsBelow us (suc i)
 holds-next m i ws us t t′ h s =
-    record { openers = openersAfter i m (h .openers); held = s (h .openers) (h .held) (h .below) .held; below = next-below m i (h .openers) ws (h .held) (h .below) }
+    record { openers = openersAfter i m (h .openers); held = s .held (h .openers) (h .held) (h .below); below = next-below m i (h .openers) ws (h .held) (h .below) }
 
 below-next : (m : Move) (i : ℕ) (ws us t t′ : List ℕ) → HoldsBelow ws i → i * 3 < length t → Stepped m i ws us t t′ → MetBelow t → MetBelow t′
-below-next m i ws us t t′ h g s b = rw (s (h .openers) (h .held) (h .below) .written) (written-below m i (h .openers) t (h .below) g b)
+below-next m i ws us t t′ h g s b = rw (s .written (h .openers) (h .held) (h .below)) (written-below m i (h .openers) t (h .below) g b)
 
 step-length : (m : Move) (i : ℕ) (ws us t t′ : List ℕ) → HoldsBelow ws i → Stepped m i ws us t t′ → length t′ ≡ length t
-step-length m i ws us t t′ h s = ap length (s (h .openers) (h .held) (h .below) .written) ∙ written-length m i (h .openers) t
+step-length m i ws us t t′ h s = ap length (s .written (h .openers) (h .held) (h .below)) ∙ written-length m i (h .openers) t
 
 -- of one list of nodes
 pub record MetBy (ns : List Node) (ls ds t : List ℕ) (i : ℕ) : Type 0 where
@@ -162,8 +162,7 @@ module _ (s : Stack) (ns : List Node) (i : ℕ) (d : Node) (at : getElem? ns i �
       → Holds us (openAt s ns (suc i)) × (t′ ≡ metWritten m i (openAt s ns i) t)
   step-of m ws us t t′ e h p =
       let b = desc-top i (open-desc s ns i (omega (arith, in-range ns i d at))) in
-      let r = p (openAt s ns i) h b in
-      (rw (open-next s ns i d at, ← e) (r .held), r .written)
+      (rw (open-next s ns i d at, ← e) (p .held (openAt s ns i) h b), p .written (openAt s ns i) h b)
 
   meets-of : (m : Move) (f : Fact) → m ≡ moveOn s (nodeMoves (d .stmt)) → getElem? (facts 0 ns noOpeners) i ≡ some f → metOn s f ≡ meets m (openAt s ns i)
   meets-of m f e g = met-at s ns i d f at g ∙ rw e

@@ -5,13 +5,15 @@ use mathlib.Core.List.{List, [], _∷_, _++_, append-assoc, append-nil}
 use mathlib.Core.Logic.{inl, inr}
 use native.Mathlib.Omega.{arith}
 use native.Mathlib.Decide.{ℕ-discrete}
-use lib.ListN.{length, length-append, getD, getElem?, replicate, length-replicate, List·getD-append}
+use lib.ListN.{length, length-append, getD, getElem?, replicate, List·getD-append}
 use lib.Seq.{getD-append-add, ext-getD}
 use Rattle.reader.specs.Records.{padded}
+use Rattle.reader.specs.Tables.{padded-length}
+use Rattle.reader.specs.WordTable.{zeros}
 use Rattle.graph.specs.Lists.{each, below}
-use Rattle.wiring.specs.FrameStackLaws.{lt-or, zeros}
 use Rattle.graph.specs.PerNode.{Fact}
 use Rattle.wiring.specs.Frames.{nextWhere, closesFrame, metEntry, doMetOf, elseEntry, frameRow, frameRows, frameTable}
+use Rattle.wiring.specs.Compare.{lt-or}
 
 each-snoc : (f : ℕ → List ℕ) (l : List ℕ) (a : ℕ) → each f (l ++ (a ∷ [])) ≡ each f l ++ f a
 unfolding each
@@ -46,10 +48,6 @@ unfolding padded
 padded-past n l q h =
     let z : q ≡ length l + (q - length l) = omega arith in
     ap (λ (x : ℕ). getD (l ++ replicate (n - length l) 0) x 0) z ∙ getD-append-add l (replicate (n - length l) 0) (q - length l) 0 ∙ zeros (n - length l) (q - length l)
-
-padded-length : (n : ℕ) (l : List ℕ) → length l ≤ n → length (padded n l) ≡ n
-unfolding padded
-padded-length n l h = omega (arith, length-append l (replicate (n - length l) 0), length-replicate {A = ℕ} (n - length l) 0)
 
 row-length : (F : List Fact) (r : ℕ) → length (frameRow F r) ≡ 3
 unfolding frameRow

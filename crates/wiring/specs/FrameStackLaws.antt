@@ -1,22 +1,18 @@
 -- Marks in words: the highest is the newest. Assumes nothing.
 use mathlib.Core.Path.{_≡_, refl, sym, ap, subst, _∙_}
-use mathlib.Core.Bool.{Bool, true, false}
 use mathlib.Core.List.{List, [], _∷_, _++_}
 use mathlib.Core.Logic.{_⊎_, inl, inr, ⊎-elim}
 use Prim.Native.Nat.{ℕ, zero, suc, _+_, _-_, _*_, _/_, _%_, _^_, _≤_, _<_}
 use native.Mathlib.Omega.{arith}
-use native.Mathlib.Nat.{pow-suc, one-mul, add-mul-mod-self-right, mod-lt}
+use native.Mathlib.Nat.{pow-suc, add-mul-mod-self-right, mod-lt}
 use native.Mathlib.Decide.{ℕ-discrete}
-use lib.Dec.{ltb}
-use borrow.Author.Tests.{ltb-true, ltb-false}
 use lib.Count.{leadingZeros, leading-top}
-use lib.Pow.{pow-pos, pow-mono, pow-add, shl-exact, low}
+use lib.Pow.{pow-pos, pow-mono, pow-add, low}
 use lib.ListN.{length, getD, set, replicate, length-set, length-replicate}
 use lib.Seq.{getD-set-same, getD-set-other, set-set, set-getD, ext-getD}
-use Rattle.wiring.specs.FrameStacks.{topOf, Holds, holds[], holds∷, HighestMark, Highest, PoppedTo, Room, Pushed, BelowIs, CutAt, TopIs}
-
-pub bit-is : (r : ℕ) → r < 64 → (1 * 2 ^ r) % 2 ^ 64 ≡ 2 ^ r
-bit-is r h = shl-exact {a = 1} 1 r 64 (omega arith) (omega arith) ∙ one-mul (2 ^ r)
+use Rattle.reader.specs.WordTable.{zeros}
+use Rattle.wiring.specs.FrameStacks.{topOf, Holds, holds[], holds∷, HoldsBelow, HighestMark, Highest, PoppedTo, Room, Pushed, BelowIs, CutAt, TopIs}
+use Rattle.wiring.specs.Compare.{lt-or}
 
 pub height-is : (w z r : ℕ) → 0 < w → w < 2 ^ 64 → z ≡ leadingZeros 64 w → (z ≤ 64) × (1 ≤ 64 - z) × (64 - z ≤ 64) × (2 ^ (64 - z - 1) ≤ w) × (w < 2 ^ (64 - z))
 height-is w z r p h e =
@@ -24,19 +20,6 @@ height-is w z r p h e =
     let a : 64 - z ≡ suc (t .0) = omega (arith, t .1, e) in
     let b : 64 - z - 1 ≡ t .0 = omega (arith, a) in
     (omega (arith, t .1, e), omega arith, omega arith, rw b (t .2), rw a (t .3))
-
-lt-by : (a b : ℕ) (t : Bool) → ltb a b ≡ t → (a < b) ⊎ (b ≤ a)
-lt-by a b true e = inl (ltb-true a b e)
-lt-by a b false e = inr (ltb-false a b e)
-
-pub lt-or : (a b : ℕ) → (a < b) ⊎ (b ≤ a)
-lt-or a b = lt-by a b (ltb a b) refl
-
-pub zeros : (n q : ℕ) → _≡_ {A = ℕ} (getD (replicate n 0) q 0) 0
-zeros zero zero = refl
-zeros zero (suc q) = refl
-zeros (suc n) zero = refl
-zeros (suc n) (suc q) = zeros n q
 
 pub new-is : (n : ℕ) (ws : List ℕ) → n ≡ 64 → ws ≡ replicate n 0 → Holds ws []
 new-is n ws e f = rw f (holds[] (length-replicate {A = ℕ} n 0 ∙ e) (zeros n))
@@ -62,8 +45,11 @@ bound (holds∷ {ws} {us} {l} {i} o le lt e) n h q =
           omega (arith, getD-set-other ws (i / 64) q (getD ws (i / 64) 0 + 2 ^ (i % 64)) 0 s, b, m))
     ]
 
-pub room : {ws l : List ℕ} → Holds ws l → (i : ℕ) → topOf l ≤ i → Room ws i
+room : {ws l : List ℕ} → Holds ws l → (i : ℕ) → topOf l ≤ i → Room ws i
 room {ws} o i h = let x : i - 64 * (i / 64) ≡ i % 64 = omega arith in rw x at (bound o i h (i / 64))
+
+pub room-below : (ws : List ℕ) (i : ℕ) → HoldsBelow ws i → Room ws i
+room-below ws i o = room (o .held) i (o .below)
 
 -- the word of the newest
 mark : {ws l : List ℕ} {i : ℕ} → Holds ws (i ∷ l) → 2 ^ (i % 64) ≤ getD ws (i / 64) 0
@@ -310,9 +296,6 @@ cut-start-at ws k b h s e = subst (λ (x : List ℕ). Cutting x k (set ws (k / 6
 pub cut-end-at : (ws : List ℕ) (k b : ℕ) (us : List ℕ) (j : ℕ) → 64 ≤ j → Cutting (set (set ws (k / 64) (getD ws (k / 64) 0 % b)) (k / 64) (getD ws (k / 64) 0)) k us j → CutAt ws k us
 cut-end-at ws k b us j h c = cut-end ws k us j h (subst (λ (x : List ℕ). Cutting x k us j) (whole ws (k / 64) (getD ws (k / 64) 0 % b)) c)
 
-pub top-at : (ws : List ℕ) (r : ℕ) → Highest ws 64 r → TopIs ws r
-top-at ws r u l o = highest-is o r u
-
 pub below-le : (w k b h : ℕ) → b ≡ 2 ^ (k % 64) → (1 ≤ h) × (h ≤ 64) × (2 ^ (h - 1) ≤ w % b) × (w % b < 2 ^ h) → k / 64 * 64 + h ≤ k
 below-le w k b h e f =
     let m : w % b < 2 ^ (k % 64) = rw e (mod-lt w (pow-pos (k % 64))) in
@@ -324,3 +307,27 @@ below-le w k b h e f =
 pub highest-le : (ws : List ℕ) (n r : ℕ) → Highest ws n r → r ≤ n * 64
 highest-le ws n zero u = omega arith
 highest-le ws n (suc r) u = omega (arith, u .place, u .below, u .small)
+
+-- ---- all are below i: words above that of i hold nothing
+pub newest-is : (ws : List ℕ) (i r : ℕ) → i < 4096 → HoldsBelow ws i → Highest ws (i / 64 + 1) r → TopIs ws r
+newest-is ws i r h o u l k =
+    highest-is k r (less-words ws ws (i / 64 + 1) r (omega arith) (λ p a. refl)
+    (λ p a. let z : i - 64 * p ≡ 0 = omega arith in omega (arith, rw z at (bound (o .held) i (o .below) p))) u)
+
+pub top-le : (ws : List ℕ) (f i : ℕ) → HoldsBelow ws i → TopIs ws f → f ≤ i
+top-le ws f i o p = omega (arith, p (o .openers) (o .held), o .below)
+
+-- ---- words hold one list alone
+
+newer-not : (ws : List ℕ) (i j : ℕ) (l m : List ℕ) → Holds ws (i ∷ l) → Holds ws (j ∷ m) → i < j → ⊥
+newer-not ws i j l m p q h =
+    let e : 2 ^ (suc i - 64 * (j / 64)) ≤ 2 ^ (j % 64) = pow-mono (omega arith) in
+    omega (arith, e, bound p (suc i) (omega arith) (j / 64), mark q)
+
+pub holds-same : (k l : List ℕ) {ws : List ℕ} → Holds ws k → Holds ws l → k ≡ l
+holds-same [] [] p q = refl
+holds-same [] (j ∷ m) (holds[] e z) q = absurd (omega (arith, z (j / 64), mark q, pow-pos (j % 64)))
+holds-same (i ∷ k) [] p (holds[] e z) = absurd (omega (arith, z (i / 64), mark p, pow-pos (i % 64)))
+holds-same (i ∷ k) (j ∷ m) {ws} p q =
+    let e : i ≡ j = by-order i j (newer-not ws i j k m p q) (newer-not ws j i m k q p) in
+    rw (e, holds-same k m (under-newest p) (rw (← e) at (under-newest q)))

@@ -14,6 +14,12 @@ pub data Holds : List ℕ → List ℕ → Type 0 where
   holds[] : {ws : List ℕ} → length ws ≡ 64 → ((q : ℕ) → getD ws q 0 ≡ 0) → Holds ws []
   holds∷ : {ws us l : List ℕ} {i : ℕ} → Holds ws l → topOf l ≤ i → i < 4096 → us ≡ set ws (i / 64) (getD ws (i / 64) 0 + 2 ^ (i % 64)) → Holds us (i ∷ l)
 
+-- the words hold some openers, all below i
+pub record HoldsBelow (ws : List ℕ) (i : ℕ) : Type 0 where
+  pub openers : List ℕ
+  pub held : Holds ws openers
+  pub below : topOf openers ≤ i
+
 -- r is one more than the highest mark of the first n words: words above its own are 0, and its own has it as the highest bit
 pub record HighestMark (ws : List ℕ) (n r : ℕ) : Type 0 where
   pub q : ℕ

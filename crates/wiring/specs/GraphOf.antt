@@ -5,7 +5,7 @@ use mathlib.Core.Bool.{Bool, true, false, _&&_}
 use mathlib.Core.List.{List}
 use native.Mathlib.Omega.{arith}
 use lib.Dec.{leb}
-use lib.ListN.{length}
+use lib.ListN.{length, replicate}
 use Rattle.reader.specs.Bytes.{pick}
 use Rattle.reader.specs.Listing.{Listing, count, total}
 use Rattle.reader.specs.Records.{padded, countsOf}
@@ -19,8 +19,8 @@ use Rattle.wiring.specs.Prepared.{Prepared, linkTable, dispatchedFrom}
 use Rattle.wiring.specs.HoldsListing.{HoldsListing}
 use Rattle.wiring.specs.Preparing.{PrepareReady, PreparedTo}
 use Rattle.wiring.specs.Wiring.{WireHeld, WireReady, WiredGraph, WiringDone, WiredTo}
-use Rattle.wiring.specs.GraphTables.{Sizes, sizesOf, answerOf, tableOf, Answered, edgesFitted, countTable, lineTable, stmtTable, argTable, entryTable, fallTable, linksTable, framesTable, dispatchedTable, listTable, returnTable, succTable, predTable}
-use Rattle.wiring.specs.BuildLaws.{GraphReady, GraphMade}
+use Rattle.wiring.specs.GraphTables.{Zeroed, Sizes, sizesOf, answerOf, tableOf, Answered, edgesFitted, countTable, lineTable, stmtTable, argTable, entryTable, fallTable, linksTable, framesTable, dispatchedTable, listTable, returnTable, succTable, predTable}
+use Rattle.wiring.specs.BuildLaws.{GraphReady, GraphMade, all-zero}
 use Rattle.wiring.specs.declared.build.Built.{Built as BuiltAnswer}
 use Rattle.wiring.specs.declared.build.Built.the-variants as answer
 
@@ -45,8 +45,8 @@ module _ {h : Bool} {c n : ℕ} {counts lines stmts args entries falls links fra
 
   module _ {e f k m d : List ℕ} {x : ℕ} (p : PreparedTo lines stmts args e f k m d c n x) where
     -- an inner statement is always found (27)
-    pub never-lost : {A : Type 0} → x ≡ 0 → A
-    never-lost z = absurd (omega (arith, z, p .answered))
+    pub found-some : 1 ≤ x
+    found-some = omega (arith, p .answered)
 
     same-counts : (L : Listing) → HoldsListing L lines stmts args c n → h ≡ L .handlers → countsOf (r .listing) ≡ countsOf L
     unfolding countsOf
@@ -111,9 +111,12 @@ module _ {h : Bool} {c n : ℕ} {counts lines stmts args entries falls links fra
           → sizesOf lines stmts args′ e f k m d lists′ returns′ succ′ pred′ ≡ sizesOf lines stmts args entries falls links frames dispatched lists returns succ pred
       same-sizes ea = rw (ea, ee, ef, ek, em, ed, ei, er, eu, ep)
 
-      pub made-refused : {c″ l″ t″ a″ e″ f″ k″ m″ d″ i″ r″ u″ p″ : List ℕ} {y : BuiltAnswer} → written ≡ false → length args′ ≡ length args
-          → Answered (refused 23 edges) (sizesOf lines stmts args′ e f k m d lists′ returns′ succ′ pred′) c″ l″ t″ a″ e″ f″ k″ m″ d″ i″ r″ u″ p″ y
-          → GraphMade h c n lines stmts args (sizesOf lines stmts args entries falls links frames dispatched lists returns succ pred) c″ l″ t″ a″ e″ f″ k″ m″ d″ i″ r″ u″ p″ y
-      made-refused {c″} {l″} {t″} {a″} {e″} {f″} {k″} {m″} {d″} {i″} {r″} {u″} {p″} {y} t ea a L H g =
-          let b : edgesFitted (min (length succ) (length pred)) L ≡ refused 23 edges = fitted-by L H g ∙ ap (λ (z : Bool). pick z (graph L) (refused 23 edges)) t in
-          rw b (subst (λ (s : Sizes). Answered (refused 23 edges) s c″ l″ t″ a″ e″ f″ k″ m″ d″ i″ r″ u″ p″ y) (same-sizes ea) a)
+      pub made-refused : {number : ℕ} {c″ l″ t″ a″ e″ f″ k″ m″ d″ i″ r″ u″ p″ : List ℕ} → written ≡ false → length args′ ≡ length args → number ≡ 23
+          → (c″ ≡ replicate 5 0) × Zeroed lines l″ × Zeroed stmts t″ × Zeroed args′ a″ → Zeroed e e″ × Zeroed f f″ × Zeroed k k″ × Zeroed m m″ × Zeroed d d″
+          → Zeroed lists′ i″ × Zeroed returns′ r″ × Zeroed succ′ u″ × Zeroed pred′ p″
+          → GraphMade h c n lines stmts args (sizesOf lines stmts args entries falls links frames dispatched lists returns succ pred) c″ l″ t″ a″ e″ f″ k″ m″ d″ i″ r″ u″ p″ (answer.Refused number edges)
+      made-refused {number} {c″} {l″} {t″} {a″} {e″} {f″} {k″} {m″} {d″} {i″} {r″} {u″} {p″} t ea en x y z L H g =
+          let b : edgesFitted (min (length succ) (length pred)) L ≡ refused number edges =
+          fitted-by L H g ∙ ap (λ (z : Bool). pick z (graph L) (refused 23 edges)) t ∙ ap (λ (z : ℕ). refused z edges) (sym en) in
+          rw b (subst (λ (s : Sizes). Answered (refused number edges) s c″ l″ t″ a″ e″ f″ k″ m″ d″ i″ r″ u″ p″ (answer.Refused number edges)) (same-sizes ea)
+          (all-zero number edges lines stmts args′ e f k m d lists′ returns′ succ′ pred′ c″ l″ t″ a″ e″ f″ k″ m″ d″ i″ r″ u″ p″ x y z))

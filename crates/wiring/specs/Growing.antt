@@ -7,7 +7,7 @@ use native.Mathlib.Omega.{arith}
 use native.Mathlib.Numerals.{add-one}
 use lib.ListN.{length, getD, set, take, length-set}
 use lib.Seq.{take-suc, take-all, take-suc-set, drop-set-lt, length-take-le}
-use Rattle.reader.specs.Every.{all[], all∷}
+use Rattle.reader.specs.Every.{All, all[], all∷}
 use Rattle.graph.specs.Lists.{has, add, each}
 use Rattle.graph.specs.ListLaws.{add-old, add-new}
 use Rattle.graph.specs.Adding.{Added, decode, added-none, added-both, added-one}
@@ -37,19 +37,19 @@ grown-room m part n t g h =
 
 -- ---- pieces
 
-pub ids-left : (m : ℕ) (k l : List ℕ) → Ids m (k ++ l) → Ids m k
-ids-left m [] l h = all[]
-ids-left m (a ∷ k) l (all∷ p h) = all∷ p (ids-left m k l h)
+pub all-left : {P : ℕ → Type 0} (k l : List ℕ) → All P (k ++ l) → All P k
+all-left [] l h = all[]
+all-left (a ∷ k) l (all∷ p h) = all∷ p (all-left k l h)
 
-pub ids-right : (m : ℕ) (k l : List ℕ) → Ids m (k ++ l) → Ids m l
-ids-right m [] l h = h
-ids-right m (a ∷ k) l (all∷ p h) = ids-right m k l h
+pub all-right : {P : ℕ → Type 0} (k l : List ℕ) → All P (k ++ l) → All P l
+all-right [] l h = h
+all-right (a ∷ k) l (all∷ p h) = all-right k l h
 
 pub grows-none : (p : List ℕ) (n : ℕ) → Grows p n p n []
 grows-none p n = record { added = added-none p n; grown = λ m g h. g }
 
 pub grows-both : (p q s : List ℕ) (n m r : ℕ) (k l : List ℕ) → Grows p n q m k → Grows q m s r l → Grows p n s r (k ++ l)
-grows-both p q s n m r k l a b = record { added = added-both p q s n m r k l (a .added) (b .added); grown = λ x g h. b .grown x (a .grown x g (ids-left x k l h)) (ids-right x k l h) }
+grows-both p q s n m r k l a b = record { added = added-both p q s n m r k l (a .added) (b .added); grown = λ x g h. b .grown x (a .grown x g (all-left k l h)) (all-right k l h) }
 
 pub grown-added : (m : ℕ) (p q : List ℕ) (n r : ℕ) (l : List ℕ) → Added p n q r l → length q ≡ length p → r ≤ length q → Grown m p n → Ids m l → Grown m q r
 grown-added m p q n r l a s w g h =

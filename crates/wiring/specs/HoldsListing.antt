@@ -1,19 +1,18 @@
 -- The tables that the reader writes hold a listing, and so its nodes as the wiring reads them. Assumes nothing.
 use Prim.Native.Nat.{ℕ, zero, suc, _+_, _*_, _-_, _≤_, _<_}
 use mathlib.Core.Path.{_≡_, refl, sym, ap, _∙_}
-use mathlib.Core.Bool.{Bool}
 use mathlib.Core.List.{List, [], _∷_, _++_}
 use mathlib.Core.Option.{Option, none, some}
 use native.Mathlib.Omega.{arith}
-use lib.ListN.{length, getD, take, drop, replicate, length-append}
+use lib.ListN.{length, getD, take, drop, replicate}
 use lib.Seq.{getD-take, getD-drop}
 use Rattle.reader.specs.Every.{All, all[], all∷, all-append}
 use Rattle.reader.specs.Listing.{Stmts, ∅, _▸_, branching, Lines, nolines, line, Listing, size, len, total, count}
 use Rattle.reader.specs.ListingText.{SimpleOk, StmtsOk, LinesOk, InForm}
 use Rattle.reader.specs.Records.{Rec, lineRecs, lineNumbers, recRow, recRows, argRow, argRows, padded}
-use Rattle.reader.specs.RecordLaws.{rec-at, recs-length}
-use Rattle.reader.specs.Tables.{joined-length}
-use Rattle.reader.specs.ReadBack.{Held, lines-wide}
+use Rattle.reader.specs.RecordLaws.{rec-at}
+use Rattle.reader.specs.ReadBack.{lines-wide}
+use Rattle.reader.specs.WordTable.{zeros}
 use Rattle.graph.specs.Members.{all-at}
 use Rattle.graph.specs.Nodes.{NodeStmt, simple, cond, Node, allocate, lineEntry, nodesBefore, nodes}
 use Rattle.graph.specs.NodeLaws.{length-nodes}
@@ -21,10 +20,7 @@ use Rattle.graph.specs.NodeRecords.{StmtIs, RecOf, lines-match, match-at}
 use Rattle.graph.specs.Graph.{wire}
 use Rattle.wiring.specs.ListedNodes.{StmtListed, NodeListed, Listed}
 use Rattle.wiring.specs.Frames.{Worded}
-use Rattle.wiring.specs.FrameStackLaws.{zeros}
 use Rattle.wiring.specs.Held.{LinesHeld, StmtsHeld, ArgsHeld, lines-held, stmts-held, args-held}
-use Rattle.wiring.specs.LineEntries.{recs-total}
-use Rattle.wiring.specs.LineSearch.{line-numbers-length}
 use Rattle.wiring.specs.JumpLaws.{args-row, few-at}
 
 -- the tables hold the listing L, which is in form: c lines, n statements
@@ -40,31 +36,6 @@ pub record HoldsListing (L : Listing) (lines stmts args : List ℕ) (c n : ℕ) 
   pub args-fit : n * 64 ≤ length args
 
 -- ---- from the reader's contract
-
-padded-fits : (t l : List ℕ) → t ≡ padded (length t) l → length l ≤ length t
-unfolding padded
-padded-fits t l e = omega (arith, ap length e, length-append l (replicate (length t - length l) 0))
-
--- tables of nl, ns and na entries
-pub held-listing : {text : List ℕ} {nl ns na : ℕ} {lines stmts args : List ℕ} {h : Bool} {c n : ℕ} (d : Held text nl ns na lines stmts args h c n)
-    → length lines ≡ nl → length stmts ≡ ns → length args ≡ na → HoldsListing (d .tree) lines stmts args c n
-held-listing {lines = lines} {stmts = stmts} {args = args} d el es ea =
-    let ls = (d .tree) .lines in
-    let k = recs-total ls in
-    let pl : lines ≡ padded (length lines) (lineNumbers ls) = d .tables .lines ∙ ap (λ (m : ℕ). padded m (lineNumbers ls)) (sym el) in
-    let ps : stmts ≡ padded (length stmts) (recRows (lineRecs ls)) = d .tables .stmts ∙ ap (λ (m : ℕ). padded m (recRows (lineRecs ls))) (sym es) in
-    let pa : args ≡ padded (length args) (argRows (lineRecs ls)) = d .tables .args ∙ ap (λ (m : ℕ). padded m (argRows (lineRecs ls))) (sym ea) in
-    record {
-      in-form = d .in-form;
-      count-is = d .line-count;
-      nodes-are = d .stmt-count;
-      lines-are = pl;
-      stmts-are = ps;
-      args-are = pa;
-      lines-fit = omega (arith, padded-fits lines (lineNumbers ls) pl, line-numbers-length ls, d .line-count);
-      stmts-fit = omega (arith, padded-fits stmts (recRows (lineRecs ls)) ps, recs-length (lineRecs ls), k, d .stmt-count);
-      args-fit = omega (arith, padded-fits args (argRows (lineRecs ls)) pa, joined-length argRow 64 (lines-wide ls (d .in-form .lines)), k, d .stmt-count);
-    }
 
 -- ---- numbers and names of every node are in form
 

@@ -15,7 +15,7 @@ use Rattle.reader.specs.Every.{all[], all∷}
 use Rattle.reader.specs.Listing.{Simple, goto, gosub, return, run, runto, ongoto, ongosub, for, next, repeat, loop, until, endloop, exit, exitif, doif, else, done, clr, stop, any, if, ifelse, rcomp, Lines, line, total}
 use Rattle.reader.specs.ListingText.{simpleWord, condWord}
 use Rattle.reader.specs.Records.{Rec, argsOf, lineRecs, recRow, argRows, padded, joined, argRow}
-use Rattle.reader.specs.Tables.{Wide}
+use Rattle.reader.specs.Tables.{Wide, set-past}
 use Rattle.reader.specs.ReadBack.{lines-wide}
 use Rattle.reader.specs.RecordLaws.{rec-at}
 use Rattle.reader.specs.Rows.{openingWords}
@@ -30,6 +30,7 @@ use Rattle.wiring.specs.LineEntries.{at-place}
 use Rattle.wiring.specs.LineSearch.{EntriesHeld, EntryFound, numbersOf, entry-table}
 use Rattle.wiring.specs.FallLaws.{sets-append}
 use Rattle.wiring.specs.Jumps.{jumpTargets, stmtTargets, linkRow, linked, namesLines, jumpCount, RowLinked}
+use Rattle.wiring.specs.Dispatched.{take-node}
 
 -- ---- the tests
 
@@ -114,15 +115,11 @@ sets-left p q i [] h = refl
 sets-left p q i (a ∷ l) h =
     ap (λ (z : List ℕ). sets z (suc i) l) (set-append-left p q i a (omega arith)) ∙ sets-left (set p i a) q (suc i) l (simp length-set (omega arith))
 
-set-right : (p q : List ℕ) (i a : ℕ) → set (p ++ q) (length p + i) a ≡ p ++ set q i a
-set-right [] q i a = let z : 0 + i ≡ i = omega arith in rw z
-set-right (b ∷ p) q i a = let z : suc (length p) + i ≡ suc (length p + i) = omega arith in rw z (ap (λ (l : List ℕ). b ∷ l) (set-right p q i a))
-
 sets-right : (p q : List ℕ) (i : ℕ) (l : List ℕ) → sets (p ++ q) (length p + i) l ≡ p ++ sets q i l
 sets-right p q i [] = refl
 sets-right p q i (a ∷ l) =
     let z : suc (length p + i) ≡ length p + suc i = omega arith in
-    ap (λ (k : List ℕ). sets k (suc (length p + i)) l) (set-right p q i a) ∙ ap (λ (k : ℕ). sets (p ++ set q i a) k l) z ∙ sets-right p (set q i a) (suc i) l
+    ap (λ (k : List ℕ). sets k (suc (length p + i)) l) (set-past p q i a) ∙ ap (λ (k : ℕ). sets (p ++ set q i a) k l) z ∙ sets-right p (set q i a) (suc i) l
 
 pub sets-part : (t : List ℕ) (at w : ℕ) (l : List ℕ) → at + w ≤ length t → length l ≤ w
     → take at t ++ (sets (take w (drop at t)) 0 l ++ drop w (drop at t)) ≡ sets t at l
@@ -209,11 +206,6 @@ linked-snoc es t i (m ∷ ns) n =
     let t′ = sets t (i * 64) (linkRow es (stmtTargets (m .stmt))) in
     linked-snoc es t′ (suc i) ns n ∙ ap (λ (k : ℕ). sets (linked es t′ (suc i) ns) (k * 64) (linkRow es (stmtTargets (n .stmt)))) z
 
-snoc-place : {A : Type 0} (l : List A) (i : ℕ) (a : A) → getElem? l i ≡ some a → take (suc i) l ≡ take i l ++ (a ∷ [])
-snoc-place [] i a e = absurd (let z : _≡_ {A = ℕ} 0 1 = cc in omega arith)
-snoc-place (b ∷ l) zero a e = let q : b ≡ a = cc in rw q
-snoc-place (b ∷ l) (suc i) a e = ap (λ (k : List _). b ∷ k) (snoc-place l i a e)
-
 pub jumps-start : (es : Entries) (t : List ℕ) (ns : List Node) → t ≡ linked es t 0 (take 0 ns)
 unfolding linked
 jumps-start es t ns = refl
@@ -248,7 +240,7 @@ jumps-step lines table c stmts args n ls lh eh sh ah t u part i k h room ek row 
     let lf : length F ≤ 64 = omega (arith, link-length es (stmtTargets (p .0 .stmt)), targets-few (p .0 .stmt) (0 + i) r (m .2 .stmt-is) fr) in
     let li : (0 + length (take i ns)) * 64 ≡ i * 64 = omega (arith, length-take i ns, nl, sh .counted) in
     ap (λ (x : List ℕ). take (i * 64) u ++ (x ++ drop 64 (drop (i * 64) u))) ep ∙ sets-part u (i * 64) 64 F room lf ∙ ap (λ (x : List ℕ). sets x (i * 64) F) eu
-    ∙ sym (rw (add-one i, snoc-place ns i (p .0) (p .1)) (linked-snoc es t 0 (take i ns) (p .0) ∙ rw li))
+    ∙ sym (rw (add-one i, take-node ns i (p .0) (p .1)) (linked-snoc es t 0 (take i ns) (p .0) ∙ rw li))
 
 -- the part from `at` to `at + 64`
 pub jumps-lent : (lines table : List ℕ) (c : ℕ) (stmts args : List ℕ) (n : ℕ) (ls : Lines) → LinesHeld ls lines c → EntriesHeld ls table → StmtsHeld ls stmts n → ArgsHeld ls args

@@ -19,6 +19,7 @@ use Rattle.graph.specs.Members.{all-at}
 use Rattle.graph.specs.Edges.{Move, stays, opens, closes, joins, nodeMoves, Stack, loopStack, doStack}
 use Rattle.graph.specs.PerNode.{Met, nothing, closing, joining, meets, isClosing, isJoining, moveOn, metOn, noOpeners, Fact, facts, fallsWhere, someWhere, closerFall, doifFalls, late}
 use Rattle.graph.specs.Adding.{nodeNumber, decode, decode-number, Added, added-none}
+use Rattle.graph.specs.ListLaws.{later}
 use Rattle.wiring.specs.Frames.{loopMove, doMove, wordMove, eitherMet, frameMet, metNumber, metEntry, closesFrame, isElseOf, firstWhere, nextWhere, doMetOf, elseEntry}
 use Rattle.graph.specs.PerNodeLaws.{length-facts}
 use Rattle.wiring.specs.OpenerLaws.{MetIs, some-at, in-range, OpensHere, openAt, met-at, fall-at, stmt-at, met-opened, closed-once, node-of}
@@ -120,11 +121,7 @@ joins-cases w e = go (eqb w 19) (eqb w 20) refl refl e
 no-join : (w : ℕ) → joinsWord w ≡ false → (isExit w ≡ true) ⊎ (eqb w 22 ≡ true) → ⊥
 unfolding joinsWord
 no-join w e (inl q) = let r : true ≡ false = rw q at e in let z : _≡_ {A = ℕ} 0 1 = cc in omega arith
-no-join w e (inr q) = let r = or-last (eqb w 19 || eqb w 20) (eqb w 22) q in let z : _≡_ {A = ℕ} 0 1 = cc in omega arith
-  where
-    or-last : (x y : Bool) → y ≡ true → (x || y) ≡ true
-    or-last true y h = refl
-    or-last false y h = h
+no-join w e (inr q) = let r = later (eqb w 19 || eqb w 20) (eqb w 22) q in let z : _≡_ {A = ℕ} 0 1 = cc in omega arith
 
 loop-none : (F : List Fact) (i : ℕ) (m : Move) (x : Met) → (m ≡ joins → ⊥) → late loopStack F i m x ≡ []
 unfolding late

@@ -25,10 +25,12 @@ pub mod FrameCases
 pub mod ListedNodes
 pub mod ForStack
 pub mod ForStackLaws
+pub mod NotedKeys
 pub mod ForLinks
 pub mod ForLinkLaws
 pub mod Dispatched
 pub mod Growing
+pub mod AddedAgain
 pub mod NextBodies
 pub mod NextBodyLaws
 pub mod AddRoom

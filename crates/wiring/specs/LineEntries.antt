@@ -11,9 +11,8 @@ use Rattle.reader.specs.Listing.{Stmts, ∅, _▸_, branching, Lines, nolines, 
 use Rattle.reader.specs.Records.{Rec, recRow, recRows, padded, stmtRecs, lineRecs, simpleRec, condRec}
 use Rattle.reader.specs.RecordLaws.{rec-at}
 use Rattle.reader.specs.Every.{All, all[], all∷, all-append}
+use Rattle.reader.specs.ReadingRecords.{lines-length}
 use Rattle.graph.specs.Nodes.{lineEntry, Entries, entriesBefore, entries}
-use Rattle.graph.specs.NodeLaws.{length-nodes}
-use Rattle.graph.specs.NodeRecords.{Match, match[], match∷, lines-match}
 use Rattle.graph.specs.Adding.{nodeNumber}
 use Rattle.wiring.specs.Held.{StmtsHeld}
 
@@ -47,13 +46,6 @@ pub at-place : {A : Type 0} (l : List A) (i : ℕ) → i < length l → (a : A) 
 at-place [] i h = absurd (omega arith)
 at-place (a ∷ l) zero h = (a, refl, refl)
 at-place (a ∷ l) (suc i) h = at-place l i (omega arith)
-
-match-length : {i : ℕ} {ns : List _} {rs : List Rec} → Match i ns rs → length rs ≡ length ns
-match-length match[] = refl
-match-length (match∷ p ps) = ap suc (match-length ps)
-
-pub recs-total : (ls : Lines) → length (lineRecs ls) ≡ total ls
-recs-total ls = match-length (lines-match none ls) ∙ length-nodes none ls
 
 -- ---- the first pass: a line's first statement, one more than its node, or 0
 
@@ -143,7 +135,7 @@ pub first-all : (ls : Lines) (u : List ℕ) → firstNodes 0 (replicate (count l
 unfolding firstNodes firstRows lineRecs count
 first-all nolines u = refl
 first-all (line ls n s) u =
-    let z : 0 + length (lineRecs ls) ≡ total ls = omega (arith, recs-total ls) in
+    let z : 0 + length (lineRecs ls) ≡ total ls = omega (arith, lines-length ls) in
     first-append 0 (replicate (suc (count ls)) 0 ++ u) (lineRecs ls) (stmtRecs (count ls) 0 0 (total ls) s)
     ∙ ap (λ (k : ℕ). firstNodes 0 (firstNodes k (replicate (suc (count ls)) 0 ++ u) (stmtRecs (count ls) 0 0 (total ls) s)) (lineRecs ls)) z
     ∙ ap (λ (t : List ℕ). firstNodes 0 t (lineRecs ls)) (first-line (count ls) (total ls) u s)
@@ -244,5 +236,5 @@ pub entries-both : (stmts : List ℕ) (c n : ℕ) (t u v : List ℕ) → c ≤ l
 unfolding padded entryRows entries
 entries-both stmts c n t u v h f g ls s e z =
     let k : length (entryNumbers (entriesBefore none ls)) ≡ count ls = numbers-length (entriesBefore none ls) ∙ entries-length none ls in
-    g ls (replicate (length t - count ls) 0) e (entries-filled ls t u (omega arith) z (f (lineRecs ls) (s .rest) (s .rows) (s .counted ∙ sym (recs-total ls))))
+    g ls (replicate (length t - count ls) 0) e (entries-filled ls t u (omega arith) z (f (lineRecs ls) (s .rest) (s .rows) (s .counted ∙ sym (lines-length ls))))
     ∙ rw k

@@ -12,9 +12,10 @@ use lib.Dec.{eqb}
 use lib.ListN.{length, getD, take, replicate, length-append, length-take, List·getD-append, List·getD-eq-default}
 use lib.Seq.{getD-take, take-at}
 use Rattle.reader.specs.Bytes.{pick}
-use Rattle.reader.specs.Listing.{Lines, nolines, line, total, count}
+use Rattle.reader.specs.Listing.{Lines, nolines, line, total}
 use Rattle.reader.specs.ListingText.{lastNumber, Above, LinesOk}
 use Rattle.reader.specs.Records.{lineNumbers, padded}
+use Rattle.reader.specs.ReadingRecords.{numbers-count}
 use Rattle.wiring.specs.Compare.{lt-or}
 use Rattle.graph.specs.Adding.{nodeNumber}
 use Rattle.graph.specs.Nodes.{lineEntry, Entries, entriesBefore, entries, entryOf}
@@ -183,11 +184,6 @@ numbers-of e (line ls n s) =
     let d = lineEntry (total ls) s e in
     numbers-snoc (entriesBefore d ls) (n, d) ∙ ap (λ (l : List ℕ). l ++ (n ∷ [])) (numbers-of d ls)
 
-pub line-numbers-length : (ls : Lines) → length (lineNumbers ls) ≡ count ls
-unfolding lineNumbers count
-line-numbers-length nolines = refl
-line-numbers-length (line ls n s) = simp length-append (omega (arith, line-numbers-length ls))
-
 -- a place in a list with one more: before the last, or the last
 in-snoc : (P : ℕ → Type 0) (l : List ℕ) (n k : ℕ) → k < length (l ++ (n ∷ [])) → (k < length l → P (getD l k 0)) → P n → P (getD (l ++ (n ∷ [])) k 0)
 in-snoc P [] n zero h f p = p
@@ -246,6 +242,6 @@ entry-table ls lines table n h e =
 -- the part of the line numbers alone
 pub lines-exact : (ls : Lines) (lines : List ℕ) (n : ℕ) → LinesHeld ls lines n → LinesHeld ls (take n lines) (length (take n lines))
 lines-exact ls lines n h =
-    let k : length (lineNumbers ls) ≡ n = line-numbers-length ls ∙ sym (h .counted) in
+    let k : length (lineNumbers ls) ≡ n = numbers-count ls ∙ sym (h .counted) in
     let q : take n lines ≡ lineNumbers ls = ap (take n) (h .rows) ∙ take-at (lineNumbers ls) (h .rest) n k in
-    record { in-form = h .in-form; counted = ap length q ∙ line-numbers-length ls; rest = []; rows = q ∙ sym (append-nil (lineNumbers ls)) }
+    record { in-form = h .in-form; counted = ap length q ∙ numbers-count ls; rest = []; rows = q ∙ sym (append-nil (lineNumbers ls)) }

@@ -17,12 +17,12 @@ use Rattle.graph.specs.Nodes.{Node}
 use Rattle.graph.specs.Edges.{Move, stays, opens, closes, joins, Stack, loopStack, doStack}
 use Rattle.graph.specs.PerNode.{Met, nothing, closing, joining, meets, isClosing, isJoining, metOn, noOpeners, Fact, facts}
 use Rattle.wiring.specs.Frames.{loopMove, doMove, wordMove, Worded, eitherMet, frameMet, metNumber, metEntry, closesFrame, isElseOf, firstWhere, nextWhere, doMetOf, elseEntry, Framed}
-use Rattle.wiring.specs.FrameStackLaws.{lt-or}
 use Rattle.wiring.specs.FrameRows.{table-is}
 use Rattle.graph.specs.PerNodeLaws.{length-facts}
 use Rattle.wiring.specs.OpenerLaws.{MetIs, some-at, openAt, met-at, met-below, node-of}
 use Rattle.wiring.specs.MoveLaws.{word-move, one-stack, isExit, loop-closes, loop-joins, do-closes, do-joins}
 use Rattle.wiring.specs.FramePass.{MetUpto, MetBelow, MetFrames, elseLinked, linkedTo, linked, LinkedFrom}
+use Rattle.wiring.specs.Compare.{lt-or}
 
 -- ---- the kinds of nodes: w is the opening word
 data Kind (w : ℕ) (f : Fact) : Type 0 where

@@ -1,5 +1,5 @@
 -- A list of nodes as the tables hold it: the entries of the records that the passes over FOR and NEXT read. Assumes nothing.
-use Prim.Native.Nat.{ℕ, zero, suc, _+_, _*_, _-_, _<_, _≤_}
+use Prim.Native.Nat.{ℕ, _+_, _*_, _-_, _<_, _≤_}
 use mathlib.Core.Path.{_≡_, refl, sym, ap, subst, _∙_}
 use mathlib.Core.Bool.{Bool, true, false}
 use mathlib.Core.List.{List, [], _∷_}
@@ -16,12 +16,13 @@ use Rattle.reader.specs.Rows.{openingWords}
 use Rattle.reader.specs.WordTable.{words, first, wordIndex}
 use Rattle.reader.specs.WordText.{same-equal}
 use Rattle.reader.specs.Records.{nameKey, argsOf, detailOf}
-use Rattle.reader.specs.Names.{encode, key-injective, key-not-zero}
+use Rattle.reader.specs.Names.{key-injective, key-not-zero}
 use Rattle.graph.specs.Adding.{nodeNumber}
 use Rattle.graph.specs.Nodes.{NodeStmt, simple, cond, Node}
 use Rattle.graph.specs.NodeRecords.{stmtWord, stmtNumber}
 use Rattle.graph.specs.Targets.{onFor, onNext, onSimple, dispatchTarget, orphanEdges}
 use Rattle.graph.specs.Edges.{keepFors, onFors, onLoops, onDos, noMoves, movesOf, nodeMoves}
+use Rattle.wiring.specs.LineEntries.{at-place}
 
 -- ts: 12 entries a statement; ks: 64 arguments a statement. Of statement i, which holds no others:
 pub record SimpleListed (ts ks : List ℕ) (i : ℕ) (o : Simple) : Type 0 where
@@ -114,15 +115,10 @@ for-kind (cond rcomp a b) = neither refl refl refl (λ e. refl) (λ ds. refl)
 
 -- ---- names by their keys
 
-key-is : (v : Name) → nameKey v ≡ encode v
-unfolding nameKey encode
-key-is [] = refl
-key-is (b ∷ v) = rw (key-is v)
-
 pub key-some : (v : Name) → NameOk v → nameKey v ≡ 0 → ⊥
-key-some v h e = omega (arith, key-is v, key-not-zero v h)
+key-some v h e = omega (arith, key-not-zero v h)
 
-same-self : (v : List ℕ) → same v v ≡ true
+pub same-self : (v : List ℕ) → same v v ≡ true
 unfolding same
 same-self [] = refl
 same-self (b ∷ v) = rw (eq-eqb b b refl) (same-self v)
@@ -134,17 +130,12 @@ key-same v w g h = go (same v w) refl
     go true e = eq-eqb (nameKey w) (nameKey v) (ap nameKey (sym (same-equal v w e)))
     go false e =
         ne-eqb (nameKey w) (nameKey v) (λ q.
-        let p : v ≡ w = key-injective v w g h (sym (key-is v) ∙ sym q ∙ key-is w) in
+        let p : v ≡ w = key-injective v w g h (sym q) in
         let r : same v w ≡ true = subst (λ (x : List ℕ). same v x ≡ true) p (same-self v) in
         let z : true ≡ false = sym r ∙ e in
         absurd (let y : _≡_ {A = ℕ} 0 1 = cc in omega arith))
 
 -- ---- what a listed node's tests say
-
-pub node-at : {A : Type 0} (l : List A) (i : ℕ) → i < length l → (a : A) × (getElem? l i ≡ some a) × (drop i l ≡ a ∷ drop (suc i) l)
-node-at [] i h = absurd (omega arith)
-node-at (a ∷ l) zero h = (a, refl, refl)
-node-at (b ∷ l) (suc i) h = node-at l i (omega arith)
 
 module _ (ts ks : List ℕ) (i : ℕ) where
   pub keys-are : (o : Simple) → SimpleListed ts ks i o → i * 64 + 64 ≤ length ks → keysAt ts ks i ≡ argsOf o
@@ -162,6 +153,6 @@ module _ (ts ks : List ℕ) (i : ℕ) where
 -- so a NEXT of theirs has at most 64 slots
 pub listed-counted : (ts ks : List ℕ) (ns : List Node) → Listed ts ks ns → AllCounted ts (length ns)
 listed-counted ts ks ns h i lt =
-    let d = node-at ns i lt in
+    let d = at-place ns i lt in
     let s = (d .0) .stmt in
     next-few ts ks i s (h i (d .0) (d .1) .word) (h i (d .0) (d .1) .stmt) (for-kind s)

@@ -16,8 +16,9 @@ use Rattle.graph.specs.Nodes.{NodeStmt, simple, cond}
 use Rattle.graph.specs.NodeRecords.{stmtWord, stmtNumber}
 use Rattle.graph.specs.Edges.{Move, stays, opens, closes, joins, onFors, onLoops, onDos, noMoves, movesOf, nodeMoves, Stack, loopStack, doStack}
 use Rattle.graph.specs.PerNode.{moveOn}
-use Rattle.wiring.specs.FrameStackLaws.{lt-or}
+use Rattle.graph.specs.Distinct.{or-none}
 use Rattle.wiring.specs.Frames.{loopMove, doMove, wordMove}
+use Rattle.wiring.specs.Compare.{lt-or}
 
 -- both moves at once, so that the words are gone through once
 record Both (s : NodeStmt) : Type 0 where
@@ -123,9 +124,6 @@ module _ (w : ℕ) where
       rest e = elim (ℕ-discrete w 22) [ yes f ↦ rw (ne-eqb w 21 e, eq-eqb w 22 f) f | no f ↦ rw (ne-eqb w 21 e, ne-eqb w 22 f) (last e f) ]
 
 -- the tests that tell a closer, an EXIT and an ELSE apart
-or-none : (x y : Bool) → x ≡ false → y ≡ false → (x || y) ≡ false
-or-none x y e f = rw (e, f)
-
 module _ (w : ℕ) where
   pub loop-closes : loopMove w ≡ closes → (eqb w 22 ≡ false) × (isExit w ≡ false)
   loop-closes e =

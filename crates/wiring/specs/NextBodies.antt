@@ -1,13 +1,15 @@
 -- What a NEXT's list gets of FORs: the bodies of those that it pops, and of the dispatched ones that an orphan's slots select. Assumes nothing.
 use Prim.Native.Nat.{ℕ, zero, suc, _+_, _*_, _-_, _≤_, _<_}
-use mathlib.Core.Path.{_≡_, refl, sym, subst}
-use mathlib.Core.Bool.{Bool, true, false}
+use mathlib.Core.Path.{_≡_, refl, sym, subst, _∙_}
+use mathlib.Core.Bool.{Bool, true, false, _||_}
 use mathlib.Core.List.{List, [], _∷_, _++_, append-assoc, append-nil}
 use mathlib.Core.Option.{some}
 use native.Mathlib.Omega.{arith}
-use borrow.Author.Tests.{eq-eqb, ne-eqb}
+use native.Mathlib.Numerals.{add-one}
+use borrow.Author.Tests.{eq-eqb, ne-eqb, eqb-true}
 use lib.Dec.{eqb}
 use lib.ListN.{length, getD, take, drop}
+use lib.Seq.{drop-cons}
 use Rattle.reader.specs.Bytes.{pick}
 use Rattle.reader.specs.Every.{All, all[], all∷, all-append}
 use Rattle.reader.specs.Listing.{for}
@@ -15,9 +17,11 @@ use Rattle.graph.specs.Lists.{each, list}
 use Rattle.graph.specs.Adding.{decode}
 use Rattle.graph.specs.Members.{all-each}
 use Rattle.graph.specs.EdgeBounds.{Ids}
+use Rattle.graph.specs.ForLaws.{each-append}
 use Rattle.wiring.specs.ListedNodes.{keysAt}
 use Rattle.wiring.specs.ForLinks.{poppedBy}
-use Rattle.wiring.specs.Growing.{Grown, Grows, RoomFor, grown-room, grows-none}
+use Rattle.wiring.specs.Growing.{Grown, Grows, RoomFor, grown-room, grows-none, all-left, all-right}
+use Rattle.wiring.specs.AddedAgain.{AllIn, grows-again}
 
 -- es: where nodes fall, 3 entries a node. Of m nodes, each falls to one of them or nowhere
 pub record FallsFit (m : ℕ) (es : List ℕ) : Type 0 where
@@ -182,16 +186,58 @@ module _ (ks es p : List ℕ) (n key o u : ℕ) (i : u ≡ o) where
   unfolding selectedBody
   for-left-out e = rw (← i, e) (grows-none p n)
 
+-- ---- a slot before selects all that a slot does: `*`, or the same name
+
+unfoldable pub cameBefore : List ℕ → ℕ → Bool
+cameBefore [] key = false
+cameBefore (v ∷ vs) key = selectsKey v key || cameBefore vs key
+
+pub came-here : (vs : List ℕ) (key k : ℕ) → k < length vs → selectsKey (getD vs k 0) key ≡ true → cameBefore (drop k vs) key ≡ true
+unfolding cameBefore
+came-here vs key k h e = rw (drop-cons vs k 0 h, e)
+
+pub came-later : (vs : List ℕ) (key k : ℕ) → k < length vs → selectsKey (getD vs k 0) key ≡ false → cameBefore (drop k vs) key ≡ cameBefore (drop (k + 1) vs) key
+unfolding cameBefore
+came-later vs key k h e = rw (drop-cons vs k 0 h, e, add-one)
+
+selects-too : (v key name : ℕ) → selectsKey v key ≡ true → selectsKey key name ≡ true → selectsKey v name ≡ true
+unfolding selectsKey
+selects-too zero key name e f = refl
+selects-too (suc v) key name e f = let q : key ≡ suc v = eqb-true key (suc v) (selects-name (suc v) key (λ z. omega arith) ∙ e) in rw q at f
+
+module _ (ks es l : List ℕ) (v key : ℕ) (e : selectsKey v key ≡ true) where
+  selected-in : (o : ℕ) → AllIn l (selectedBody ks es v o) → AllIn l (selectedBody ks es key o)
+  unfolding selectedBody
+  selected-in o h = go (selectsKey key (getD ks (o * 64) 0)) refl
+    where
+      go : (x : Bool) → selectsKey key (getD ks (o * 64) 0) ≡ x → AllIn l (pick x (bodyAt es o) [])
+      go true f = rw (selects-too v key (getD ks (o * 64) 0) e f) at h
+      go false f = all[]
+
+  slot-in : (os : List ℕ) → AllIn l (slotBodies ks es os v) → AllIn l (slotBodies ks es os key)
+  unfolding slotBodies each
+  slot-in [] h = all[]
+  slot-in (o ∷ os) h = all-append (selected-in o (all-left (selectedBody ks es v o) _ h)) (slot-in os (all-right (selectedBody ks es v o) _ h))
+
+came-in : (ks es os l : List ℕ) (key : ℕ) (vs : List ℕ) → cameBefore vs key ≡ true → AllIn l (each (slotBodies ks es os) vs) → AllIn l (slotBodies ks es os key)
+unfolding cameBefore each
+came-in ks es os l key [] e h = absurd (let z : _≡_ {A = ℕ} 0 1 = cc in omega arith)
+came-in ks es os l key (v ∷ vs) e h = go (selectsKey v key) refl (λ f. came-in ks es os l key vs (rw f at e) (all-right (slotBodies ks es os v) _ h))
+  where
+    go : (x : Bool) → selectsKey v key ≡ x → (selectsKey v key ≡ false → AllIn l (slotBodies ks es os key)) → AllIn l (slotBodies ks es os key)
+    go true f rest = slot-in ks es l v key f os (all-left (slotBodies ks es os v) _ h)
+    go false f rest = rest f
+
+-- so it adds nothing
+pub came-grows : (ks es os vs p : List ℕ) (n key : ℕ) → cameBefore vs key ≡ true → AllIn (take n p) (each (slotBodies ks es os) vs) → Grows p n p n (slotBodies ks es os key)
+came-grows ks es os vs p n key e h = grows-again p n (slotBodies ks es os key) (came-in ks es os (take n p) key vs e h)
+
 -- ---- the links of a NEXT
 
 each-each : {A B C : Type 0} (f : A → List B) (g : B → List C) (l : List A) → each (λ a. each g (f a)) l ≡ each g (each f l)
 unfolding each
 each-each f g [] = refl
-each-each f g (a ∷ l) = rw (each-each f g l) (sym (each-join g (f a) (each f l)))
-  where
-    each-join : {B C : Type 0} (g : B → List C) (a b : List B) → each g (a ++ b) ≡ each g a ++ each g b
-    each-join g [] b = refl
-    each-join g (x ∷ a) b = rw (each-join g a b, append-assoc)
+each-each f g (a ∷ l) = rw (each-each f g l) (sym (each-append g (f a) (each f l)))
 
 module _ (es t : List ℕ) (i count : ℕ) where
   links-joined : each (linkBody es) (take (i * 64 + count - i * 64) (drop (i * 64) t)) ≡ each (bodyAt es) (poppedBy t i count)

@@ -21,11 +21,12 @@ use Rattle.graph.specs.Targets.{onNext, onSimple, dispatchTargets, selectable, 
 use Rattle.graph.specs.Edges.{nodeMoves}
 use Rattle.graph.specs.EdgeBounds.{Ids}
 use Rattle.graph.specs.PerNode.{Openers, noOpeners, after, Fact, factOf, facts, fallOf, fallAt}
-use Rattle.wiring.specs.ListedNodes.{StmtListed, Listed, FallsListed, keysAt, keys-are, ForKind, isFor, isNext, isOther, for-kind, for-number, next-number, key-some, key-same, node-at}
+use Rattle.wiring.specs.ListedNodes.{StmtListed, Listed, FallsListed, keysAt, keys-are, ForKind, isFor, isNext, isOther, for-kind, for-number, next-number, key-some, key-same}
 use Rattle.wiring.specs.ForLinks.{linkedRows, poppedBy}
 use Rattle.wiring.specs.ForLinkLaws.{next-links, popped-before}
 use Rattle.wiring.specs.Dispatched.{isDispatched, dispatchedIds, Bodies, bodies[], bodies∷, bodies-are}
 use Rattle.wiring.specs.NextBodies.{bodyAt, selectsKey, selectedBody, slotBodies, orphanBodies}
+use Rattle.wiring.specs.LineEntries.{at-place}
 
 -- ---- the FORs that a NEXT pops
 
@@ -39,7 +40,7 @@ module _ (es : List ℕ) (ns : List Node) (h : FallsListed es ns) (st : Openers)
   pub body-is : (o : ℕ) → o < length ns → bodyAt es o ≡ fallAt (facts 0 ns st) o
   unfolding bodyAt
   body-is o lt =
-      let d = node-at ns o lt in
+      let d = at-place ns o lt in
       ap decode (h o (d .0) (d .1)) ∙ decode-number ((d .0) .fall) ∙ sym (facts-fall 0 ns st o (d .0) (d .1))
 
   pub bodies-fall : {l : List ℕ} → Ids (length ns) l → each (bodyAt es) l ≡ each (fallAt (facts 0 ns st)) l

@@ -21,12 +21,13 @@ use Rattle.graph.specs.Nodes.{NodeStmt, Node}
 use Rattle.graph.specs.NodeRecords.{stmtNumber}
 use Rattle.graph.specs.Targets.{onFor, onSimple, dispatchTarget, dispatchTargets, orphanEdges}
 use Rattle.graph.specs.Graph.{wire}
-use Rattle.wiring.specs.ListedNodes.{StmtListed, Listed, FallsListed, SlotsCounted, keysAt, listed-counted, ForKind, isFor, isNext, isOther, for-kind, for-number, next-number, node-at}
+use Rattle.wiring.specs.ListedNodes.{StmtListed, Listed, FallsListed, SlotsCounted, keysAt, listed-counted, ForKind, isFor, isNext, isOther, for-kind, for-number, next-number}
 use Rattle.wiring.specs.Dispatched.{isDispatched, dispatchedIds, not-for, not-tier, by-fall}
 use Rattle.wiring.specs.NextBodies.{selectedBody, slotBodies, orphanBodies}
 use Rattle.wiring.specs.NextBodyLaws.{orphan-bodies}
 use Rattle.wiring.specs.Prepared.{Prepared, Keys, dispatchedFrom}
 use Rattle.wiring.specs.NodeTables.{falling}
+use Rattle.wiring.specs.LineEntries.{at-place}
 
 -- ---- the dispatched FORs that have a body
 
@@ -51,7 +52,7 @@ ids-from : (ts ks es : List ℕ) (ns : List Node) → Listed ts ks ns → FallsL
 unfolding dispatchedIds dispatchedFrom
 ids-from ts ks es ns h f zero lt = refl
 ids-from ts ks es ns h f (suc k) lt =
-    let d = node-at ns k (omega arith) in
+    let d = at-place ns k (omega arith) in
     let n = d .0 in
     let r = h k n (d .1) in
     append-assoc (dispatchedIds ts es k) (pick (isDispatched ts es k) (k ∷ []) []) (dispatchedFrom (suc k) (drop (suc k) ns))

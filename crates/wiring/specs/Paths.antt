@@ -12,13 +12,13 @@ use Rattle.reader.specs.Listing.{Stmts, ∅, _▸_, branching, Lines, nolines, 
 use Rattle.reader.specs.ListingText.{StmtsOk, LinesOk}
 use Rattle.reader.specs.Records.{Rec, simpleRec, condRec, stmtRecs, lineRecs, lineNumbers, recRow, recRows}
 use Rattle.reader.specs.RecordLaws.{rec-at}
-use Rattle.graph.specs.Members.{all-at}
+use Rattle.reader.specs.ReadingRecords.{numbers-count}
+use Rattle.graph.specs.Members.{all-at, all-map}
 use Rattle.graph.specs.Nodes.{Node, allocate, lineEntry, nodesBefore}
 use Rattle.graph.specs.NodeLaws.{length-allocate, length-nodes}
 use Rattle.graph.specs.NodeRecords.{stmtNumber, match-at, lines-match}
 use Rattle.wiring.specs.OpenerLaws.{in-range}
 use Rattle.wiring.specs.LineEntries.{at-place}
-use Rattle.wiring.specs.LineSearch.{line-numbers-length}
 use Rattle.wiring.specs.PrintedTables.{holderOf, indexOf, heldBy, pathIn}
 
 -- ---- the records say how a path goes on
@@ -122,15 +122,11 @@ stmts-line li n p i k e (branching s w t a u b) =
     let q = p ++ ((k + len s) ∷ []) in
     all-append (stmts-line li n p i k (some j) s) (all∷ (refl, refl) (all-append (stmts-line li n q (suc j) 0 e a) (stmts-line li n q (suc j + size a) (len a) e b)))
 
-all-map : {P Q : Node → Type 0} → ((n : Node) → P n → Q n) → {l : List Node} → All P l → All Q l
-all-map f all[] = all[]
-all-map f (all∷ {a = n} p h) = all∷ (f n p) (all-map f h)
-
 lines-on : (e : Option ℕ) (ls : Lines) → All (OnLine ls) (nodesBefore e ls)
 unfolding nodesBefore lineNumbers count
 lines-on e nolines = all[]
 lines-on e (line ls n s) =
-    let f = line-numbers-length ls in
+    let f = numbers-count ls in
     all-append
     (all-map (λ d o. record { inside = omega (arith, o .inside); number-is = List·getD-append (lineNumbers ls) (n ∷ []) 0 (d .line) (omega (arith, o .inside)) ∙ o .number-is }) (lines-on (lineEntry (total ls) s e) ls))
     (all-map (λ d o. record {
@@ -219,7 +215,7 @@ module _ (ls : Lines) (ok : LinesOk ls) (lines stmts more rest : List ℕ) (el :
       let h : i < length ns = in-range ns i n e in
       let o = all-at (lines-on none ls) i n e in
       let z : i * 12 ≡ i * 12 + 0 = omega arith in
-      let k : n .line < length (lineNumbers ls) = omega (arith, line-numbers-length ls, o .inside) in
+      let k : n .line < length (lineNumbers ls) = omega (arith, numbers-count ls, o .inside) in
       record {
         line-is = see i 1 r (m .1) (omega arith) ∙ m .2 .line-is;
         line-in = o .inside;

@@ -11,22 +11,16 @@ use lib.Dec.{eqb}
 use lib.ListN.{length, length-append, length-set, length-drop, getD, set, take, drop, take-append-drop, List·getD-append}
 use lib.Seq.{take-append-seam, getD-set-same, getD-set-other, getD-append-seam, take-suc, take-all, take-take, length-take-le, ext-getD, getD-take, getD-drop}
 use Rattle.reader.specs.Every.{All, all[], all∷}
-use Rattle.reader.specs.Listing.{Listing}
 use Rattle.graph.specs.Lists.{has}
-use Rattle.graph.specs.ListLaws.{has-found}
+use Rattle.graph.specs.ListLaws.{has-found, later}
 use Rattle.graph.specs.EdgeBounds.{Ids}
-use Rattle.graph.specs.Graph.{allSuccessors, predecessorsIn, predecessors}
-use Rattle.graph.specs.GraphLaws.{nodeCount}
+use Rattle.graph.specs.Graph.{predecessorsIn}
 use Rattle.wiring.specs.Walk.{Stored, storedList}
-use Rattle.wiring.specs.EdgeTable.{joinedLists, startOf, part-law, part-in, part-within, parts-apart, joined-ext, listsTo, listRows, succStart, succCount, predStart, predCount, Columns, columns-rows, rows-columns, columns-ext, columns-then, columns-self, columns-past, ListsStored, stored-part}
+use Rattle.wiring.specs.EdgeTable.{joinedLists, startOf, part-law, part-within, parts-apart, joined-ext, listRows, succStart, succCount, predStart, predCount, Columns, columns-rows, columns-ext, columns-then, columns-self, columns-past, ListsStored, stored-part}
 use Rattle.wiring.specs.Counting.{one, occurs, occurs-le, occurs-once, sumTo, sum-ext, sum-occurs}
-use Rattle.wiring.specs.Predecessors.{NodeLists, predsOf, oneIf, pred-append, pred-snoc, pred-length, preds-at, length-preds, preds-start, preds-total, joined-ids, successor-lists, Countable, Counted, Started, placed, slot, Fillable, Placed, length-placed}
+use Rattle.wiring.specs.Predecessors.{NodeLists, predsOf, oneIf, pred-append, pred-snoc, pred-length, preds-at, length-preds, preds-start, preds-total, joined-ids, Countable, Counted, Started, placed, slot, Fillable, Placed, length-placed}
 
 -- ---- what stands where after placing
-
-later : (x y : Bool) → y ≡ true → (x || y) ≡ true
-later true y e = refl
-later false y e = e
 
 other : (x y : Bool) → x ≡ false → (x || y) ≡ true → y ≡ true
 other false y e g = g
@@ -378,15 +372,6 @@ walk-lists {n} {at} {ls} {lists₀} {lists} {succ₀} {succ} k ids h s =
       ids = λ v g. all-getD ids v (omega arith);
     }
 
--- a node's successors are the part of the table that its row names
-pub successors-part : {nodes : ℕ} {ls : List (List ℕ)} {succ lists : List ℕ} → Successors nodes ls succ lists → (i : ℕ) → i < nodes → storedList lists succ i ≡ getD ls i []
-unfolding storedList
-successors-part {nodes} {ls} {succ} {lists} s i h =
-    let g : i < length ls = omega (arith, s .lists-of .size) in
-    let n = length (getD ls i []) in
-    ap (λ (x : ℕ). take x (drop (succStart lists i) succ)) (s .counts i h) ∙ ap (λ (x : ℕ). take n (drop x succ)) (s .starts i h)
-    ∙ sym (front-part (startOf ls i) n (length (joinedLists ls)) succ (part-within ls i g)) ∙ ap (λ (t : List ℕ). take n (drop (startOf ls i) t)) (s .table) ∙ part-law ls i g
-
 -- lists that were stored one after the other are such a table
 pub stored-successors : {nodes at : ℕ} {ls : List (List ℕ)} {lists₀ lists succ₀ succ : List ℕ} → NodeLists nodes ls → at ≤ length succ₀ → ListsStored ls at lists₀ lists succ₀ succ → Successors nodes ls succ lists
 stored-successors {nodes} {at} {ls} {lists₀} {lists} {succ₀} {succ} k h s =
@@ -397,23 +382,3 @@ stored-successors {nodes} {at} {ls} {lists₀} {lists} {succ₀} {succ} k h s =
       starts = λ i g. s .rows .col0 i (omega (arith, k .size));
       counts = λ i g. s .rows .col1 i (omega (arith, k .size));
     }
-
-module _ {nodes : ℕ} {ls : List (List ℕ)} {lists lists′ pred pred′ : List ℕ} (k : length ls ≡ nodes) (h : nodes * 4 ≤ length lists) (w : WithPredecessors nodes ls lists lists′ pred pred′) where
-  pub with-columns : Columns nodes (startOf ls) (λ i. length (getD ls i [])) (startOf (predsOf ls)) (λ i. length (predecessorsIn i 0 ls)) lists lists′
-  unfolding listRows
-  with-columns =
-      columns-ext (rows-columns (startOf ls) (λ i. length (getD ls i [])) (startOf (predsOf ls)) (λ i. length (getD (predsOf ls) i [])) nodes lists lists′ h (w .rows))
-      (λ i g. refl) (λ i g. refl) (λ i g. refl) (λ i g. ap length (preds-at ls i (omega arith)))
-
-  -- a node's predecessors are the part of the table that its row names
-  pub with-part : (i : ℕ) → i < nodes → take (predCount lists′ i) (drop (predStart lists′ i) pred′) ≡ predecessorsIn i 0 ls
-  with-part i g =
-      let e : getD (predsOf ls) i [] ≡ predecessorsIn i 0 ls = preds-at ls i (omega arith) in
-      ap (λ (n : ℕ). take n (drop (predStart lists′ i) pred′)) (with-columns .col3 i g ∙ ap length (sym e)) ∙ ap (λ (n : ℕ). take (length (getD (predsOf ls) i [])) (drop n pred′)) (with-columns .col2 i g)
-      ∙ ap (λ (t : List ℕ). take (length (getD (predsOf ls) i [])) (drop (startOf (predsOf ls) i) t)) (w .table)
-      ∙ part-in (predsOf ls) (drop (length (joinedLists ls)) pred) i (omega (arith, length-preds ls)) ∙ e
-
--- of a listing: the lists that the definition names
-pub listing-preds : (L : Listing) → predsOf (allSuccessors L) ≡ listsTo (predecessors L) (nodeCount L)
-unfolding predsOf predecessors
-listing-preds L = ap (listsTo (λ i. predecessorsIn i 0 (allSuccessors L))) (successor-lists L .size)

@@ -3,7 +3,7 @@ use Prim.Native.Nat.{ℕ, _+_, _*_, _≤_, _<_}
 use mathlib.Core.Path.{_≡_, refl, sym, ap, _∙_}
 use mathlib.Core.Bool.{Bool, true, false}
 use mathlib.Core.List.{List, [], _∷_, _++_}
-use mathlib.Core.Option.{Option, none, some}
+use mathlib.Core.Option.{Option, some}
 use native.Mathlib.Omega.{arith}
 use borrow.Author.Tests.{eqb-false}
 use lib.Dec.{eqb}
@@ -19,7 +19,7 @@ use Rattle.graph.specs.Lists.{addAll, each, list}
 use Rattle.graph.specs.Adding.{nodeNumber, decode, decode-number}
 use Rattle.graph.specs.Members.{all-at}
 use Rattle.graph.specs.Nodes.{NodeStmt, simple, cond, Node, Entries, entryOf}
-use Rattle.graph.specs.NodeLaws.{Below, entry-fits}
+use Rattle.graph.specs.NodeLaws.{entry-fits}
 use Rattle.graph.specs.NodeRecords.{stmtWord, stmtNumber}
 use Rattle.graph.specs.Targets.{onSimple, onNext, orphanEdges, dispatchTargets}
 use Rattle.graph.specs.Edges.{noMoves, movesOf, nodeMoves, ownSimple, own, loopStack, doStack}
@@ -35,6 +35,7 @@ use Rattle.wiring.specs.JumpLaws.{link-length}
 use Rattle.wiring.specs.ForLinkLaws.{other-links}
 use Rattle.wiring.specs.TableReads.{fall-of, links-edges, link-entry, targets-fit, linked-length, link-of}
 use Rattle.wiring.specs.Prepared.{linkTable, Prepared, callWord, wordOf, isCall, isReturn, fallEntry, linkEntries, Roles}
+use Rattle.wiring.specs.LateLaws.{number-below}
 
 -- ---- calls, RETURNs, and the others
 
@@ -115,10 +116,6 @@ no-args stmts args i s q (isOther a r p) e h w j b = absurd (eqb-false (stmtNumb
 
 -- ---- a row of links
 
-below-number : (n : ℕ) (e : Option ℕ) → Below n e → nodeNumber e ≤ n
-below-number n none h = omega arith
-below-number n (some a) h = omega arith
-
 module _ {L : Listing} {stmts args entries falls links frames dispatched : List ℕ} {lines n d : ℕ} (p : Prepared L stmts args entries falls links frames dispatched lines n d) (i : ℕ) (node : Node) (at : getElem? (wire L .nodes) i ≡ some node) (lt : i < n) where
   fact : (f : Fact) × (getElem? (facts 0 (wire L .nodes) noOpeners) i ≡ some f)
   fact = some-at (facts 0 (wire L .nodes) noOpeners) i (omega (arith, length-facts 0 (wire L .nodes) noOpeners, p .nodes-are))
@@ -168,7 +165,7 @@ module _ {L : Listing} {stmts args entries falls links frames dispatched : List 
     links-fit j h =
         let ts = stmtTargets (node .stmt) in
         let t = getD ts j 0 in
-        omega (arith, link-at j h, link-entry (wire L .entries) ts j h, below-number (length (wire L .nodes)) (entryOf (wire L .entries) t) (entry-fits (length (wire L .nodes)) (entry-ids L) t), p .nodes-are)
+        omega (arith, link-at j h, link-entry (wire L .entries) ts j h, number-below (length (wire L .nodes)) (entryOf (wire L .entries) t) (entry-fits (length (wire L .nodes)) (entry-ids L) t), p .nodes-are)
 
 -- ---- one node
 
@@ -275,7 +272,7 @@ module _ {L : Listing} {stmts args entries falls links frames dispatched : List 
   unfolding fallFrom fallOf
   falls-below i h =
       let c = some-at (wire L .nodes) i (omega (arith, p .nodes-are)) in
-      omega (arith, fall-entry p i (c .0) (c .1) h, below-number (length (wire L .nodes)) ((c .0) .fall) (rw (c .1) at (fall-below L i)), p .nodes-are)
+      omega (arith, fall-entry p i (c .0) (c .1) h, number-below (length (wire L .nodes)) ((c .0) .fall) (rw (c .1) at (fall-below L i)), p .nodes-are)
 
   -- a RETURN's row of arguments is zero
   pub return-row : (i : ℕ) → i < n → getD stmts (i * 12) 0 ≡ 9 → (j : ℕ) → j < 64 → getD args (i * 64 + j) 0 ≡ 0

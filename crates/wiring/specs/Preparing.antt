@@ -13,15 +13,15 @@ use Rattle.reader.specs.Bytes.{pick}
 use Rattle.reader.specs.Listing.{Name, Listing}
 use Rattle.reader.specs.Records.{padded}
 use Rattle.reader.specs.Tables.{drop-zeros}
+use Rattle.reader.specs.WordTable.{zeros}
 use Rattle.graph.specs.Nodes.{NodeStmt, Node}
 use Rattle.graph.specs.Targets.{onFor, onSimple, dispatchTarget}
 use Rattle.graph.specs.Graph.{wire}
 use Rattle.graph.specs.PerNode.{noOpeners, facts}
-use Rattle.wiring.specs.ListedNodes.{Listed, FallsListed, AllCounted, for-kind, node-at, listed-counted}
-use Rattle.wiring.specs.FrameStackLaws.{zeros}
+use Rattle.wiring.specs.ListedNodes.{Listed, FallsListed, AllCounted, for-kind, listed-counted}
 use Rattle.wiring.specs.FramePass.{AllZero}
 use Rattle.wiring.specs.Frames.{frameTable, Framed}
-use Rattle.wiring.specs.LineEntries.{entryRows, EntriesComputed}
+use Rattle.wiring.specs.LineEntries.{entryRows, EntriesComputed, at-place}
 use Rattle.wiring.specs.LineSearch.{EntriesHeld, entries-held}
 use Rattle.wiring.specs.Falls.{fallRows, LinesConnected}
 use Rattle.wiring.specs.TableReads.{falls-listed}
@@ -76,7 +76,7 @@ module _ (ts ks es : List ℕ) where
   unfolding dispatchedIds dispatchedFrom
   ids-upto ns h f zero g = refl
   ids-upto ns h f (suc k) g =
-      let d = node-at ns k (omega arith) in
+      let d = at-place ns k (omega arith) in
       let n = d .0 in
       let r = h k n (d .1) in
       let z : 0 + length (take k ns) ≡ k = omega (arith, length-take-le k ns (omega arith)) in

@@ -33,6 +33,7 @@ use Rattle.wiring.specs.Printing.{Puts, puts-both, each-snoc}
 use Rattle.wiring.specs.PrintedTables.{headText, listsText, succPart, predPart, nodeText, NodesReadable, pairText, someText, entryText, backText, returnsText}
 use Rattle.wiring.specs.Paths.{NodeRead, node-read}
 use Rattle.wiring.specs.GraphHeld.{GraphHeld}
+use Rattle.wiring.specs.ReturnTargets.{each-below}
 
 -- ---- by index, or by element
 
@@ -59,13 +60,6 @@ rows-index ls i f (n ∷ ns) h =
     each-shift f (length ns) ∙ ap (λ (k : List ℕ). k ++ each (λ k. f (suc k)) (below (length ns))) e
     ∙ ap (λ (k : List ℕ). nodeRow i n (getD ls i []) (predecessorsIn i 0 ls) ++ k)
     (rows-index ls (suc i) (λ k. f (suc k)) ns (λ k m q. let y : i + suc k ≡ suc i + k = omega arith in rw y at (h (suc k) m q)))
-
-each-below : (f g : ℕ → List ℕ) (n : ℕ) → ((i : ℕ) → i < n → f i ≡ g i) → each f (below n) ≡ each g (below n)
-unfolding each below
-each-below f g zero h = refl
-each-below f g (suc n) h =
-    each-snoc f (below n) n ∙ ap (λ (l : List ℕ). l ++ f n) (each-below f g n (λ i l. h i (omega arith))) ∙ ap (λ (l : List ℕ). each g (below n) ++ l) (h n (omega arith))
-    ∙ sym (each-snoc g (below n) n)
 
 -- ---- a node's row
 

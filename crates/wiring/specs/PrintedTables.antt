@@ -5,7 +5,6 @@ use mathlib.Core.Bool.{true, false}
 use mathlib.Core.List.{List, [], _∷_, _++_, append-assoc, append-nil}
 use native.Mathlib.Omega.{arith}
 use native.Mathlib.Numerals.{sub-one}
-use borrow.Author.Tests.{eq-eqb, ne-eqb}
 use lib.ListN.{length, getD, take, drop, length-append}
 use Rattle.reader.specs.Bytes.{bytes, decimal, pick}
 use Rattle.graph.specs.Lists.{each}
@@ -194,19 +193,6 @@ puts-some p q n r w a (suc e) x z f b = puts-is (ap (λ (y : ℕ). pairText w a 
 pub puts-entry : (p q : List ℕ) (n r : ℕ) (lines entries : List ℕ) (l x : ℕ) → x ≡ getD lines l 0 → Puts p n q r (someText (bytes "(entry") x (getD entries l 0)) → Puts p n q r (entryText lines entries l)
 unfolding entryText
 puts-entry p q n r lines entries l x e a = rw e at a
-
--- 8 is GOSUB, 12 ON GOSUB
-pub gosub-calls : (w : ℕ) → w ≡ 8 → callWord w ≡ true
-unfolding callWord
-gosub-calls w e = rw (eq-eqb w 8 e)
-
-pub on-gosub-calls : (w : ℕ) → w ≡ 12 → callWord w ≡ true
-unfolding callWord
-on-gosub-calls w e = rw (ne-eqb w 8 (λ f. absurd (omega arith)), eq-eqb w 12 e)
-
-pub other-word : (w : ℕ) → (w ≡ 8 → ⊥) → (w ≡ 12 → ⊥) → callWord w ≡ false
-unfolding callWord
-other-word w e f = rw (ne-eqb w 8 e, ne-eqb w 12 f)
 
 pub puts-back : (p q : List ℕ) (n r : ℕ) (stmts falls : List ℕ) (i : ℕ) → callWord (wordOf stmts i) ≡ true → Puts p n q r (someText (bytes "(back") i (getD falls (i * 3) 0)) → Puts p n q r (backText stmts falls i)
 unfolding backText

@@ -18,10 +18,6 @@ pub record Puts (out : List ℕ) (at : ℕ) (out′ : List ℕ) (r : ℕ) (l : L
   pub bytes : out′ ≡ sets out at l
   pub next : r ≡ at + min (length l) (length out - at)
 
--- where the next byte goes, or the end of the part
-pub puts-next : {out out′ l : List ℕ} {at r : ℕ} → at ≤ length out → Puts out at out′ r l → r ≡ min (at + length l) (length out)
-puts-next h p = omega (arith, p .next)
-
 pub puts-none : (p : List ℕ) (at : ℕ) → Puts p at p at []
 puts-none p at = record { bytes = refl; next = omega arith }
 

@@ -1,13 +1,12 @@
 -- Laws of regions: calls, sets and marks that grow, and the sets of the RETURNs, entry after entry. Assumes nothing.
-use Prim.Native.Nat.{ℕ, zero, suc, _+_, _-_, _*_, _/_, _%_, _≤_, _<_}
+use Prim.Native.Nat.{ℕ, zero, suc, _+_, _-_, _*_, _/_, _≤_, _<_}
 use mathlib.Core.Path.{_≡_, refl, sym, ap, subst, _∙_}
 use mathlib.Core.Bool.{Bool, true, false}
-use mathlib.Core.List.{List, [], _∷_, _++_, List·Memᴰ, List·Memᴰ·head, List·Memᴰ·tail, Memᴰ·append-left, Memᴰ·append-right, List·Memᴰ·append-cases, List·Memᴰ·cases-cons, List·Memᴰ·not-nil}
+use mathlib.Core.List.{List, [], _∷_, _++_, List·Memᴰ, List·Memᴰ·head, Memᴰ·append-left, Memᴰ·append-right, List·Memᴰ·append-cases, List·Memᴰ·cases-cons, List·Memᴰ·not-nil}
 use mathlib.Core.Logic.{_⊎_, inl, inr, ⊎-elim, _↔_}
 use native.Mathlib.Omega.{arith}
 use native.Mathlib.Numerals.{add-one}
-use borrow.Author.Tests.{eq-eqb, ne-eqb}
-use lib.Dec.{T, eqb}
+use lib.Dec.{T}
 use lib.ListN.{length, length-append, length-drop, length-set, length-replicate, getD, getD-replicate, set, take, drop, replicate}
 use lib.Seq.{length-take-le, take-suc, getD-take, getD-drop, getD-set-same, getD-set-other, ext-getD}
 use Rattle.reader.specs.Bytes.{pick}
@@ -20,13 +19,13 @@ use Rattle.wiring.specs.Growing.{each-snoc}
 use Rattle.graph.specs.Reach.{has→mem, mem→has}
 use Rattle.graph.specs.Graph.{Wired, skipSteps, regionReturnEdges}
 use Rattle.graph.specs.ReturnLists.{conts-inside, region-sound, region-complete, region-asc}
-use Rattle.wiring.specs.Walk.{Marked}
+use Rattle.wiring.specs.Walk.{Reached}
 use Rattle.wiring.specs.Sets.{In, inserted, oneIf, Put}
 use Rattle.wiring.specs.SetLaws.{none-in, in-inserted, inserted-length, members-are, put-none, put-both, put-yes}
-use Rattle.wiring.specs.ReturnSets.{markedReturn, joinedIf, setOf, ReturnsJoined}
-use Rattle.wiring.specs.ReturnSetLaws.{marked-return, marked-return-is, in-return-set}
+use Rattle.wiring.specs.ReturnSets.{IsReturn, setOf, ReturnsJoined}
 use Rattle.wiring.specs.Prepared.{callWord, wordOf, fallEntry, linkEntries, Roles}
-use Rattle.wiring.specs.Regions.{callsBelow, targetRow, backFrom, TargetsFit, CallFits, CallsReady, SetAdded, MarksCover, CallsBack, ReturnsBy, IsReturn, RegionJoined, RegionsJoined, ReturnRows, SetsClear, MarkedJoined, CalledMarked, EntriesReady}
+use Rattle.wiring.specs.Regions.{callsBelow, targetRow, backFrom, TargetsFit, CallFits, CallsReady, SetAdded, MarksCover, CallsBack, ReturnsBy, RegionJoined, RegionsJoined, ReturnRows, SetsClear, ListedJoined, CalledMarked, EntriesReady}
+use Rattle.wiring.specs.WalkLaws.{mem-getD, all-take}
 
 -- ---- lists
 
@@ -34,28 +33,10 @@ use Rattle.wiring.specs.Regions.{callsBelow, targetRow, backFrom, Target
 each-more : {B : Type 0} (f : ℕ → List B) (xs : List ℕ) (k : ℕ) → k < length xs → each f (take (k + 1) xs) ≡ each f (take k xs) ++ f (getD xs k 0)
 each-more f xs k h = rw (add-one, take-suc xs k 0 h) (each-snoc f (take k xs) (getD xs k 0))
 
-mem-at : (l : List ℕ) (k : ℕ) → k < length l → List·Memᴰ (getD l k 0) l
-mem-at [] k h = absurd (omega arith)
-mem-at (a ∷ l) zero h = List·Memᴰ·head refl
-mem-at (a ∷ l) (suc k) h = List·Memᴰ·tail (mem-at l k (omega arith))
-
 pub all-getD : {P : ℕ → Type 0} {l : List ℕ} → All P l → (k a : ℕ) → k < length l → a ≡ getD l k 0 → P a
-all-getD {P} {l} h k a lt e = rw e (all-mem h (getD l k 0) (mem-at l k lt))
-
-all-take : (P : ℕ → Type 0) (k : ℕ) (l : List ℕ) → ((j : ℕ) → j < k → P (getD l j 0)) → All P (take k l)
-all-take P zero l h = all[]
-all-take P (suc k) [] h = all[]
-all-take P (suc k) (a ∷ l) h = all∷ (h 0 (omega arith)) (all-take P k l (λ j lt. h (suc j) (omega arith)))
+all-getD {P} {l} h k a lt e = rw e (all-mem h (getD l k 0) (mem-getD l k lt))
 
 -- ---- calls
-
-pub call-gosub : (w : ℕ) → w ≡ 8 → true ≡ callWord w
-unfolding callWord
-call-gosub w e = rw (eq-eqb w 8 e)
-
-pub call-other : (w : ℕ) → (w ≡ 8 → ⊥) → eqb w 12 ≡ callWord w
-unfolding callWord
-call-other w ne = rw (ne-eqb w 8 ne)
 
 module _ (stmts : List ℕ) where
   -- node i behind the first m entries, or not
@@ -370,27 +351,22 @@ module _ (W : Wired) (stmts : List ℕ) (n e : ℕ) where
         others = λ i h. refl;
       }
 
-  pub region-joined : (marks : List Bool) (backs xs ys : List ℕ) → n * 64 ≤ length xs → length backs ≡ 64 → ((k : ℕ) → In backs k ↔ CallsBack W e k) → Marked (skipSteps W) e marks
-      → ReturnsJoined stmts n marks backs xs ys → RegionJoined W stmts n e xs ys
-  region-joined marks backs xs ys fits lb b w s =
-      record { size = s .size; members = λ r h k. members r h k; others = λ i h. other i h (markedReturn stmts n marks (i / 64)) refl }
-    where
-      members : (r : ℕ) → IsReturn stmts n r → (k : ℕ) → In (setOf ys r) k ↔ (In (setOf xs r) k ⊎ ReturnsBy W e r k)
-      members r h k =
-          let u = in-return-set stmts marks backs n xs ys s r (omega (arith, h .0)) lb k in (
-            λ m. ⊎-elim (λ x. inl x) (λ x. inr (record { calls = b k .0 (x .1); skips = w .sound r (marked-return-is stmts n marks r (x .0) .1) })) (u .0 m),
-            λ m. u .1 (⊎-elim (λ x. inl x) (λ x. inr (marked-return stmts n marks r (h .0) (w .complete r (x .skips)) (h .1), b k .1 (x .calls))) m),
-          )
+  pub region-joined : (l backs xs ys : List ℕ) → ((k : ℕ) → In backs k ↔ CallsBack W e k) → Reached (skipSteps W) e l → ReturnsJoined stmts n l backs xs ys → RegionJoined W stmts n e xs ys
+  region-joined l backs xs ys b w s =
+      record {
+        size = s .size;
+        members = λ r h k. (
+          λ m. ⊎-elim (λ x. inl x) (λ x. inr (record { calls = b k .0 (x .1); skips = w .sound r (x .0) })) (s .members r h k .0 m),
+          λ m. s .members r h k .1 (⊎-elim (λ x. inl x) (λ x. inr (w .complete r (x .skips), b k .1 (x .calls))) m),
+        );
+        others = s .others;
+      }
 
-      other : (i : ℕ) → (IsReturn stmts n (i / 64) → ⊥) → (x : Bool) → markedReturn stmts n marks (i / 64) ≡ x → getD ys i 0 ≡ getD xs i 0
-      other i h true q = let t = marked-return-is stmts n marks (i / 64) q in absurd (h (t .0, t .2))
-      other i h false q = s .entry i ∙ ap (λ (x : Bool). joinedIf x (getD xs i 0) (getD backs (i % 64) 0)) q
-
-pub marked-joined : (stmts falls links : List ℕ) (n e : ℕ) (marks : List Bool) (none backs calls xs ys : List ℕ) → none ≡ replicate 64 0 → CallsReady stmts falls links n calls → n * 64 ≤ length xs
-    → SetAdded none backs (each (backFrom stmts falls links e) calls) → ReturnsJoined stmts n marks backs xs ys → MarkedJoined stmts falls links n e marks xs ys
-marked-joined stmts falls links n e marks none backs calls xs ys z r fits a j W s w =
+pub listed-joined : (stmts falls links : List ℕ) (n e : ℕ) (l none backs calls xs ys : List ℕ) → none ≡ replicate 64 0 → CallsReady stmts falls links n calls
+    → SetAdded none backs (each (backFrom stmts falls links e) calls) → ReturnsJoined stmts n l backs xs ys → ListedJoined stmts falls links n e l xs ys
+listed-joined stmts falls links n e l none backs calls xs ys z r a j W s w =
     let empty : (k : ℕ) → In none k → ⊥ = λ k m. none-in 64 k (rw z at m) in
-    region-joined W stmts n e marks backs xs ys fits (a .size ∙ ap length z ∙ length-replicate {A = ℕ} 64 0) (λ k. backs-are W stmts falls links n s e k none backs calls empty (r .listed) a) w j
+    region-joined W stmts n e l backs xs ys (λ k. backs-are W stmts falls links n s e k none backs calls empty (r .listed) a) w j
 
 -- an entry without its mark has no calls
 pub unmarked-joined : (stmts falls links : List ℕ) (n e : ℕ) (calls : List ℕ) (called : List Bool) (xs : List ℕ) → calls ≡ callsBelow stmts n → CalledMarked stmts links calls called

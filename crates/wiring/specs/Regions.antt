@@ -11,9 +11,9 @@ use Rattle.reader.specs.Every.{All}
 use Rattle.graph.specs.Lists.{has, each}
 use Rattle.graph.specs.Graph.{Wired, continuation, callees, skipSteps, regionReturnEdges}
 use Rattle.graph.specs.ReturnLists.{SkippingPath}
-use Rattle.wiring.specs.Walk.{Marked, Stored, storedList}
+use Rattle.wiring.specs.Walk.{Reached, Stored, storedList}
 use Rattle.wiring.specs.Sets.{In, oneIf, membersOf}
-use Rattle.wiring.specs.ReturnSets.{returnWord, setOf}
+use Rattle.wiring.specs.ReturnSets.{returnWord, IsReturn, setOf}
 use Rattle.wiring.specs.Prepared.{callWord, wordOf, fallEntry, linkEntries, Roles}
 
 -- ---- calls, by the tables
@@ -77,10 +77,6 @@ pub record ReturnsBy (W : Wired) (e r k : ℕ) : Type 0 where
   pub calls : CallsBack W e k
   pub skips : SkippingPath W e r
 
--- one of the n nodes, and a RETURN
-abbrev pub IsReturn : List ℕ → ℕ → ℕ → Type 0
-IsReturn stmts n r = (r < n) × (getD stmts (r * 12) 0 ≡ returnWord)
-
 -- the entry e alone
 pub record RegionJoined (W : Wired) (stmts : List ℕ) (n e : ℕ) (sets sets′ : List ℕ) : Type 0 where
   pub size : length sets′ ≡ length sets
@@ -105,9 +101,9 @@ pub record ReturnRows (W : Wired) (stmts : List ℕ) (n : ℕ) (sets sets′ : L
 abbrev pub SetsClear : List ℕ → ℕ → List ℕ → Type 0
 SetsClear stmts n sets = (i : ℕ) → i < n → getD stmts (i * 12) 0 ≡ returnWord → (j : ℕ) → j < 64 → getD sets (i * 64 + j) 0 ≡ 0
 
--- whatever listing the tables hold, for marks of the region of entry e, wherever they are from
-abbrev pub MarkedJoined : (stmts falls links : List ℕ) (n e : ℕ) (marks : List Bool) (sets sets′ : List ℕ) → Type 0
-MarkedJoined stmts falls links n e marks sets sets′ = (W : Wired) → Roles W stmts falls links n → Marked (skipSteps W) e marks → RegionJoined W stmts n e sets sets′
+-- whatever listing the tables hold, for a list of the region of entry e, wherever it is from
+abbrev pub ListedJoined : (stmts falls links : List ℕ) (n e : ℕ) (l sets sets′ : List ℕ) → Type 0
+ListedJoined stmts falls links n e l sets sets′ = (W : Wired) → Roles W stmts falls links n → Reached (skipSteps W) e l → RegionJoined W stmts n e sets sets′
 
 abbrev pub EntryJoined : (stmts falls links lists edges : List ℕ) (n e : ℕ) (sets sets′ : List ℕ) → Type 0
 EntryJoined stmts falls links lists edges n e sets sets′ =

@@ -1,15 +1,12 @@
--- Laws of the RETURNs' sets: node after node, and what is in a node's set. Assumes nothing.
-use mathlib.Core.Path.{_≡_, refl, sym, ap, _∙_}
-use mathlib.Core.Bool.{Bool, true, false, _&&_}
-use mathlib.Core.List.{List, _++_}
+-- Laws of the RETURNs' sets: a row put, and node after node of a list. Assumes nothing.
+use mathlib.Core.Path.{_≡_, refl, sym, ap, subst, _∙_}
+use mathlib.Core.List.{List, [], _∷_, _++_, List·Memᴰ, List·Memᴰ·head, List·Memᴰ·not-nil, List·Memᴰ·cases-cons, List·Memᴰ·append-cases, Memᴰ·append-left, Memᴰ·append-right}
 use mathlib.Core.Logic.{_⊎_, inl, inr, _↔_}
-use Prim.Native.Nat.{ℕ, _+_, _-_, _*_, _/_, _%_, _≤_, _<_}
+use Prim.Native.Nat.{ℕ, _+_, _-_, _*_, _/_, _≤_, _<_}
+use native.Mathlib.Numerals.{add-one}
 use native.Mathlib.Omega.{arith}
-use borrow.Author.Tests.{eq-eqb, ne-eqb, eqb-true, lt-ltb, le-ltb, ltb-true}
-use lib.Bits.{bitOr}
-use lib.Dec.{eqb, ltb}
 use lib.ListN.{length, length-append, length-drop, getD, take, drop, List·getD-append}
-use lib.Seq.{length-take-le, getD-take, getD-drop, getD-append-add, ext-getD}
+use lib.Seq.{length-take-le, getD-take, getD-drop, getD-append-add, ext-getD, take-suc, take-at, drop-at}
 use Rattle.reader.specs.Bytes.{bytes, same}
 use Rattle.reader.specs.Rows.{openingWords}
 use Rattle.reader.specs.Listing.{return}
@@ -17,54 +14,13 @@ use Rattle.reader.specs.ListingText.{simpleWord}
 use Rattle.reader.specs.WordTable.{words, first, wordIndex}
 use Rattle.wiring.specs.Compare.{eq-or, lt-or}
 use Rattle.wiring.specs.Sets.{In, joined}
-use Rattle.wiring.specs.SetLaws.{joined-at, joined-length, in-joined}
-use Rattle.wiring.specs.ReturnSets.{returnWord, isMarkedReturn, markedReturn, joinedIf, setOf, ReturnJoined, ReturnsJoined}
+use Rattle.wiring.specs.SetLaws.{joined-length, in-joined}
+use Rattle.wiring.specs.ReturnSets.{returnWord, IsReturn, setOf, RowPut, ReturnsJoined}
 
 -- the table of opening words has `return` there
 pub return-word : wordIndex (simpleWord return) ≡ returnWord
 unfolding wordIndex words first bytes same openingWords simpleWord
 return-word = refl
-
--- ---- which nodes
-
-both : (x y : Bool) → (x && y) ≡ true → (x ≡ true) × (y ≡ true)
-both true y e = (refl, e)
-both false y e = absurd (let z : _≡_ {A = ℕ} 0 1 = cc in omega arith)
-
-pub is-marked-return : (stmts : List ℕ) (marks : List Bool) (i : ℕ) → getD marks i false ≡ true → getD stmts (i * 12) 0 ≡ returnWord → isMarkedReturn stmts marks i ≡ true
-unfolding isMarkedReturn
-is-marked-return stmts marks i m w = rw (m, eq-eqb (getD stmts (i * 12) 0) returnWord w)
-
-pub no-mark : (stmts : List ℕ) (marks : List Bool) (i : ℕ) → getD marks i false ≡ false → isMarkedReturn stmts marks i ≡ false
-unfolding isMarkedReturn
-no-mark stmts marks i m = rw m
-
-no-and : (x : Bool) → (x && false) ≡ false
-no-and true = refl
-no-and false = refl
-
-pub no-return : (stmts : List ℕ) (marks : List Bool) (i : ℕ) → (getD stmts (i * 12) 0 ≡ returnWord → ⊥) → isMarkedReturn stmts marks i ≡ false
-unfolding isMarkedReturn
-no-return stmts marks i ne = rw (ne-eqb (getD stmts (i * 12) 0) returnWord ne) (no-and (getD marks i false))
-
-marked-below : (stmts : List ℕ) (n : ℕ) (marks : List Bool) (i : ℕ) → i < n → markedReturn stmts n marks i ≡ isMarkedReturn stmts marks i
-unfolding markedReturn
-marked-below stmts n marks i h = rw (lt-ltb i n h)
-
-marked-past : (stmts : List ℕ) (n : ℕ) (marks : List Bool) (i : ℕ) → n ≤ i → markedReturn stmts n marks i ≡ false
-unfolding markedReturn
-marked-past stmts n marks i h = rw (le-ltb i n h)
-
--- the test, as facts
-pub marked-return : (stmts : List ℕ) (n : ℕ) (marks : List Bool) (i : ℕ) → i < n → getD marks i false ≡ true → getD stmts (i * 12) 0 ≡ returnWord → markedReturn stmts n marks i ≡ true
-marked-return stmts n marks i h m w = marked-below stmts n marks i h ∙ is-marked-return stmts marks i m w
-
-pub marked-return-is : (stmts : List ℕ) (n : ℕ) (marks : List Bool) (i : ℕ) → markedReturn stmts n marks i ≡ true → (i < n) × (getD marks i false ≡ true) × (getD stmts (i * 12) 0 ≡ returnWord)
-unfolding markedReturn isMarkedReturn
-marked-return-is stmts n marks i e =
-    let t = both (ltb i n) (getD marks i false && eqb (getD stmts (i * 12) 0) returnWord) e in
-    let u = both (getD marks i false) (eqb (getD stmts (i * 12) 0) returnWord) (t .1) in
-    (ltb-true i n (t .0), u .0, eqb-true (getD stmts (i * 12) 0) returnWord (u .1))
 
 -- ---- ys in the place of k entries from a on
 
@@ -93,119 +49,120 @@ module _ (xs ys : List ℕ) (a k : ℕ) (ly : length ys ≡ k) (fits : a + k ≤
   put-other e (inl h) = put-before e h
   put-other e (inr h) = let q : a + (k + (e - (a + k))) ≡ e = omega arith in rw (← q) (put-after (e - (a + k)))
 
--- ---- one node
+-- ---- rows
 
-module _ (stmts : List ℕ) (marks : List Bool) (backs : List ℕ) where
-  pub return-kept : (i : ℕ) (xs : List ℕ) → isMarkedReturn stmts marks i ≡ false → ReturnJoined stmts i marks backs xs xs
-  return-kept i xs e =
+-- an entry outside row i
+pub row-away : (e i k : ℕ) → k ≡ 64 → (e / 64 ≡ i → ⊥) → (e < i * 64) ⊎ (i * 64 + k ≤ e)
+row-away e i k ek q = go (lt-or e (i * 64))
+  where
+    go : (e < i * 64) ⊎ (i * 64 ≤ e) → (e < i * 64) ⊎ (i * 64 + k ≤ e)
+    go (inl h) = inl h
+    go (inr h) = inr (omega arith)
+
+module _ (rows : List ℕ) (i : ℕ) (fits : i * 64 + 64 ≤ length rows) where
+  pub row-length : length (setOf rows i) ≡ 64
+  unfolding setOf
+  row-length = length-take-le 64 (drop (i * 64) rows) (omega (arith, length-drop (i * 64) rows))
+
+  pub row-at : (q : ℕ) → q < 64 → getD (setOf rows i) q 0 ≡ getD rows (i * 64 + q) 0
+  unfolding setOf
+  row-at q h = getD-take 64 (drop (i * 64) rows) q 0 h ∙ getD-drop (i * 64) rows q 0
+
+-- row i where only other entries changed
+pub row-same : (rows rows′ : List ℕ) (i : ℕ) → i * 64 + 64 ≤ length rows → length rows′ ≡ length rows
+    → ((e : ℕ) → e / 64 ≡ i → getD rows′ e 0 ≡ getD rows e 0) → setOf rows′ i ≡ setOf rows i
+row-same rows rows′ i fits l h =
+    let a = row-length rows i fits in
+    let b = row-length rows′ i (omega arith) in
+    ext-getD 0 (setOf rows′ i) (setOf rows i) (b ∙ sym a) (λ q lt.
+    row-at rows′ i (omega arith) q (omega arith) ∙ h (i * 64 + q) (omega arith) ∙ sym (row-at rows i fits q (omega arith)))
+
+-- as code lends a row: k entries from i * 64 on
+pub row-part : (rows : List ℕ) (i k : ℕ) → k ≡ 64 → take k (drop (i * 64) rows) ≡ setOf rows i
+unfolding setOf
+row-part rows i k e = rw e
+
+pub row-put : (i k : ℕ) (row rows : List ℕ) → k ≡ 64 → length row ≡ 64 → i * 64 + 64 ≤ length rows
+    → RowPut i row rows (take (i * 64) rows ++ (row ++ drop k (drop (i * 64) rows)))
+unfolding setOf
+row-put i k row rows ek lr fits =
+    let f = length-take-le (i * 64) rows (omega arith) in
+    record {
+      size = put-size rows row (i * 64) k (lr ∙ sym ek) (omega arith);
+      here = ap (take 64) (drop-at (take (i * 64) rows) (row ++ drop k (drop (i * 64) rows)) (i * 64) f) ∙ take-at row (drop k (drop (i * 64) rows)) 64 lr;
+      others = λ e ne. put-other rows row (i * 64) k (lr ∙ sym ek) (omega arith) e (row-away e i k ek ne);
+    }
+
+-- ---- `backs` joined into the sets of a list's RETURNs
+
+module _ (stmts : List ℕ) (n : ℕ) (backs : List ℕ) where
+  pub returns-none : (list xs : List ℕ) → ReturnsJoined stmts n (take 0 list) backs xs xs
+  returns-none list xs = record { size = refl; members = λ r h k. (λ m. inl m, elim [ inl m ↦ m | inr m ↦ absurd (List·Memᴰ·not-nil (m .0)) ]); others = λ i h. refl }
+
+  -- one node: no RETURN, or one
+  one-cases : {r i : ℕ} → List·Memᴰ r (i ∷ []) → r ≡ i
+  one-cases m = elim (List·Memᴰ·cases-cons m) [ inl q ↦ q | inr q ↦ absurd (List·Memᴰ·not-nil q) ]
+
+  pub return-other : (i : ℕ) (xs : List ℕ) → (IsReturn stmts n i → ⊥) → ReturnsJoined stmts n (i ∷ []) backs xs xs
+  return-other i xs ne =
       record {
         size = refl;
-        here = λ k q. ap (λ (x : Bool). joinedIf x (getD xs k 0) (getD backs (k % 64) 0)) (sym e);
-        others = λ k q. refl;
+        members = λ r h k. (λ m. inl m, elim [ inl m ↦ m | inr m ↦ absurd (ne (subst (IsReturn stmts n) (one-cases (m .0)) h)) ]);
+        others = λ j h. refl;
       }
 
-  pub return-joined : (i k : ℕ) (xs ys : List ℕ) → isMarkedReturn stmts marks i ≡ true → k ≡ 64 → i * 64 + k ≤ length xs → length backs ≡ 64
-      → ys ≡ joined (take k (drop (i * 64) xs)) backs → ReturnJoined stmts i marks backs xs (take (i * 64) xs ++ (ys ++ drop k (drop (i * 64) xs)))
-  return-joined i k xs ys t ek fits lb ey =
-      record {
-        size = put-size xs ys (i * 64) k ly fits;
-        here = λ e q. here e q;
-        others = λ e q. put-other xs ys (i * 64) k ly fits e (away e q (lt-or e (i * 64)));
-      }
+  pub return-joined : (i k : ℕ) (xs ys : List ℕ) → IsReturn stmts n i → n * 64 ≤ length xs → k ≡ 64 → length backs ≡ 64 → ys ≡ joined (take k (drop (i * 64) xs)) backs
+      → ReturnsJoined stmts n (i ∷ []) backs xs (take (i * 64) xs ++ (ys ++ drop k (drop (i * 64) xs)))
+  return-joined i k xs ys ri fits ek lb ey =
+      record { size = put .size; members = λ r h j. go r h j (eq-or r i); others = λ e ne. put .others e (λ q. ne (rw q ri)) }
     where
-      part : length (take k (drop (i * 64) xs)) ≡ k
-      part = length-take-le k (drop (i * 64) xs) (omega (arith, length-drop (i * 64) xs))
+      zs : List ℕ
+      zs = take (i * 64) xs ++ (ys ++ drop k (drop (i * 64) xs))
 
-      ly : length ys ≡ k
-      ly = ap length ey ∙ joined-length (take k (drop (i * 64) xs)) backs ∙ part
+      room : (r : ℕ) → r < n → r * 64 + 64 ≤ length xs
+      room r h = omega arith
 
-      away : (e : ℕ) → (e / 64 ≡ i → ⊥) → (e < i * 64) ⊎ (i * 64 ≤ e) → (e < i * 64) ⊎ (i * 64 + k ≤ e)
-      away e q (inl h) = inl h
-      away e q (inr h) = inr (omega arith)
+      q : ys ≡ joined (setOf xs i) backs
+      q = ey ∙ ap (λ (x : List ℕ). joined x backs) (row-part xs i k ek)
 
-      word : (r : ℕ) → r < k → getD ys r 0 ≡ bitOr (getD xs (i * 64 + r) 0) (getD backs r 0)
-      word r h =
-          ap (λ (l : List ℕ). getD l r 0) ey ∙ joined-at (take k (drop (i * 64) xs)) backs r (omega (arith, part))
-          ∙ ap (λ (x : ℕ). bitOr x (getD backs r 0)) (getD-take k (drop (i * 64) xs) r 0 h ∙ getD-drop (i * 64) xs r 0)
+      put : RowPut i ys xs zs
+      put = row-put i k ys xs ek (ap length q ∙ joined-length (setOf xs i) backs ∙ row-length xs i (room i (ri .0))) (room i (ri .0))
 
-      here : (e : ℕ) → e / 64 ≡ i → getD (take (i * 64) xs ++ (ys ++ drop k (drop (i * 64) xs))) e 0 ≡ joinedIf (isMarkedReturn stmts marks i) (getD xs e 0) (getD backs (e % 64) 0)
-      here e q =
-          let r : i * 64 + e % 64 ≡ e = omega arith in
-          let h : e % 64 < k = omega arith in
-          ap (λ (x : ℕ). getD (take (i * 64) xs ++ (ys ++ drop k (drop (i * 64) xs))) x 0) (sym r) ∙ put-in xs ys (i * 64) k ly fits (e % 64) h ∙ word (e % 64) h
-          ∙ ap (λ (x : ℕ). bitOr (getD xs x 0) (getD backs (e % 64) 0)) r
-          ∙ ap (λ (x : Bool). joinedIf x (getD xs e 0) (getD backs (e % 64) 0)) (sym t)
+      here : (j : ℕ) → In (setOf zs i) j ↔ (In (setOf xs i) j ⊎ (List·Memᴰ i (i ∷ []) × In backs j))
+      here j =
+          let u = in-joined (setOf xs i) backs j (lb ∙ sym (row-length xs i (room i (ri .0)))) in (
+            λ m. elim (u .0 (rw (put .here ∙ q) at m)) [ inl x ↦ inl x | inr x ↦ inr (List·Memᴰ·head refl, x) ],
+            λ m. rw (put .here ∙ q) (u .1 (elim m [ inl x ↦ inl x | inr x ↦ inr (x .1) ])),
+          )
 
-  -- ---- node after node
+      go : (r : ℕ) → IsReturn stmts n r → (j : ℕ) → (r ≡ i) ⊎ (r ≡ i → ⊥) → In (setOf zs r) j ↔ (In (setOf xs r) j ⊎ (List·Memᴰ r (i ∷ []) × In backs j))
+      go r h j (inl e) = rw e (here j)
+      go r h j (inr ne) =
+          let e : setOf zs r ≡ setOf xs r = row-same xs zs r (room r (h .0)) (put .size) (λ d p. put .others d (λ f. ne (sym p ∙ f))) in (
+            λ m. inl (rw e at m),
+            elim [ inl m ↦ rw e m | inr m ↦ absurd (ne (one-cases (m .0))) ],
+          )
 
-  pub returns-none : (xs : List ℕ) → ReturnsJoined stmts 0 marks backs xs xs
-  returns-none xs =
-      record { size = refl; entry = λ e. ap (λ (x : Bool). joinedIf x (getD xs e 0) (getD backs (e % 64) 0)) (sym (marked-past stmts 0 marks (e / 64) (omega arith))) }
-
-  pub returns-more : (i : ℕ) (xs ys zs : List ℕ) → ReturnsJoined stmts i marks backs xs ys → ReturnJoined stmts i marks backs ys zs → ReturnsJoined stmts (i + 1) marks backs xs zs
-  returns-more i xs ys zs s t = record { size = t .size ∙ s .size; entry = λ e. go e (eq-or (e / 64) i) }
-    where
-      same-test : (j : ℕ) → (j ≡ i → ⊥) → (j < i) ⊎ (i ≤ j) → markedReturn stmts i marks j ≡ markedReturn stmts (i + 1) marks j
-      same-test j ne (inl h) = marked-below stmts i marks j h ∙ sym (marked-below stmts (i + 1) marks j (omega arith))
-      same-test j ne (inr h) = marked-past stmts i marks j h ∙ sym (marked-past stmts (i + 1) marks j (omega arith))
-
-      go : (e : ℕ) → (e / 64 ≡ i) ⊎ (e / 64 ≡ i → ⊥) → getD zs e 0 ≡ joinedIf (markedReturn stmts (i + 1) marks (e / 64)) (getD xs e 0) (getD backs (e % 64) 0)
-      go e (inl q) =
-          let b = getD backs (e % 64) 0 in
-          t .here e q ∙ ap (λ (x : ℕ). joinedIf (isMarkedReturn stmts marks i) x b) (s .entry e ∙ ap (λ (x : Bool). joinedIf x (getD xs e 0) b) (marked-past stmts i marks (e / 64) (omega arith)))
-          ∙ ap (λ (x : Bool). joinedIf x (getD xs e 0) b) (ap (isMarkedReturn stmts marks) (sym q) ∙ sym (marked-below stmts (i + 1) marks (e / 64) (omega arith)))
-      go e (inr q) =
-          t .others e q ∙ s .entry e
-          ∙ ap (λ (x : Bool). joinedIf x (getD xs e 0) (getD backs (e % 64) 0)) (same-test (e / 64) q (lt-or (e / 64) i))
-
-  -- ---- a node's set, as a set
-
-  module _ (n : ℕ) (xs ys : List ℕ) (s : ReturnsJoined stmts n marks backs xs ys) (i : ℕ) (fits : i * 64 + 64 ≤ length xs) where
-    set-length : (zs : List ℕ) → i * 64 + 64 ≤ length zs → length (setOf zs i) ≡ 64
-    unfolding setOf
-    set-length zs h = length-take-le 64 (drop (i * 64) zs) (omega (arith, length-drop (i * 64) zs))
-
-    set-at : (zs : List ℕ) (q : ℕ) → q < 64 → getD (setOf zs i) q 0 ≡ getD zs (i * 64 + q) 0
-    unfolding setOf
-    set-at zs q h = getD-take 64 (drop (i * 64) zs) q 0 h ∙ getD-drop (i * 64) zs q 0
-
-    lengths : length (setOf ys i) ≡ length (setOf xs i)
-    lengths = set-length ys (omega (arith, s .size)) ∙ sym (set-length xs fits)
-
-    set-entry : (q : ℕ) → q < 64 → getD (setOf ys i) q 0 ≡ joinedIf (markedReturn stmts n marks i) (getD (setOf xs i) q 0) (getD backs q 0)
-    set-entry q h =
-        let d : (i * 64 + q) / 64 ≡ i = omega arith in
-        let r : (i * 64 + q) % 64 ≡ q = omega arith in
-        set-at ys q h ∙ s .entry (i * 64 + q)
-        ∙ ap (λ (x : ℕ). joinedIf (markedReturn stmts n marks x) (getD xs (i * 64 + q) 0) (getD backs ((i * 64 + q) % 64) 0)) d
-        ∙ ap (λ (x : ℕ). joinedIf (markedReturn stmts n marks i) (getD xs (i * 64 + q) 0) (getD backs x 0)) r
-        ∙ ap (λ (x : ℕ). joinedIf (markedReturn stmts n marks i) x (getD backs q 0)) (sym (set-at xs q h))
-
-    -- a marked RETURN has the union, every other node what it had
-    pub return-set : markedReturn stmts n marks i ≡ true → setOf ys i ≡ joined (setOf xs i) backs
-    return-set t =
-        let l = set-length xs fits in
-        ext-getD 0 (setOf ys i) (joined (setOf xs i) backs) (lengths ∙ sym (joined-length (setOf xs i) backs)) (λ q h.
-        set-entry q (omega (arith, lengths))
-        ∙ ap (λ (x : Bool). joinedIf x (getD (setOf xs i) q 0) (getD backs q 0)) t
-        ∙ sym (joined-at (setOf xs i) backs q (omega (arith, lengths))))
-
-    pub other-set : markedReturn stmts n marks i ≡ false → setOf ys i ≡ setOf xs i
-    other-set t =
-        let l = set-length xs fits in
-        ext-getD 0 (setOf ys i) (setOf xs i) lengths (λ q h.
-        set-entry q (omega (arith, lengths)) ∙ ap (λ (x : Bool). joinedIf x (getD (setOf xs i) q 0) (getD backs q 0)) t)
-
-    pub in-return-set : length backs ≡ 64 → (a : ℕ) → In (setOf ys i) a ↔ (In (setOf xs i) a ⊎ ((markedReturn stmts n marks i ≡ true) × In backs a))
-    in-return-set lb a = go (markedReturn stmts n marks i) refl
-      where
-        go : (x : Bool) → markedReturn stmts n marks i ≡ x → In (setOf ys i) a ↔ (In (setOf xs i) a ⊎ ((x ≡ true) × In backs a))
-        go true t =
-            let u = in-joined (setOf xs i) backs a (lb ∙ sym (set-length xs fits)) in (
-              λ m. elim (u .0 (rw (return-set t) at m)) [ inl k ↦ inl k | inr k ↦ inr (refl, k) ],
-              λ m. rw (return-set t) (u .1 (elim m [ inl k ↦ inl k | inr k ↦ inr (k .1) ])),
-            )
-        go false t = (
-          λ m. inl (rw (other-set t) at m),
-          elim [ inl k ↦ rw (other-set t) k | inr k ↦ absurd (let f = k .0 in let z : _≡_ {A = ℕ} 0 1 = cc in omega arith) ],
-        )
+  -- the list's next node x
+  pub returns-more : (list : List ℕ) (k x : ℕ) (xs ys zs : List ℕ) → k < length list → x ≡ getD list k 0 → ReturnsJoined stmts n (take k list) backs xs ys
+      → ReturnsJoined stmts n (x ∷ []) backs ys zs → ReturnsJoined stmts n (take (k + 1) list) backs xs zs
+  returns-more list k x xs ys zs h ex s t =
+      let e : take (k + 1) list ≡ take k list ++ (x ∷ []) = rw (add-one, take-suc list k 0 h, ex) in
+      rw e
+      (record {
+        size = t .size ∙ s .size;
+        members = λ r h a. (
+          λ m.
+              elim (t .members r h a .0 m) [
+                | inl p ↦ elim (s .members r h a .0 p) [ inl y ↦ inl y | inr y ↦ inr (Memᴰ·append-left (x ∷ []) (y .0), y .1) ]
+                | inr p ↦ inr (Memᴰ·append-right (take k list) (p .0), p .1)
+              ],
+          λ m.
+              t .members r h a .1
+              (elim m [
+                | inl p ↦ inl (s .members r h a .1 (inl p))
+                | inr p ↦ elim (List·Memᴰ·append-cases (take k list) (p .0)) [ inl y ↦ inl (s .members r h a .1 (inr (y, p .1))) | inr y ↦ inr (y, p .1) ]
+              ]),
+        );
+        others = λ i h. t .others i h ∙ s .others i h;
+      })

@@ -18,6 +18,7 @@ use Rattle.graph.specs.Adding.{Added, decode, added-none, added-both, added-one
 use Rattle.graph.specs.Graph.{Wired, continuation, returnTargets}
 use Rattle.wiring.specs.Compare.{eq-or}
 use Rattle.wiring.specs.Growing.{each-snoc}
+use Rattle.wiring.specs.AddedAgain.{or-true, or-false, has-end}
 use Rattle.wiring.specs.Prepared.{callWord, wordOf, fallEntry, Roles}
 
 -- where node i continues, if it is a call
@@ -31,7 +32,7 @@ continuationNumber stmts falls i = pick (callWord (wordOf stmts i)) (getD falls 
 unfoldable pub targetsBy : List ℕ → List ℕ → ℕ → List ℕ
 targetsBy stmts falls n = addAll [] (each (continuationEntry stmts falls) (below n))
 
-each-below : (f g : ℕ → List ℕ) (n : ℕ) → ((i : ℕ) → i < n → f i ≡ g i) → each f (below n) ≡ each g (below n)
+pub each-below : (f g : ℕ → List ℕ) (n : ℕ) → ((i : ℕ) → i < n → f i ≡ g i) → each f (below n) ≡ each g (below n)
 unfolding below each
 each-below f g zero e = refl
 each-below f g (suc n) e = rw (each-snoc f (below n) n, each-snoc g (below n) n, each-below f g n (λ i h. e i (omega arith)), e n (omega arith))
@@ -71,23 +72,6 @@ pub marking-none : (bound : ℕ) (marks : List Bool) (returns : List ℕ) → ma
 unfolding has
 marking-none bound marks returns e =
     record { marks-size = ap length e ∙ length-replicate bound false; marked = λ x h. ap (λ (m : List Bool). getD m x false) e ∙ getD-replicate bound x false false h }
-
-or-true : (x : Bool) → (x || true) ≡ true
-or-true true = refl
-or-true false = refl
-
-or-false : (x : Bool) → (x || false) ≡ x
-or-false true = refl
-or-false false = refl
-
-or-assoc : (x y z : Bool) → ((x || y) || z) ≡ (x || (y || z))
-or-assoc true y z = refl
-or-assoc false y z = refl
-
-has-end : (x a : ℕ) (l : List ℕ) → has x (l ++ (a ∷ [])) ≡ (has x l || eqb x a)
-unfolding has
-has-end x a [] = or-false (eqb x a)
-has-end x a (b ∷ l) = rw (has-end x a l) (sym (or-assoc (eqb x b) (has x l) (eqb x a)))
 
 same-mark : (x a : ℕ) (l : List ℕ) → x ≡ a → true ≡ (has x l || eqb x a)
 same-mark x a l q = sym (ap (λ (y : Bool). has x l || y) (eq-eqb x a q) ∙ or-true (has x l))
@@ -134,7 +118,7 @@ module _ (bound : ℕ) (marks : List Bool) (returns : List ℕ) (k t : ℕ) (m :
         → TargetsAdded bound (decode t) returns k (set marks x true) (set returns k (t - 1)) (k + 1)
     target-new x q fits e = rw q (new fits (ap (λ (y : ℕ). getD marks y false) (sym q) ∙ e))
 
-one-at-most : (t : ℕ) → length (decode t) ≤ 1
+pub one-at-most : (t : ℕ) → length (decode t) ≤ 1
 one-at-most zero = omega arith
 one-at-most (suc a) = omega arith
 
@@ -181,30 +165,14 @@ continuation-le stmts falls i m h = go (callWord (wordOf stmts i))
     go true = h
     go false = omega arith
 
-call-gosub : (w : ℕ) → w ≡ 8 → callWord w ≡ true
-unfolding callWord
-call-gosub w e = rw (eq-eqb w 8 e)
-
-call-ongosub : (w : ℕ) → w ≡ 12 → callWord w ≡ true
-unfolding callWord
-call-ongosub w e = rw (eq-eqb w 12 e) (or-true (eqb w 8))
-
-call-none : (w : ℕ) → (w ≡ 8 → ⊥) → (w ≡ 12 → ⊥) → callWord w ≡ false
-unfolding callWord
-call-none w f g = rw (ne-eqb w 8 f, ne-eqb w 12 g)
-
 module _ (stmts falls : List ℕ) (i : ℕ) where
-  pub continuation-gosub : getD stmts (i * 12) 0 ≡ 8 → getD falls (i * 3) 0 ≡ continuationNumber stmts falls i
+  pub continuation-call : callWord (getD stmts (i * 12) 0) ≡ true → getD falls (i * 3) 0 ≡ continuationNumber stmts falls i
   unfolding continuationNumber wordOf
-  continuation-gosub e = rw (call-gosub (getD stmts (i * 12) 0) e)
+  continuation-call e = rw e
 
-  pub continuation-ongosub : getD stmts (i * 12) 0 ≡ 12 → getD falls (i * 3) 0 ≡ continuationNumber stmts falls i
+  pub continuation-none : callWord (getD stmts (i * 12) 0) ≡ false → 0 ≡ continuationNumber stmts falls i
   unfolding continuationNumber wordOf
-  continuation-ongosub e = rw (call-ongosub (getD stmts (i * 12) 0) e)
-
-  pub continuation-none : (getD stmts (i * 12) 0 ≡ 8 → ⊥) → (getD stmts (i * 12) 0 ≡ 12 → ⊥) → 0 ≡ continuationNumber stmts falls i
-  unfolding continuationNumber wordOf
-  continuation-none f g = rw (call-none (getD stmts (i * 12) 0) f g)
+  continuation-none e = rw e
 
 pub roles-falls : {W : Wired} {stmts falls links : List ℕ} {n : ℕ} → Roles W stmts falls links n → FallsFit falls n
 roles-falls r i h = omega (arith, r .fall-fits i h, r .few)

@@ -14,7 +14,6 @@ use Rattle.graph.specs.Distinct.{few, distinct-ascending}
 use Rattle.wiring.specs.Sets.{membersOf}
 use Rattle.wiring.specs.SetLaws.{members-in, members-asc, in-below}
 use Rattle.wiring.specs.ReturnSets.{setOf}
-use Rattle.wiring.specs.Counting.{sumTo}
 use Rattle.wiring.specs.Prepared.{wordOf}
 
 -- the sum of f over those below n that pass a test
@@ -44,12 +43,6 @@ sum-where-on p f g (suc n) e = rw (sum-where-on p f g n (λ i h. e i (omega arit
     go : (x : Bool) → p n ≡ x → sumWhere p g n + pick x (f n) 0 ≡ sumWhere p g n + pick x (g n) 0
     go true q = ap (λ (y : ℕ). sumWhere p g n + y) (e n (omega arith) q)
     go false q = refl
-
--- as a sum over all nodes
-pub sum-where-to : (p : ℕ → Bool) (f : ℕ → ℕ) (n : ℕ) → sumWhere p f n ≡ sumTo (λ i. pick (p i) (f i) 0) n
-unfolding sumWhere sumTo
-sum-where-to p f zero = refl
-sum-where-to p f (suc n) = ap (λ (x : ℕ). x + pick (p n) (f n) 0) (sum-where-to p f n)
 
 pick-le : (x : Bool) (a m : ℕ) → a ≤ m → pick x a 0 ≤ m
 pick-le true a m h = h

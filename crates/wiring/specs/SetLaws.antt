@@ -14,6 +14,7 @@ use lib.Dec.{eqb}
 use lib.ListN.{length, length-set, length-append, getD, set, take, drop, replicate, List·getD-eq-default}
 use lib.Pow.{pow-pos, pow-mono, pow-lt, pow-add, shl-shr, shl-exact, shr-shr, mod-pow-add}
 use lib.Seq.{getD-set-same, getD-set-other, take-suc-set, drop-set-lt, drop-drop}
+use Rattle.reader.specs.WordTable.{zeros}
 use Rattle.wiring.specs.Compare.{eq-or, lt-or}
 use Rattle.graph.specs.Members.{Ascending, asc[], asc∷, asc-ext}
 use Rattle.wiring.specs.Sets.{bit, In, inserted, joinedTo, joined, oneIf, wordMembers, membersTo, membersOf, Put}
@@ -23,10 +24,6 @@ use Rattle.wiring.specs.Sets.{bit, In, inserted, joinedTo, joined, oneIf
 bit-two : (ws : List ℕ) (i : ℕ) → bit ws i < 2
 unfolding bit
 bit-two ws i = mod-lt (getD ws (i / 64) 0 / 2 ^ (i % 64)) (omega arith)
-
-bit-word : (ws us : List ℕ) (i : ℕ) → getD ws (i / 64) 0 ≡ getD us (i / 64) 0 → bit ws i ≡ bit us i
-unfolding bit
-bit-word ws us i e = ap (λ (w : ℕ). w / 2 ^ (i % 64) % 2) e
 
 bit-zero : (ws : List ℕ) (i : ℕ) → getD ws (i / 64) 0 ≡ 0 → bit ws i ≡ 0
 unfolding bit
@@ -41,13 +38,7 @@ in-below ws i e = elim (lt-or (i / 64) (length ws)) [ inl h ↦ omega arith | in
 
 -- words that are zero hold nothing
 pub none-in : (n i : ℕ) → In (replicate n 0) i → ⊥
-none-in n i e = omega (arith, bit-zero (replicate n 0) i (zero-at n (i / 64)))
-  where
-    zero-at : (n q : ℕ) → _≡_ {A = ℕ} (getD (replicate n 0) q 0) 0
-    zero-at zero zero = refl
-    zero-at zero (suc q) = refl
-    zero-at (suc n) zero = refl
-    zero-at (suc n) (suc q) = zero-at n q
+none-in n i e = omega (arith, bit-zero (replicate n 0) i (zeros n (i / 64)))
 
 or-bit : (a b r : ℕ) → bitOr a b / 2 ^ r % 2 ≡ max (a / 2 ^ r % 2) (b / 2 ^ r % 2)
 or-bit a b r =

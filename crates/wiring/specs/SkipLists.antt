@@ -1,13 +1,13 @@
 -- The lists that skipping paths follow, as a loop over the nodes stores them in a scratch table, and how many edges all nodes have that are no RETURNs. Assumes nothing.
 use mathlib.Core.Path.{_≡_, refl, sym, ap, subst, _∙_}
 use mathlib.Core.Bool.{Bool, true, false}
-use mathlib.Core.List.{List, []}
+use mathlib.Core.List.{List, [], _∷_}
 use Prim.Native.Nat.{ℕ, zero, suc, _+_, _-_, _*_, _≤_, _<_}
 use native.Mathlib.Omega.{arith}
-use native.Mathlib.Numerals.{add-one, sub-one}
+use native.Mathlib.Numerals.{add-one}
 use lib.Dec.{eqb}
-use lib.ListN.{length, length-append, length-set, take, getD, set}
-use lib.Seq.{length-take-le, take-suc-set, take-take}
+use lib.ListN.{length, length-append, take, getD, set}
+use lib.Seq.{length-take-le, take-take}
 use Rattle.reader.specs.Bytes.{pick}
 use Rattle.reader.specs.Every.{all[]}
 use Rattle.reader.specs.Listing.{Listing}
@@ -20,6 +20,7 @@ use Rattle.wiring.specs.EdgeTable.{joinedLists, joined-snoc, listsTo, le
 use Rattle.wiring.specs.Prepared.{Prepared, Keys, Roles, callWord, wordOf, fallEntry}
 use Rattle.wiring.specs.NodeList.{ListReady, ListIs, ListMade}
 use Rattle.wiring.specs.PredecessorLists.{walk-lists}
+use Rattle.wiring.specs.ReturnTargets.{one-at-most}
 
 -- ---- what a skipping path follows from a node whose list is l: from a call only its fall
 
@@ -36,16 +37,12 @@ module _ {W : Wired} {stmts falls links : List ℕ} {n : ℕ} (r : Roles W stmts
       go false true e = sym (e refl)
       go false false e = refl
 
-decode-short : (t : ℕ) → length (decode t) ≤ 1
-decode-short zero = omega arith
-decode-short (suc a) = omega arith
-
 pub skip-short : (stmts falls : List ℕ) (i : ℕ) (l : List ℕ) → length (skipList stmts falls i l) ≤ length l + 1
 unfolding skipList fallEntry
 skip-short stmts falls i l = go (callWord (wordOf stmts i))
   where
     go : (c : Bool) → length (pick c (decode (getD falls (i * 3) 0)) l) ≤ length l + 1
-    go true = omega (arith, decode-short (getD falls (i * 3) 0))
+    go true = omega (arith, one-at-most (getD falls (i * 3) 0))
     go false = omega arith
 
 -- a list that stands in a part, stored
@@ -63,19 +60,31 @@ module _ (stmts falls : List ℕ) (i : ℕ) (part : List ℕ) (count : ℕ) wher
   unfolding skipList
   skip-same e h = rw e (record { count = sym (length-take-le count part h); list = refl; size = refl; within = h })
 
-  -- a call that falls nowhere
-  pub skip-none : callWord (wordOf stmts i) ≡ true → getD falls (i * 3) 0 ≡ 0 → ListIs (skipList stmts falls i (take count part)) part part 0
-  unfolding skipList fallEntry
-  skip-none e z = rw (e, z) (record { count = refl; list = refl; size = refl; within = omega arith })
+  -- a call: where it falls
+  pub skip-fall : callWord (wordOf stmts i) ≡ true → (part′ : List ℕ) (r : ℕ) → ListIs (fallEntry falls i) part part′ r → ListIs (skipList stmts falls i (take count part)) part part′ r
+  unfolding skipList
+  skip-fall e part′ r l = rw e l
 
-  -- a call that falls
-  pub skip-one : callWord (wordOf stmts i) ≡ true → (getD falls (i * 3) 0 ≡ 0 → ⊥) → 0 < length part → (t : ℕ) → t ≡ getD falls (i * 3) 0 → ListIs (skipList stmts falls i (take count part)) part (set part 0 (t - 1)) 1
-  unfolding skipList fallEntry
-  skip-one e z h t q = rw (e, ← q) (go t (λ y. z (sym q ∙ y)))
+-- ---- where a node falls, put to the front of a part
+
+pub list-none : (part : List ℕ) → ListIs [] part part 0
+list-none part = record { count = refl; list = refl; size = refl; within = omega arith }
+
+module _ (falls : List ℕ) (i : ℕ) (part : List ℕ) where
+  pub fall-none : getD falls (i * 3) 0 ≡ 0 → ListIs (fallEntry falls i) part part 0
+  unfolding fallEntry
+  fall-none e = rw e (list-none part)
+
+  pub fall-one : (getD falls (i * 3) 0 ≡ 0 → ⊥) → 0 < length part → ListIs (fallEntry falls i) part (set part 0 (getD falls (i * 3) 0 - 1)) 1
+  unfolding fallEntry
+  fall-one ne h = go (getD falls (i * 3) 0) ne part h
     where
-      go : (t : ℕ) → (t ≡ 0 → ⊥) → ListIs (decode t) part (set part 0 (t - 1)) 1
-      go zero f = absurd (f refl)
-      go (suc a) f = rw (sub-one (suc a)) (record { count = refl; list = take-suc-set part 0 a h; size = length-set part 0 a; within = omega arith })
+      go : (x : ℕ) → (x ≡ 0 → ⊥) → (p : List ℕ) → 0 < length p → ListIs (decode x) p (set p 0 (x - 1)) 1
+      go zero z p lt = absurd (z refl)
+      go (suc x) z [] lt = absurd (omega arith)
+      go (suc x) z (a ∷ p) lt =
+          let q : suc x - 1 ≡ x = omega arith in
+          rw q (record { count = refl; list = refl; size = refl; within = omega arith })
 
 -- ---- one node
 
@@ -247,7 +256,7 @@ skips-done {W} {total = total} {at = at} {lists₀ = lists₀} {lists = lists} {
 
 -- ---- what a walk reads
 
-skip-ids : (L : Listing) (i : ℕ) → Ids (nodeCount L) (skipSteps (wire L) i)
+pub skip-ids : (L : Listing) (i : ℕ) → Ids (nodeCount L) (skipSteps (wire L) i)
 unfolding skipSteps skipStepsBy successors successorsIn successorsBy
 skip-ids L i = go (role (wire L) i) (lists-ok L .ids i)
   where

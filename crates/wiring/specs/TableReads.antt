@@ -124,14 +124,6 @@ module _ (es : Entries) where
   linked-length t i (n ∷ ns) =
       linked-length (sets t (i * 64) (linkRow es (stmtTargets (n .stmt)))) (suc i) ns ∙ length-sets t (i * 64) (linkRow es (stmtTargets (n .stmt)))
 
-  -- what stands behind the last row is as it was
-  pub linked-past : (t : List ℕ) (i : ℕ) (ns : List Node) (k : ℕ) → All Few ns → (i + length ns) * 64 ≤ k → getD (linked es t i ns) k 0 ≡ getD t k 0
-  unfolding linked
-  linked-past t i [] k a h = refl
-  linked-past t i (n ∷ ns) k (all∷ f fs) h =
-      let L = linkRow es (stmtTargets (n .stmt)) in
-      linked-past (sets t (i * 64) L) (suc i) ns k fs (omega arith) ∙ sets-other t (i * 64) L k (inr (omega (arith, link-length es (stmtTargets (n .stmt)))))
-
   -- row k of those from i on: as if it had been written alone
   linked-row : (t : List ℕ) (i : ℕ) (ns : List Node) (k j : ℕ) (n : Node) → All Few ns → getElem? ns k ≡ some n → j < 64
       → getD (linked es t i ns) ((i + k) * 64 + j) 0 ≡ getD (sets t ((i + k) * 64) (linkRow es (stmtTargets (n .stmt)))) ((i + k) * 64 + j) 0
@@ -163,7 +155,3 @@ module _ (es : Entries) where
     link-of j h room f =
         let k = link-length es (stmtTargets (n .stmt)) in
         at-row j (omega arith) ∙ sets-here t (i * 64) (linkRow es (stmtTargets (n .stmt))) j (omega arith) (omega arith)
-
-    -- what stands behind them is as it was
-    pub link-kept : (j : ℕ) → length (stmtTargets (n .stmt)) ≤ j → j < 64 → getD (linked es t 0 ns) (i * 64 + j) 0 ≡ getD t (i * 64 + j) 0
-    link-kept j h g = at-row j g ∙ sets-other t (i * 64) (linkRow es (stmtTargets (n .stmt))) (i * 64 + j) (inr (omega (arith, link-length es (stmtTargets (n .stmt)))))

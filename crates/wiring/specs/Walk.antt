@@ -1,4 +1,5 @@
--- A walk with a mark for each node and a worklist of marked nodes whose steps are still to be marked; lists of steps as tables store them.
+-- A walk with a mark for each node and a list of the marked nodes, whose end is the worklist: those whose steps are still to be marked.
+-- Lists of steps as tables store them.
 -- Assumes nothing.
 use mathlib.Core.Path.{_≡_}
 use mathlib.Core.Bool.{Bool, true, false}
@@ -11,10 +12,10 @@ use Rattle.graph.specs.Reach.{Reach}
 
 -- ---- what a walk promises
 
--- the marks are exactly the nodes that steps lead to
-pub record Marked (step : ℕ → List ℕ) (from : ℕ) (marks : List Bool) : Type 0 where
-  pub sound : (v : ℕ) → getD marks v false ≡ true → Reach step from v
-  pub complete : (v : ℕ) → Reach step from v → getD marks v false ≡ true
+-- the list has exactly the nodes that steps lead to
+pub record Reached (step : ℕ → List ℕ) (from : ℕ) (l : List ℕ) : Type 0 where
+  pub sound : (v : ℕ) → List·Memᴰ v l → Reach step from v
+  pub complete : (v : ℕ) → Reach step from v → List·Memᴰ v l
 
 -- a node's list in the tables: of its 4 entries the first says where it begins, the second how long it is
 unfoldable pub storedList : List ℕ → List ℕ → ℕ → List ℕ
@@ -27,9 +28,10 @@ pub record Stored (lists edges : List ℕ) (n : ℕ) (step : ℕ → List ℕ) :
   pub list : (v : ℕ) → v < n → storedList lists edges v ≡ step v
   pub ids : (v : ℕ) → v < n → Ids n (step v)
 
--- whichever steps the tables hold
-abbrev pub RegionMarked : (lists edges : List ℕ) (n from : ℕ) (marks : List Bool) → Type 0
-RegionMarked lists edges n from marks = (step : ℕ → List ℕ) → Stored lists edges n step → Marked step from marks
+-- the first r entries of the worklist, whichever steps the tables hold
+pub record RegionListed (lists edges : List ℕ) (n from : ℕ) (work : List ℕ) (r : ℕ) : Type 0 where
+  pub within : r ≤ length work
+  pub reached : (step : ℕ → List ℕ) → Stored lists edges n step → Reached step from (take r work)
 
 -- ---- what a walk keeps
 
@@ -65,13 +67,14 @@ pub record ListMarked (l : List ℕ) (m₀ : List Bool) (w₀ : List ℕ) (n₀ 
   pub kept : (i : ℕ) → i < n₀ → getD w i 0 ≡ getD w₀ i 0
   pub listed : (i : ℕ) → n₀ ≤ i → i < n → getD m (getD w i 0) false ≡ true
 
--- the walk's invariant
-pub record Walk (step : ℕ → List ℕ) (size from : ℕ) (m : List Bool) (w : List ℕ) (n : ℕ) : Type 0 where
+-- the walk's invariant: n nodes are listed, and the steps of the first d of them are marked
+pub record Walk (step : ℕ → List ℕ) (size from : ℕ) (m : List Bool) (w : List ℕ) (d n : ℕ) : Type 0 where
   pub marks-size : length m ≡ size
   pub work-size : length w ≡ size
   pub room : n + free m ≤ size
+  pub done : d ≤ n
   pub sound : (v : ℕ) → getD m v false ≡ true → Reach step from v
   pub root : getD m from false ≡ true
   pub listed : (i : ℕ) → i < n → getD m (getD w i 0) false ≡ true
-  -- a marked node is on the worklist, or all its steps are marked
-  pub closed : (v : ℕ) → getD m v false ≡ true → On w 0 n v ⊎ ((u : ℕ) → List·Memᴰ u (step v) → getD m u false ≡ true)
+  pub all : (v : ℕ) → getD m v false ≡ true → On w 0 n v
+  pub closed : (i : ℕ) → i < d → (u : ℕ) → List·Memᴰ u (step (getD w i 0)) → getD m u false ≡ true

@@ -1,4 +1,4 @@
--- Laws of the walk: one node marked, a list marked, one node taken off the worklist, the end. Sizes are variables, so that nothing writes
+-- Laws of the walk: one node marked, a list marked, the steps of the next node marked, the end. Sizes are variables, so that nothing writes
 -- 4,096 marks out. Assumes nothing.
 use mathlib.Core.Path.{_≡_, refl, sym, ap, subst, _∙_}
 use mathlib.Core.Bool.{Bool, true, false}
@@ -9,12 +9,13 @@ use native.Mathlib.Nat.{not-suc-le-zero, le-of-suc-le-suc}
 use native.Mathlib.Numerals.{add-one}
 use native.Mathlib.Omega.{arith}
 use lib.ListN.{length, getD, take, drop, set, replicate, length-set, length-replicate}
-use lib.Seq.{getD-set-same, getD-set-other, take-suc}
+use lib.Seq.{getD-set-same, getD-set-other, take-suc, getD-take, length-take-le}
 use Rattle.wiring.specs.Compare.{eq-or, lt-or}
+use Rattle.reader.specs.Every.{All, all[], all∷}
 use Rattle.graph.specs.EdgeBounds.{Ids}
 use Rattle.graph.specs.Members.{all-mem, all-map}
 use Rattle.graph.specs.Reach.{Reach, here, on}
-use Rattle.wiring.specs.Walk.{Marked, storedList, Stored, RegionMarked, free, On, Markable, ListMarked, Walk}
+use Rattle.wiring.specs.Walk.{Reached, storedList, Stored, RegionListed, free, On, Markable, ListMarked, Walk}
 
 clash : {A : Type 0} → true ≡ false → A
 clash e = let z : _≡_ {A = ℕ} 0 1 = cc in absurd (omega arith)
@@ -150,9 +151,9 @@ room-for size n₀ m₀ m n x r c h e = omega (arith, free-set m x h e)
 
 -- ---- the walk
 
--- only the root is marked, and on the worklist
+-- only the root is marked and listed
 module _ (step : ℕ → List ℕ) (size from : ℕ) (lt : from < size) (w : List ℕ) (lw : length w ≡ size) where
-  first-walk : (m : List Bool) → length m ≡ size → ((v : ℕ) → getD m v false ≡ false) → free m ≡ size → Walk step size from (set m from true) (set w 0 from) 1
+  first-walk : (m : List Bool) → length m ≡ size → ((v : ℕ) → getD m v false ≡ false) → free m ≡ size → Walk step size from (set m from true) (set w 0 from) 0 1
   first-walk m lm off fr =
       let f-in : from < length m = omega arith in
       let z-in : 0 < length w = omega arith in
@@ -162,70 +163,85 @@ module _ (step : ℕ → List ℕ) (size from : ℕ) (lt : from < size) (w : Lis
         marks-size = length-set m from true ∙ lm;
         work-size = length-set w 0 from ∙ lw;
         room = omega (arith, free-set m from f-in (off from));
+        done = omega arith;
         sound = λ v e. rw (only v e) here;
         root = getD-set-same m from true false f-in;
         listed = λ i h. let z : i ≡ 0 = omega arith in rw (z, getD-set-same w 0 from 0 z-in) (getD-set-same m from true false f-in);
-        closed = λ v e. inl (record { i = 0; above = omega arith; below = omega arith; stands = getD-set-same w 0 from 0 z-in ∙ sym (only v e) });
+        all = λ v e. record { i = 0; above = omega arith; below = omega arith; stands = getD-set-same w 0 from 0 z-in ∙ sym (only v e) };
+        closed = λ i h. absurd (omega arith);
       }
 
   -- y is the root, as the worklist has it
-  pub walk-start : (m : List Bool) (y : ℕ) → m ≡ replicate size false → y ≡ from → Walk step size from (set m from true) (set w 0 y) 1
+  pub walk-start : (m : List Bool) (y : ℕ) → m ≡ replicate size false → y ≡ from → Walk step size from (set m from true) (set w 0 y) 0 1
   walk-start m y em ey =
       rw ey
       (first-walk m (ap length em ∙ length-replicate size false) (λ v. ap (λ (l : List Bool). getD l v false) em ∙ no-mark size v) (ap free em ∙ free-all size))
 
--- a list of nodes can be marked once a node is taken off
-pub walk-markable : {step : ℕ → List ℕ} {size from : ℕ} {m : List Bool} {w : List ℕ} {n : ℕ} → Walk step size from m w n → {l : List ℕ} → Ids size l
-    → Markable size l m w (n - 1)
-walk-markable s h = record { ids = h; marks-size = s .marks-size; work-size = s .work-size; room = omega (arith, s .room) }
+pub walk-markable : {step : ℕ → List ℕ} {size from : ℕ} {m : List Bool} {w : List ℕ} {d n : ℕ} → Walk step size from m w d n → {l : List ℕ} → Ids size l → Markable size l m w n
+walk-markable s h = record { ids = h; marks-size = s .marks-size; work-size = s .work-size; room = s .room }
 
--- a node v is taken off the worklist, and all its steps, a list l, are marked
-module _ (step : ℕ → List ℕ) (size from : ℕ) (m m′ : List Bool) (w w′ : List ℕ) (n n′ v : ℕ) (l : List ℕ) (s : Walk step size from m w n) (pos : 0 < n)
-    (ev : v ≡ getD w (n - 1) 0) (el : l ≡ step v) (t : ListMarked l m w (n - 1) m′ w′ n′) where
-  taken-marked : getD m v false ≡ true
-  taken-marked = rw ev (s .listed (n - 1) (omega arith))
+-- all steps of the next node v, a list l, are marked
+module _ (step : ℕ → List ℕ) (size from : ℕ) (m m′ : List Bool) (w w′ : List ℕ) (d n n′ v : ℕ) (l : List ℕ) (s : Walk step size from m w d n) (lt : d < n)
+    (ev : v ≡ getD w d 0) (el : l ≡ step v) (t : ListMarked l m w n m′ w′ n′) where
+  next-marked : getD m v false ≡ true
+  next-marked = rw ev (s .listed d lt)
 
-  on-more : (u : ℕ) → On w 0 n u → On w′ 0 n′ u ⊎ ((x : ℕ) → List·Memᴰ x (step u) → getD m′ x false ≡ true)
-  on-more u o =
-      ⊎-elim
-      (λ q.
-      let e : u ≡ v = sym (o .stands) ∙ ap (λ (x : ℕ). getD w x 0) q ∙ sym ev in
-      inr (λ x i. t .covers x (subst (λ (k : List ℕ). List·Memᴰ x k) (ap step e ∙ sym el) i)))
-      (λ q. inl (record { i = o .i; above = omega arith; below = omega (arith, o .below, t .more); stands = t .kept (o .i) (omega (arith, o .below)) ∙ o .stands }))
-      (eq-or (o .i) (n - 1))
-
-  listed-more : (i : ℕ) → i < n′ → (i < n - 1) ⊎ (n - 1 ≤ i) → getD m′ (getD w′ i 0) false ≡ true
-  listed-more i h (inl q) = rw (t .kept i q) (t .grows (getD w i 0) (s .listed i (omega arith)))
+  listed-more : (i : ℕ) → i < n′ → (i < n) ⊎ (n ≤ i) → getD m′ (getD w′ i 0) false ≡ true
+  listed-more i h (inl q) = rw (t .kept i q) (t .grows (getD w i 0) (s .listed i q))
   listed-more i h (inr q) = t .listed i q h
 
-  pub walk-turn : Walk step size from m′ w′ n′
+  still-on : (u : ℕ) → On w 0 n u → On w′ 0 n′ u
+  still-on u o = record { i = o .i; above = o .above; below = omega (arith, o .below, t .more); stands = t .kept (o .i) (o .below) ∙ o .stands }
+
+  closed-more : (i : ℕ) → i < d + 1 → (u : ℕ) → List·Memᴰ u (step (getD w i 0)) → (i ≡ d) ⊎ (i ≡ d → ⊥) → getD m′ u false ≡ true
+  closed-more i h u x (inl q) = t .covers u (subst (λ (k : List ℕ). List·Memᴰ u k) (ap (λ (j : ℕ). step (getD w j 0)) q ∙ ap step (sym ev) ∙ sym el) x)
+  closed-more i h u x (inr q) = t .grows u (s .closed i (omega arith) u x)
+
+  pub walk-turn : Walk step size from m′ w′ (d + 1) n′
   walk-turn =
       record {
         marks-size = t .marks-size ∙ s .marks-size;
         work-size = t .work-size ∙ s .work-size;
         room = omega (arith, t .count, s .room);
+        done = omega (arith, t .more);
         sound = λ u e.
-            ⊎-elim (λ q. s .sound u q) (λ q. on (s .sound v taken-marked) (subst (λ (k : List ℕ). List·Memᴰ u k) el (q .0))) (t .new u e);
+            ⊎-elim (λ q. s .sound u q) (λ q. on (s .sound v next-marked) (subst (λ (k : List ℕ). List·Memᴰ u k) el (q .0))) (t .new u e);
         root = t .grows from (s .root);
-        listed = λ i h. listed-more i h (lt-or i (n - 1));
-        closed = λ u e.
+        listed = λ i h. listed-more i h (lt-or i n);
+        all = λ u e.
             ⊎-elim
-            (λ q. ⊎-elim (λ o. on-more u o) (λ f. inr (λ x i. t .grows x (f x i))) (s .closed u q))
-            (λ q. inl (record { i = q .1 .i; above = omega arith; below = q .1 .below; stands = q .1 .stands }))
+            (λ q. still-on u (s .all u q))
+            (λ q. record { i = q .1 .i; above = omega arith; below = q .1 .below; stands = q .1 .stands })
             (t .new u e);
+        closed = λ i h u x. closed-more i h u (subst (λ (y : ℕ). List·Memᴰ u (step y)) (t .kept i (omega (arith, s .done))) x) (eq-or i d);
       }
 
--- the measure, free marks f twice and the worklist's length n: a turn takes one node off, and each mark that it sets puts one on
-pub walk-falls : (f f′ n n′ : ℕ) → 0 < n → n′ + f′ ≡ n - 1 + f → n - 1 ≤ n′ → f′ + f′ + n′ < f + f + n
-walk-falls f f′ n n′ pos c more = omega arith
+pub walk-few : {step : ℕ → List ℕ} {size from : ℕ} {m : List Bool} {w : List ℕ} {d n : ℕ} → Walk step size from m w d n → n ≤ size
+walk-few s = omega (arith, s .room)
+
+pub all-take : (P : ℕ → Type 0) (k : ℕ) (l : List ℕ) → ((j : ℕ) → j < k → P (getD l j 0)) → All P (take k l)
+all-take P zero l h = all[]
+all-take P (suc k) [] h = all[]
+all-take P (suc k) (a ∷ l) h = all∷ (h 0 (omega arith)) (all-take P k l (λ j lt. h (suc j) (omega arith)))
+
+on-list : (w : List ℕ) (n v : ℕ) → n ≤ length w → On w 0 n v → List·Memᴰ v (take n w)
+on-list w n v h o =
+    let e : getD (take n w) (o .i) 0 ≡ v = getD-take n w (o .i) 0 (o .below) ∙ o .stands in
+    subst (λ (x : ℕ). List·Memᴰ x (take n w)) e (mem-getD (take n w) (o .i) (omega (arith, o .below, length-take-le n w h)))
 
 -- the worklist is empty
-pub walk-end : (step : ℕ → List ℕ) (size from : ℕ) (m : List Bool) (w : List ℕ) (n : ℕ) → n ≡ 0 → Walk step size from m w n → Marked step from m
-walk-end step size from m w n z s = record { sound = s .sound; complete = λ v r. all r }
+pub walk-end : (step : ℕ → List ℕ) (size from : ℕ) (m : List Bool) (w : List ℕ) (d n : ℕ) → n ≤ d → Walk step size from m w d n → Reached step from (take n w)
+walk-end step size from m w d n z s =
+    record {
+      sound = λ v i. s .sound v (all-mem (all-take (λ (a : ℕ). getD m a false ≡ true) n w (s .listed)) v i);
+      complete = λ v r. on-list w n v (omega (arith, s .room, s .work-size)) (s .all v (marked r));
+    }
   where
-    all : {v : ℕ} → Reach step from v → getD m v false ≡ true
-    all here = s .root
-    all (on {b = v} {c = u} r i) = ⊎-elim (λ o. absurd (omega (arith, o .below))) (λ f. f u i) (s .closed v (all r))
+    marked : {v : ℕ} → Reach step from v → getD m v false ≡ true
+    marked here = s .root
+    marked (on {b = v} {c = u} r i) =
+        let o = s .all v (marked r) in
+        s .closed (o .i) (omega (arith, o .below)) u (subst (λ (x : ℕ). List·Memᴰ u (step x)) (sym (o .stands)) i)
 
 -- ---- stored lists
 
@@ -234,8 +250,8 @@ pub reach-below : {step : ℕ → List ℕ} {from v : ℕ} (n : ℕ) → ((v : �
 reach-below n ids lt here = lt
 reach-below n ids lt (on {b = v} {c = u} r i) = all-mem (ids v (reach-below n ids lt r)) u i
 
-pub walk-below : {step : ℕ → List ℕ} {size from : ℕ} {m : List Bool} {w : List ℕ} {k : ℕ} (n : ℕ) → ((v : ℕ) → v < n → Ids n (step v)) → from < n
-    → Walk step size from m w k → (i : ℕ) → i < k → getD w i 0 < n
+pub walk-below : {step : ℕ → List ℕ} {size from : ℕ} {m : List Bool} {w : List ℕ} {d k : ℕ} (n : ℕ) → ((v : ℕ) → v < n → Ids n (step v)) → from < n
+    → Walk step size from m w d k → (i : ℕ) → i < k → getD w i 0 < n
 walk-below {w = w} n ids lt s i h = reach-below n ids lt (s .sound (getD w i 0) (s .listed i h))
 
 -- the same steps from each of the n nodes lead to the same nodes
@@ -244,9 +260,9 @@ reach-same n ids e lt here = here
 reach-same {a} {b} n ids e lt (on {b = v} {c = u} r i) =
     on (reach-same n ids e lt r) (subst (λ (k : List ℕ). List·Memᴰ u k) (e v (reach-below n ids lt r)) i)
 
-pub marked-same : {a b : ℕ → List ℕ} {from : ℕ} {m : List Bool} (n : ℕ) → ((v : ℕ) → v < n → Ids n (a v)) → ((v : ℕ) → v < n → Ids n (b v))
-    → ((v : ℕ) → v < n → a v ≡ b v) → from < n → Marked a from m → Marked b from m
-marked-same n ia ib e lt s =
+reached-same : {a b : ℕ → List ℕ} {from : ℕ} {l : List ℕ} (n : ℕ) → ((v : ℕ) → v < n → Ids n (a v)) → ((v : ℕ) → v < n → Ids n (b v))
+    → ((v : ℕ) → v < n → a v ≡ b v) → from < n → Reached a from l → Reached b from l
+reached-same n ia ib e lt s =
     record {
       sound = λ v q. reach-same n ia e lt (s .sound v q);
       complete = λ v r. s .complete v (reach-same n ib (λ v h. sym (e v h)) lt r);
@@ -262,9 +278,9 @@ stored-own {lists} {edges} {n} {step} s =
       ids = λ v h. subst (λ (l : List ℕ). Ids n l) (sym (s .list v h)) (s .ids v h);
     }
 
-pub region-marked : {lists edges : List ℕ} {n from : ℕ} {m : List Bool} → Stored lists edges n (storedList lists edges) → from < n
-    → Marked (storedList lists edges) from m → RegionMarked lists edges n from m
-region-marked {lists} {edges} {n} s lt q step t = marked-same n (s .ids) (t .ids) (t .list) lt q
+pub region-listed : {lists edges : List ℕ} {n from : ℕ} {w : List ℕ} {r : ℕ} → Stored lists edges n (storedList lists edges) → from < n → r ≤ length w
+    → Reached (storedList lists edges) from (take r w) → RegionListed lists edges n from w r
+region-listed {lists} {edges} {n} s lt h q = record { within = h; reached = λ step t. reached-same n (s .ids) (t .ids) (t .list) lt q }
 
 pub stored-ids : {lists edges : List ℕ} {n : ℕ} (size v : ℕ) (l : List ℕ) → Stored lists edges n (storedList lists edges) → n ≤ size → v < n → l ≡ storedList lists edges v → Ids size l
 stored-ids {lists} {edges} {n} size v l s le lt e = rw e (all-map (λ a h. omega arith) (s .ids v lt))

@@ -31,7 +31,7 @@ use Rattle.wiring.specs.ListedNodes.{SimpleListed, SlotsCounted, ForKind
 use Rattle.wiring.specs.LineEntries.{entryRows}
 use Rattle.wiring.specs.Late.{FitsPart, LateTables, LateReady, lateEdges, LateAdded}
 use Rattle.wiring.specs.LateLaws.{late-ready}
-use Rattle.wiring.specs.Growing.{Grown, Grows, ids-left, ids-right, grown-added}
+use Rattle.wiring.specs.Growing.{Grown, Grows, all-left, all-right, grown-added}
 use Rattle.wiring.specs.NextBodies.{PoppedRoom, SelectRoom, orphanBodies}
 use Rattle.wiring.specs.NextBodyLaws.{dispatched-below}
 use Rattle.wiring.specs.AddRoom.{grown-start}
@@ -83,13 +83,13 @@ module _ {L : Listing} {stmts ks entries falls links frames ds : List ℕ} {line
       edges-ids = rw (edges-are, ← per-node (wire L .entries) (wire L .nodes) i f ef, P .nodes-are) (ends-ids (nodeCount L) i (edges-to (nodeCount L) (wire L .entries) (entry-ids L) (fits L)))
 
       own-ids : Ids n (ownEdges stmts entries falls links frames lines i)
-      own-ids = ids-left n (ownEdges stmts entries falls links frames lines i) _ edges-ids
+      own-ids = all-left (ownEdges stmts entries falls links frames lines i) _ edges-ids
 
       late-ids : Ids n (lateEdges (facts 0 (wire L .nodes) noOpeners) i f)
-      late-ids = ids-left n (lateEdges (facts 0 (wire L .nodes) noOpeners) i f) (orphanBodies stmts args falls (take d ds) i) (ids-right n (ownEdges stmts entries falls links frames lines i) _ edges-ids)
+      late-ids = all-left (lateEdges (facts 0 (wire L .nodes) noOpeners) i f) (orphanBodies stmts args falls (take d ds) i) (all-right (ownEdges stmts entries falls links frames lines i) _ edges-ids)
 
       orphan-ids : Ids n (orphanBodies stmts args falls (take d ds) i)
-      orphan-ids = ids-right n (lateEdges (facts 0 (wire L .nodes) noOpeners) i f) (orphanBodies stmts args falls (take d ds) i) (ids-right n (ownEdges stmts entries falls links frames lines i) _ edges-ids)
+      orphan-ids = all-right (lateEdges (facts 0 (wire L .nodes) noOpeners) i f) (orphanBodies stmts args falls (take d ds) i) (all-right (ownEdges stmts entries falls links frames lines i) _ edges-ids)
 
       few-args : 7 ≤ getD stmts (i * 12) 0 → getD stmts (i * 12 + 10) 0 ≤ 64
       few-args h =

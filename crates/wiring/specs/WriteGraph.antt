@@ -95,7 +95,7 @@ zeros-behind l r t z e =
 
 -- ---- the lists
 
-edges-are : (L : Listing) → edgeCount L ≡ length (joinedLists (allSuccessors L))
+pub edges-are : (L : Listing) → edgeCount L ≡ length (joinedLists (allSuccessors L))
 edges-are L = edges-joined L ∙ ap (λ (k : List (List ℕ)). length (joinedLists k)) (sym (all-lists L))
 
 lists-of : (L : Listing) (n : ℕ) → n ≡ nodeCount L → NodeLists n (allSuccessors L)
@@ -187,7 +187,7 @@ args-back {ks = ks} {stmts = stmts} {args = args} {n = n} {args′ = args′} t 
 
 -- ---- the counts
 
-few-targets : (L : Listing) → length (returnTargets (wire L)) ≤ nodeCount L
+pub few-targets : (L : Listing) → length (returnTargets (wire L)) ≤ nodeCount L
 unfolding returnTargets
 few-targets L = few (nodeCount L) (distinct-all (each (continuation (wire L)) (below (nodeCount L))) dist[]) (target-ids L)
 

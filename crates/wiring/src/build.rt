@@ -9,7 +9,7 @@ use reader::tables::zero16;
 use reader::tables::zero64;
 ghost use mathlib.Core.Path.{_≡_};
 ghost use lib.ListN.{length, replicate};
-ghost use Rattle.graph.specs.Build.{build as builtBy, refused};
+ghost use Rattle.graph.specs.Build.{build as builtBy};
 ghost use Rattle.wiring.specs.GraphTables.{Zeroed, sizesOf, capacity, Answered};
 ghost use Rattle.wiring.specs.BuildLaws.{GraphReady, GraphMade};
 
@@ -56,32 +56,6 @@ fn clear_records(counts: &mut [u32; 5], lines: &mut [u16], stmts: &mut [u16], ar
     zero64(args);
 }
 
-// A graph is refused: every entry becomes zero.
-fn refuse_graph(
-    number: u8,
-    place: usize,
-    counts: &mut [u32; 5],
-    lines: &mut [u16],
-    stmts: &mut [u16],
-    args: &mut [u64],
-    entries: &mut [u16],
-    falls: &mut [u16],
-    links: &mut [u16],
-    frames: &mut [u16],
-    dispatched: &mut [u16],
-    lists: &mut [u16],
-    returns: &mut [u16],
-    succ: &mut [u16],
-    pred: &mut [u16],
-) -> Built
-    ensures { λ r. ⌜ Answered (refused number place) (sizesOf (now (lines .entry)) (now (stmts .entry)) (now (args .entry)) (now (entries .entry)) (now (falls .entry)) (now (links .entry)) (now (frames .entry)) (now (dispatched .entry)) (now (lists .entry)) (now (returns .entry)) (now (succ .entry)) (now (pred .entry))) (now (counts .exit)) (now (lines .exit)) (now (stmts .exit)) (now (args .exit)) (now (entries .exit)) (now (falls .exit)) (now (links .exit)) (now (frames .exit)) (now (dispatched .exit)) (now (lists .exit)) (now (returns .exit)) (now (succ .exit)) (now (pred .exit)) r ⌝ }
-{
-    clear_records(counts, lines, stmts, args);
-    clear_links(entries, falls, links, frames, dispatched);
-    clear_lists(lists, returns, succ, pred);
-    Built::Refused { number, place }
-}
-
 // The graph of the listing that the reader's tables hold; all other tables are zero.
 fn graph_of(
     handlers: bool,
@@ -116,30 +90,11 @@ fn graph_of(
         count,
         n,
     );
-    if found == 0 {
-        return refuse_graph(
-            27,
-            0,
-            counts,
-            lines,
-            stmts,
-            args,
-            entries,
-            falls,
-            links,
-            frames,
-            dispatched,
-            lists,
-            returns,
-            succ,
-            pred,
-        );
-    }
     let w = wire_graph(
         handlers,
         count,
         n,
-        found - 1,
+        found,
         counts,
         stmts,
         args,
@@ -156,23 +111,13 @@ fn graph_of(
     if w.written {
         return Built::Graph;
     }
-    refuse_graph(
-        23,
-        w.edges,
-        counts,
-        lines,
-        stmts,
-        args,
-        entries,
-        falls,
-        links,
-        frames,
-        dispatched,
-        lists,
-        returns,
-        succ,
-        pred,
-    )
+    clear_records(counts, lines, stmts, args);
+    clear_links(entries, falls, links, frames, dispatched);
+    clear_lists(lists, returns, succ, pred);
+    Built::Refused {
+        number: w.number,
+        place: w.place,
+    }
 }
 
 // Reads the text and writes its graph: counts (lines, statements, handlers, edges, return targets), the reader's records, and what docs/DECISIONS.md
@@ -195,16 +140,16 @@ pub fn build(
 ) -> Built
     ensures { λ r. ⌜ Answered (builtBy (capacity (sizesOf (now (lines .entry)) (now (stmts .entry)) (now (args .entry)) (now (entries .entry)) (now (falls .entry)) (now (links .entry)) (now (frames .entry)) (now (dispatched .entry)) (now (lists .entry)) (now (returns .entry)) (now (succ .entry)) (now (pred .entry)))) (now (text .entry))) (sizesOf (now (lines .entry)) (now (stmts .entry)) (now (args .entry)) (now (entries .entry)) (now (falls .entry)) (now (links .entry)) (now (frames .entry)) (now (dispatched .entry)) (now (lists .entry)) (now (returns .entry)) (now (succ .entry)) (now (pred .entry))) (now (counts .exit)) (now (lines .exit)) (now (stmts .exit)) (now (args .exit)) (now (entries .exit)) (now (falls .exit)) (now (links .exit)) (now (frames .exit)) (now (dispatched .exit)) (now (lists .exit)) (now (returns .exit)) (now (succ .exit)) (now (pred .exit)) r ⌝ }
 {
-    let most_lines = line_room(lines, entries);
+    let most_lines = line_room(lines.len(), entries.len());
     let most_stmts = stmt_room(
-        stmts,
-        args,
-        falls,
-        links,
-        frames,
-        dispatched,
-        lists,
-        returns,
+        stmts.len(),
+        args.len(),
+        falls.len(),
+        links.len(),
+        frames.len(),
+        dispatched.len(),
+        lists.len(),
+        returns.len(),
     );
     clear_links(entries, falls, links, frames, dispatched);
     clear_lists(lists, returns, succ, pred);

@@ -2,23 +2,17 @@
 use crate::return_sets::RETURN;
 use crate::sets::insert;
 use crate::sets::join;
-use crate::walk::no_marks;
+use crate::sets::members;
+use crate::sets::no_words;
 use crate::widths::wide;
 use reader::tables::zero64;
 ghost use mathlib.Core.Path.{_≡_};
 ghost use Prim.Native.Nat.{_+_, _*_, _≤_, _<_};
-ghost use lib.ListN.{length, take, replicate};
+ghost use lib.ListN.{length, take};
 ghost use Rattle.graph.specs.EdgeBounds.{Ids};
 ghost use Rattle.wiring.specs.Sets.{bit};
 ghost use Rattle.wiring.specs.ReturnSets.{setOf};
-ghost use Rattle.wiring.specs.Closure.{Closed, RowIs, RowJoined, RowsJoined, RowMarked, BitMarked, BitsMarked};
-
-// In a function of its own, so that no other proof sees the 64 zeros.
-fn no_row() -> [u64; 64]
-    ensures { λ r. ⌜ r ≡ replicate 64 0 ⌝ }
-{
-    [0u64; 64]
-}
+ghost use Rattle.wiring.specs.Closure.{Closed, RowIs, RowJoined, RowsJoined, RowReached, RowListed};
 
 // 1 where row i has node j, else 0.
 fn row_bit(rows: &[u64], i: usize, j: usize) -> u64
@@ -32,7 +26,7 @@ fn row_copy(rows: &[u64], i: usize) -> [u64; 64]
     requires { ⌜ (i < 4096) × (i * 64 + 64 ≤ length (now rows)) ⌝ }
     ensures { λ r. ⌜ r ≡ setOf (now (rows .entry)) i ⌝ }
 {
-    let mut row = no_row();
+    let mut row = no_words();
     let start = i * 64;
     let end = start + 64;
     join(&mut row, &rows[start..end]);
@@ -90,39 +84,34 @@ pub(crate) fn close_rows(rows: &mut [u64], n: usize)
     }
 }
 
-// Marks node j, if row i has it.
-fn mark_bit(rows: &[u64], i: usize, j: usize, marks: &mut [bool; 4096])
-    requires { ⌜ (i < 4096) × (i * 64 + 64 ≤ length (now rows)) × (j < 4096) × (length (now marks) ≡ 4096) ⌝ }
-    ensures { λ _. ⌜ BitMarked (setOf (now (rows .entry)) i) j (now (marks .entry)) (now (marks .exit)) ⌝ }
-{
-    if row_bit(rows, i, j) != 1 {
-        return;
-    }
-    marks[j] = true;
-}
-
-// Marks the nodes of row i.
-fn mark_row(rows: &[u64], i: usize, marks: &mut [bool; 4096])
-    requires { ⌜ (i < 4096) × (i * 64 + 64 ≤ length (now rows)) × (length (now marks) ≡ 4096) ⌝ }
-    ensures { λ _. ⌜ BitsMarked (setOf (now (rows .entry)) i) 4096 (now (marks .entry)) (now (marks .exit)) ⌝ }
-{
-    let mut j: usize = 0;
-    while j < 4096 {
-        mark_bit(rows, i, j, marks);
-        j += 1;
-    }
-}
-
-// The nodes that a walk from `from` would mark. A RETURN takes no step, and its row may hold where it returns to.
-pub(crate) fn marks_of(stmts: &[u16], rows: &[u64], n: usize, from: usize) -> [bool; 4096]
+// All that a walk from `from` would list: that node alone where it is a RETURN, which takes no step and whose row may hold where it returns
+// to; else with its row.
+fn row_region(stmts: &[u16], rows: &[u64], n: usize, from: usize) -> [u64; 64]
     requires { ⌜ (n ≤ 4096) × (n * 12 ≤ length (now stmts)) × (n * 64 ≤ length (now rows)) × (from < n) ⌝ }
-    ensures { λ r. ⌜ RowMarked (now (stmts .entry)) (now (rows .entry)) n from r ⌝ }
+    ensures { λ r. ⌜ RowReached (now (stmts .entry)) (now (rows .entry)) n from r ⌝ }
 {
-    let mut marks = no_marks();
-    marks[from] = true;
+    let mut set = no_words();
+    insert(&mut set, from);
     if stmts[from * 12] == RETURN {
-        return marks;
+        return set;
     }
-    mark_row(rows, from, &mut marks);
-    marks
+    let start = from * 64;
+    let end = start + 64;
+    join(&mut set, &rows[start..end]);
+    set
+}
+
+// Lists these, ascending, and answers how many.
+pub(crate) fn list_row(
+    stmts: &[u16],
+    rows: &[u64],
+    n: usize,
+    from: usize,
+    work: &mut [u16],
+) -> usize
+    requires { ⌜ (n ≤ 4096) × (n * 12 ≤ length (now stmts)) × (n * 64 ≤ length (now rows)) × (from < n) × (length (now work) ≡ 4096) ⌝ }
+    ensures { λ r. ⌜ (r ≤ length (now (work .exit))) × RowListed (now (stmts .entry)) (now (rows .entry)) n from (take r (now (work .exit))) ⌝ }
+{
+    let set = row_region(stmts, rows, n, from);
+    members(&set, work)
 }

@@ -1,40 +1,14 @@
 // The rows of arguments, filled with where the nodes step on a skipping path, for the closure.
+use crate::calls::is_call;
 use crate::closure::put_row;
 use crate::fors::NEXT;
-use crate::jumps::ONGOSUB;
 use crate::list_of::list_of;
 use crate::return_sets::RETURN;
+use crate::skip_lists::put_fall;
 ghost use mathlib.Core.Path.{_≡_};
 ghost use Prim.Native.Nat.{_*_, _<_};
 ghost use lib.ListN.{length};
-ghost use Rattle.wiring.specs.Prepared.{callWord, fallEntry};
-ghost use Rattle.wiring.specs.NodeList.{ListIs};
 ghost use Rattle.wiring.specs.FillRows.{SkipReady, SkipMade, inPass, RowReady, RowFilled, PassReady, PassFilled, FillReady, RowsFilled};
-
-// The number of `gosub` in the table of opening words.
-const GOSUB: u16 = 8;
-
-fn is_call(word: u16) -> bool
-    ensures { λ r. ⌜ r ≡ callWord word ⌝ }
-{
-    if word == GOSUB {
-        return true;
-    }
-    word == ONGOSUB
-}
-
-// Where node i falls goes to the front of the part.
-fn put_fall(falls: &[u16], i: usize, part: &mut [u16]) -> usize
-    requires { ⌜ (i < 4096) × (i * 3 < length (now falls)) × (0 < length (now part)) ⌝ }
-    ensures { λ r. ⌜ ListIs (fallEntry (now (falls .entry)) i) (now (part .entry)) (now (part .exit)) r ⌝ }
-{
-    let f = falls[i * 3];
-    if f == 0 {
-        return 0;
-    }
-    part[0] = f - 1;
-    1
-}
 
 // Where a skipping path steps from node i: from a call where it falls, from a RETURN nowhere, else to its list.
 fn skip_list(

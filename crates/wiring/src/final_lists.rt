@@ -1,8 +1,8 @@
 // The successor lists of the graph, in node order.
+use crate::calls::is_call;
 use crate::list_of::list_of;
 use crate::return_sets::RETURN;
 use crate::sets::members;
-use crate::skip_lists::is_call;
 use crate::store::append_list;
 use crate::store::move_list;
 use crate::store::store_list;

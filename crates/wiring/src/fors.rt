@@ -1,13 +1,21 @@
 // The FOR stack in reading order, and the dispatched FORs.
-use super::stacks::FrameStack;
-use super::stacks::Popped;
-use super::stacks::below;
-use super::stacks::highest;
+use crate::reading::clear_behind;
+use crate::sets::insert;
+use crate::stacks::FrameStack;
+use crate::stacks::below;
+use crate::stacks::newest;
+use crate::widths::narrow;
+use crate::widths::wide;
 ghost use mathlib.Core.Path.{_≡_};
+ghost use mathlib.Core.Bool.{true};
 ghost use Prim.Native.Nat.{_+_, _*_, _/_, _≤_, _<_};
-ghost use lib.ListN.{length};
+ghost use lib.Dec.{eqb};
+ghost use lib.ListN.{length, getD, replicate};
 ghost use Rattle.wiring.specs.ListedNodes.{SlotsCounted, AllCounted};
-ghost use Rattle.wiring.specs.ForStack.{OpenBelow, Sought, SlotPopped, ForPushed, SlotsPopped, NodeLinked};
+ghost use Rattle.wiring.specs.FrameStacks.{HoldsBelow, TopIs};
+ghost use Rattle.wiring.specs.ForStack.{movesFors, Sought, SlotFound, ForPushed, SlotsPopped, NodeLinked};
+ghost use Rattle.wiring.specs.Sets.{bit};
+ghost use Rattle.wiring.specs.NotedKeys.{noteOf, KeysNoted};
 ghost use Rattle.wiring.specs.ForLinks.{ForsLinked};
 ghost use Rattle.wiring.specs.Dispatched.{isDispatched, DispatchedTo, DispatchedOne};
 
@@ -19,25 +27,37 @@ pub(crate) const NEXT: u16 = 14;
 // A FOR's tier.
 const DISPATCHED: u16 = 2;
 
-pub(crate) fn narrow(x: usize) -> u16
-    requires { ⌜ x < 65536 ⌝ }
-    ensures { λ r. ⌜ r ≡ x ⌝ }
+// The keys of FORs are noted by their remainders: by a prime, so that names that are alike seldom share one.
+const REMAINDERS: u64 = 32719;
+
+// In a function of its own, so that no other proof sees the 512 zeros.
+fn no_notes() -> [u64; 512]
+    ensures { λ r. ⌜ r ≡ replicate 512 0 ⌝ }
 {
-    x as u16
+    [0u64; 512]
 }
 
-pub(crate) fn wide(x: u16) -> usize
-    ensures { λ r. ⌜ r ≡ x ⌝ }
+fn note_of(key: u64) -> usize
+    ensures { λ r. ⌜ r ≡ noteOf key ⌝ }
 {
-    x as usize
+    (key % REMAINDERS) as usize
 }
 
-// One more than the newest open FOR whose name has the key v, or 0.
-fn seek(args: &[u64], words: &[u64; 64], v: u64) -> usize
-    requires { ⌜ OpenBelow (now words) (length (now args) / 64) ⌝ }
+// Whether a FOR of the name with that key may be open.
+fn is_noted(notes: &[u64; 512], key: u64) -> bool
+    ensures { λ r. ⌜ r ≡ eqb (bit (now (notes .entry)) (noteOf key)) 1 ⌝ }
+{
+    let n = note_of(key);
+    (notes[n / 64] >> (n % 64)) % 2 == 1
+}
+
+// One more than the newest open FOR whose name has the key v, or 0; top is one more than the newest of all.
+fn seek(args: &[u64], words: &[u64; 64], top: usize, v: u64) -> usize
+    requires { ⌜ HoldsBelow (now words) (length (now args) / 64) ⌝ }
+    requires { ⌜ TopIs (now words) top ⌝ }
     ensures { λ r. ⌜ Sought (now (args .entry)) v (now (words .entry)) r ⌝ }
 {
-    let mut t = highest(words, 64);
+    let mut t = top;
     while t != 0 {
         let k = t - 1;
         if args[k * 64] == v {
@@ -51,10 +71,10 @@ fn seek(args: &[u64], words: &[u64; 64], v: u64) -> usize
 // FOR i: its own older frame and all above are dropped first.
 fn push_for(args: &[u64], s: FrameStack, i: usize) -> FrameStack
     requires { ⌜ (i < 4096) × (i * 64 < length (now args)) ⌝ }
-    requires { ⌜ OpenBelow (s .words) i ⌝ }
+    requires { ⌜ HoldsBelow (s .words) i ⌝ }
     ensures { λ r. ⌜ ForPushed (now (args .entry)) i (s .words) (r .words) ⌝ }
 {
-    let t = seek(args, &s.words, args[i * 64]);
+    let t = seek(args, &s.words, newest(&s.words, i), args[i * 64]);
     if t == 0 {
         return s.push(i);
     }
@@ -62,58 +82,104 @@ fn push_for(args: &[u64], s: FrameStack, i: usize) -> FrameStack
     u.push(i)
 }
 
-// One slot of a NEXT: key 0 pops the top, the key of a name pops down to its frame, if any.
-fn pop_slot(args: &[u64], s: FrameStack, key: u64) -> Popped
-    requires { ⌜ OpenBelow (s .words) (length (now args) / 64) ⌝ }
-    ensures { λ r. ⌜ SlotPopped (now (args .entry)) key (s .words) (r .stack .words) (r .frame) ⌝ }
+// FOR i. If its key is not noted, none of its name is open, and nothing is looked for.
+fn open_for(args: &[u64], s: FrameStack, i: usize, notes: &mut [u64; 512]) -> FrameStack
+    requires { ⌜ (i < 4096) × (i * 64 < length (now args)) ⌝ }
+    requires { ⌜ HoldsBelow (s .words) i ⌝ }
+    requires { ⌜ KeysNoted (now args) (now notes) (s .words) ⌝ }
+    ensures { λ r. ⌜ ForPushed (now (args .entry)) i (s .words) (r .words) ⌝ }
+    ensures { λ r. ⌜ KeysNoted (now (args .entry)) (now (notes .exit)) (r .words) ⌝ }
 {
-    if key == 0 {
-        return s.pop();
+    let key = args[i * 64];
+    if is_noted(notes, key) {
+        return push_for(args, s, i);
     }
-    let t = seek(args, &s.words, key);
-    if t == 0 {
-        return Popped { stack: s, frame: 0 };
-    }
-    Popped {
-        stack: s.cut(t - 1),
-        frame: t,
-    }
+    insert(notes, note_of(key));
+    s.push(i)
 }
 
-// The slots of a NEXT in order; row gets what each pops: one more than the FOR, or 0.
-fn pop_slots(args: &[u64], keys: &[u64], s: FrameStack, row: &mut [u16]) -> FrameStack
-    requires { ⌜ length (now keys) ≡ length (now row) ⌝ }
-    requires { ⌜ OpenBelow (s .words) (length (now args) / 64) ⌝ }
+// One more than the FOR that a slot of a NEXT pops, or 0: key 0 asks for the newest, the key of a name for the newest of that name.
+fn slot_frame(args: &[u64], words: &[u64; 64], notes: &[u64; 512], top: usize, key: u64) -> usize
+    requires { ⌜ HoldsBelow (now words) (length (now args) / 64) ⌝ }
+    requires { ⌜ KeysNoted (now args) (now notes) (now words) ⌝ }
+    requires { ⌜ TopIs (now words) top ⌝ }
+    ensures { λ r. ⌜ SlotFound (now (args .entry)) key (now (words .entry)) r ⌝ }
+{
+    if key == 0 {
+        return top;
+    }
+    if is_noted(notes, key) {
+        return seek(args, words, top, key);
+    }
+    0
+}
+
+// The slots of NEXT i in order; row gets what each pops: one more than the FOR, or 0. With no FOR open the slots that are left pop nothing.
+fn pop_slots(
+    args: &[u64],
+    keys: &[u64],
+    s: FrameStack,
+    notes: &[u64; 512],
+    i: usize,
+    row: &mut [u16],
+) -> FrameStack
+    requires { ⌜ (i < 4096) × (i * 64 ≤ length (now args)) × (length (now keys) ≡ length (now row)) ⌝ }
+    requires { ⌜ HoldsBelow (s .words) i ⌝ }
+    requires { ⌜ KeysNoted (now args) (now notes) (s .words) ⌝ }
     ensures { λ r. ⌜ SlotsPopped (now (args .entry)) (now (keys .entry)) (s .words) (r .words) (now (row .exit)) ⌝ }
 {
     let mut t = s;
+    let mut top = newest(&t.words, i);
     let mut j: usize = 0;
     while j < row.len() {
-        let p = pop_slot(args, t, keys[j]);
-        row[j] = narrow(p.frame);
-        t = p.stack;
+        if top == 0 {
+            clear_behind(row, j);
+            return t;
+        }
+        let f = slot_frame(args, &t.words, notes, top, keys[j]);
+        row[j] = narrow(f);
+        if f != 0 {
+            top = below(&t.words, f - 1);
+            t = t.cut(f - 1);
+        }
         j += 1;
     }
     t
 }
 
-// What node i does to the FOR stack, and to its row of links.
-fn link_node(stmts: &[u16], args: &[u64], s: FrameStack, i: usize, links: &mut [u16]) -> FrameStack
+// Whether a statement with that word pushes or pops FORs.
+fn moves_fors(word: u16) -> bool
+    ensures { λ r. ⌜ r ≡ movesFors word ⌝ }
+{
+    if word == FOR {
+        return true;
+    }
+    word == NEXT
+}
+
+// What node i, a FOR or a NEXT, does to the FOR stack, and to its row of links.
+fn link_node(
+    stmts: &[u16],
+    args: &[u64],
+    s: FrameStack,
+    notes: &mut [u64; 512],
+    i: usize,
+    links: &mut [u16],
+) -> FrameStack
     requires { ⌜ (i < 4096) × (i * 12 + 12 ≤ length (now stmts)) × (i * 64 + 64 ≤ length (now args)) × (i * 64 + 64 ≤ length (now links)) ⌝ }
+    requires { ⌜ movesFors (getD (now stmts) (i * 12) 0) ≡ true ⌝ }
     requires { ⌜ SlotsCounted (now stmts) i ⌝ }
-    requires { ⌜ OpenBelow (s .words) i ⌝ }
+    requires { ⌜ HoldsBelow (s .words) i ⌝ }
+    requires { ⌜ KeysNoted (now args) (now notes) (s .words) ⌝ }
+    ensures { λ r. ⌜ KeysNoted (now (args .entry)) (now (notes .exit)) (r .words) ⌝ }
     ensures { λ r. ⌜ NodeLinked (now (stmts .entry)) (now (args .entry)) i (s .words) (r .words) (now (links .entry)) (now (links .exit)) ⌝ }
 {
-    let w = stmts[i * 12];
-    if w == FOR {
-        return push_for(args, s, i);
+    if stmts[i * 12] == FOR {
+        return open_for(args, s, i, notes);
     }
-    if w == NEXT {
-        let at = i * 64;
-        let end = at + wide(stmts[i * 12 + 10]);
-        return pop_slots(args, &args[at..end], s, &mut links[at..end]);
-    }
-    s
+    let at = i * 64;
+    let end = at + wide(stmts[i * 12 + 10]);
+    pop_slots(args, &args[at..end], s, notes, i, &mut links[at..end])
 }
 
 // In reading order, what each slot of each NEXT pops; the rows of other nodes stay.
@@ -123,9 +189,12 @@ pub(crate) fn link_fors(stmts: &[u16], args: &[u64], n: usize, links: &mut [u16]
     ensures { λ _. ⌜ ForsLinked (now (stmts .entry)) (now (args .entry)) n (now (links .entry)) (now (links .exit)) ⌝ }
 {
     let mut s = FrameStack::new();
+    let mut notes = no_notes();
     let mut i: usize = 0;
     while i < n {
-        s = link_node(stmts, args, s, i, links);
+        if moves_fors(stmts[i * 12]) {
+            s = link_node(stmts, args, s, &mut notes, i, links);
+        }
         i += 1;
     }
 }

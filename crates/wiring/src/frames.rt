@@ -1,10 +1,14 @@
 // What each node meets on the loop stack and on the DO stack, and the links from openers to closers and along ELSEs.
+use crate::stacks::FrameStack;
+use crate::stacks::newest;
+use crate::widths::narrow;
+use crate::widths::wide;
 ghost use mathlib.Core.Path.{_≡_};
 ghost use Prim.Native.Nat.{_+_, _*_, _≤_, _<_};
 ghost use lib.ListN.{length, getD};
+ghost use Rattle.wiring.specs.FrameStacks.{HoldsBelow};
 ghost use Rattle.wiring.specs.Frames.{loopMove, doMove, Framed};
-ghost use Rattle.wiring.specs.FramePass.{moveOf, HoldsBelow, Stepped, AllZero, MetBelow, MetFrames, linked};
-use crate::stacks::FrameStack;
+ghost use Rattle.wiring.specs.FramePass.{moveOf, movesStack, FrameMet, FrameMoved, AllZero, MetBelow, MetFrames, linked};
 
 // The words that move one of the two stacks follow each other in the table of opening words.
 const REPEAT: u16 = 15;
@@ -27,19 +31,6 @@ pub enum FrameMove {
     Opens,
     Closes,
     Joins,
-}
-
-pub(crate) fn narrow(x: usize) -> u16
-    requires { ⌜ x < 65536 ⌝ }
-    ensures { λ r. ⌜ r ≡ x ⌝ }
-{
-    x as u16
-}
-
-pub(crate) fn wide(x: u16) -> usize
-    ensures { λ r. ⌜ r ≡ x ⌝ }
-{
-    x as usize
 }
 
 // REPEAT and LOOP open, UNTIL and ENDLOOP close, EXIT and EXITIF join.
@@ -76,11 +67,47 @@ fn do_move(word: u16) -> FrameMove
     FrameMove::Stays
 }
 
-// Node i moves one of the two stacks, and writes which frame it closes or joins.
-fn frame_step(s: FrameStack, m: FrameMove, i: usize, frames: &mut [u16]) -> FrameStack
+// Whether the stack is changed.
+fn moves(m: FrameMove) -> bool
+    ensures { λ r. ⌜ r ≡ movesStack (moveOf m) ⌝ }
+{
+    match m {
+        FrameMove::Stays => false,
+        FrameMove::Opens => true,
+        FrameMove::Closes => true,
+        FrameMove::Joins => false,
+    }
+}
+
+// Node i writes which frame it closes or joins.
+fn meet_frame(words: &[u64; 64], m: FrameMove, i: usize, frames: &mut [u16])
     requires { ⌜ (i < 4096) × (i * 3 < length (now frames)) ⌝ }
+    requires { ⌜ HoldsBelow (now words) i ⌝ }
+    ensures { λ _. ⌜ FrameMet (moveOf m) i (now (words .entry)) (now (frames .entry)) (now (frames .exit)) ⌝ }
+{
+    match m {
+        FrameMove::Stays => {
+            return;
+        }
+        FrameMove::Opens => {
+            return;
+        }
+        FrameMove::Closes => {
+            frames[i * 3] = narrow(newest(words, i));
+            return;
+        }
+        FrameMove::Joins => {
+            frames[i * 3] = narrow(newest(words, i));
+            return;
+        }
+    }
+}
+
+// Node i opens or closes a frame.
+fn move_stack(s: FrameStack, m: FrameMove, i: usize) -> FrameStack
+    requires { ⌜ i < 4096 ⌝ }
     requires { ⌜ HoldsBelow (s .words) i ⌝ }
-    ensures { λ r. ⌜ Stepped (moveOf m) i (s .words) (r .words) (now (frames .entry)) (now (frames .exit)) ⌝ }
+    ensures { λ r. ⌜ FrameMoved (moveOf m) i (s .words) (r .words) ⌝ }
 {
     match m {
         FrameMove::Stays => {
@@ -91,18 +118,16 @@ fn frame_step(s: FrameStack, m: FrameMove, i: usize, frames: &mut [u16]) -> Fram
         }
         FrameMove::Closes => {
             let p = s.pop();
-            frames[i * 3] = narrow(p.frame);
             let t = p.stack;
             return t;
         }
         FrameMove::Joins => {
-            frames[i * 3] = narrow(s.top());
             return s;
         }
     }
 }
 
-// What each node meets, in reading order.
+// What each node meets, in reading order. A stack is 512 bytes, so it is handed over only to be changed.
 fn meet_frames(stmts: &[u16], n: usize, frames: &mut [u16])
     requires { ⌜ (n ≤ 4096) × (n * 12 ≤ length (now stmts)) × (n * 3 ≤ length (now frames)) ⌝ }
     requires { ⌜ AllZero (now frames) ⌝ }
@@ -113,8 +138,16 @@ fn meet_frames(stmts: &[u16], n: usize, frames: &mut [u16])
     let mut i: usize = 0;
     while i < n {
         let word = stmts[i * 12];
-        loops = frame_step(loops, loop_move(word), i, frames);
-        dos = frame_step(dos, do_move(word), i, frames);
+        let l = loop_move(word);
+        meet_frame(&loops.words, l, i, frames);
+        if moves(l) {
+            loops = move_stack(loops, l, i);
+        }
+        let d = do_move(word);
+        meet_frame(&dos.words, d, i, frames);
+        if moves(d) {
+            dos = move_stack(dos, d, i);
+        }
         i += 1;
     }
 }

@@ -16,7 +16,7 @@ const GOTO: u16 = 7;
 
 const RETURN: u16 = 9;
 
-pub(crate) const ONGOSUB: u16 = 12;
+const ONGOSUB: u16 = 12;
 
 // goto, gosub, run, ongoto and ongosub.
 fn names_lines(word: u16) -> bool

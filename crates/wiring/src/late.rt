@@ -1,26 +1,14 @@
 // What later nodes add to a node's list: where the closer of its frame falls, and where the ELSEs of a DOIF fall.
 ghost use mathlib.Core.Path.{_≡_};
-ghost use Prim.Native.Nat.{_≤_};
 ghost use lib.ListN.{length};
-ghost use Rattle.graph.specs.Adding.{Added, decode};
+ghost use Rattle.graph.specs.Adding.{Added};
 ghost use Rattle.wiring.specs.Late.{FitsPart, fallFrom, FallFitsFrom, ElsesFit, ElsesAdded, DoifFits, DoifAdded, closerFrom, CloserFits, joinsWord, LateReady, LateAdded};
 use crate::frames::DOIF;
 use crate::frames::ELSE;
 use crate::frames::EXIT;
 use crate::frames::EXITIF;
-use crate::frames::wide;
-use crate::lists::add_some;
-
-// A list of distinct nodes that fills its part has every node already.
-pub(crate) fn add_fitting(part: &mut [u16], n: usize, t: u16) -> usize
-    requires { ⌜ FitsPart (now part) n × (t ≤ length (now part)) ⌝ }
-    ensures { λ r. ⌜ Added (now (part .entry)) n (now (part .exit)) r (decode t) × FitsPart (now (part .exit)) r ⌝ }
-{
-    if n == part.len() {
-        return n;
-    }
-    add_some(part, n, t)
-}
+use crate::growing::add_node;
+use crate::widths::wide;
 
 // Adds where the node c - 1 falls, where c is not 0.
 fn add_fall(falls: &[u16], c: usize, part: &mut [u16], n: usize) -> usize
@@ -31,7 +19,7 @@ fn add_fall(falls: &[u16], c: usize, part: &mut [u16], n: usize) -> usize
         return n;
     }
     let j = c - 1;
-    add_fitting(part, n, falls[j * 3])
+    add_node(part, n, falls[j * 3])
 }
 
 // Adds where the ELSEs fall that are linked from the ELSE first - 1 on.
@@ -43,7 +31,7 @@ fn add_elses(falls: &[u16], frames: &[u16], first: usize, part: &mut [u16], n: u
     let mut c = first;
     while c != 0 {
         let j = c - 1;
-        r = add_fitting(part, r, falls[j * 3]);
+        r = add_node(part, r, falls[j * 3]);
         c = wide(frames[j * 3 + 2]);
     }
     r

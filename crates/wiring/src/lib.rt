@@ -1,5 +1,6 @@
 // The wiring: the records of a listing to its graph.
 pub mod build;
+pub mod calls;
 pub mod clearing;
 pub mod closure;
 pub mod entries;

@@ -1,15 +1,16 @@
 // What a NEXT's list gets of FORs: the bodies of those that it pops, and of the dispatched ones that an orphan's slots select.
-use super::fors::NEXT;
-use super::fors::wide;
-use super::growing::add_node;
+use crate::fors::NEXT;
+use crate::growing::add_node;
+use crate::widths::wide;
 ghost use mathlib.Core.Path.{_≡_};
-ghost use Prim.Native.Nat.{_+_, _*_, _≤_};
-ghost use lib.ListN.{length, take};
+ghost use Prim.Native.Nat.{_+_, _*_, _≤_, _<_};
+ghost use lib.ListN.{length, take, getD};
 ghost use Rattle.graph.specs.Lists.{each};
 ghost use Rattle.wiring.specs.ListedNodes.{SlotsCounted};
 ghost use Rattle.wiring.specs.ForLinks.{poppedBy};
 ghost use Rattle.wiring.specs.Growing.{Grows};
-ghost use Rattle.wiring.specs.NextBodies.{bodyAt, linkBody, selectsKey, selectedBody, slotBodies, orphanBodies, LinksRoom, PoppedRoom, SelectRoom, LinkRoom, ForRoom};
+ghost use Rattle.wiring.specs.AddedAgain.{AllIn};
+ghost use Rattle.wiring.specs.NextBodies.{bodyAt, linkBody, selectsKey, selectedBody, slotBodies, cameBefore, orphanBodies, LinksRoom, PoppedRoom, SelectRoom, LinkRoom, ForRoom};
 
 // A NEXT's mark.
 const ORPHAN: u16 = 1;
@@ -100,6 +101,41 @@ fn add_slot(
     r
 }
 
+// Whether one of the keys selects every FOR that `key` does.
+fn came_before(keys: &[u64], key: u64) -> bool
+    ensures { λ r. ⌜ r ≡ cameBefore (now (keys .entry)) key ⌝ }
+{
+    let mut k: usize = 0;
+    while k < keys.len() {
+        if selects(keys[k], key) {
+            return true;
+        }
+        k += 1;
+    }
+    false
+}
+
+// Adds the bodies that slot k selects. Where a slot before it selects them too they are in the list already, and nothing is searched.
+fn add_new_slot(
+    args: &[u64],
+    falls: &[u16],
+    fors: &[u16],
+    keys: &[u64],
+    k: usize,
+    part: &mut [u16],
+    n: usize,
+) -> usize
+    requires { ⌜ SelectRoom (now args) (now falls) (now fors) (now part) n ⌝ }
+    requires { ⌜ (k < length (now keys)) × AllIn (take n (now part)) (each (slotBodies (now args) (now falls) (now fors)) (take k (now keys))) ⌝ }
+    ensures { λ r. ⌜ Grows (now (part .entry)) n (now (part .exit)) r (slotBodies (now (args .entry)) (now (falls .entry)) (now (fors .entry)) (getD (now (keys .entry)) k 0)) ⌝ }
+{
+    let key = keys[k];
+    if came_before(&keys[..k], key) {
+        return n;
+    }
+    add_slot(args, falls, fors, key, part, n)
+}
+
 // Adds the bodies that each slot selects, slot by slot.
 fn add_slots(
     args: &[u64],
@@ -115,7 +151,7 @@ fn add_slots(
     let mut r = n;
     let mut k: usize = 0;
     while k < keys.len() {
-        r = add_slot(args, falls, fors, keys[k], part, r);
+        r = add_new_slot(args, falls, fors, keys, k, part, r);
         k += 1;
     }
     r

@@ -11,7 +11,7 @@ ghost use lib.ListN.{length};
 ghost use Rattle.wiring.specs.Reading.{clearedBehind, FittingRead};
 
 // The entries from `at` on become zero.
-fn clear_behind(t: &mut [u16], at: usize)
+pub(crate) fn clear_behind(t: &mut [u16], at: usize)
     requires { ⌜ at ≤ length (now t) ⌝ }
     ensures { λ _. ⌜ now (t .exit) ≡ clearedBehind at (now (t .entry)) ⌝ }
 {

@@ -1,8 +1,10 @@
 // Where RETURNs go back to without handlers: one walk for each entry that is called, and the continuations of its calls joined into
-// the set of each RETURN that the walk marks.
+// the set of each RETURN that the walk lists.
+use crate::calls::is_call;
 use crate::lists::holds;
 use crate::return_sets::join_returns;
 use crate::sets::insert;
+use crate::sets::no_words;
 use crate::walk::no_marks;
 use crate::walk::no_work;
 use crate::walk::region;
@@ -10,27 +12,13 @@ use crate::widths::narrow;
 use crate::widths::wide;
 ghost use mathlib.Core.Path.{_≡_};
 ghost use Prim.Native.Nat.{ℕ, _+_, _*_, _≤_, _<_};
-ghost use lib.ListN.{length, replicate};
+ghost use lib.ListN.{length};
 ghost use Rattle.reader.specs.Every.{All};
 ghost use Rattle.graph.specs.Lists.{each};
 ghost use Rattle.graph.specs.Adding.{decode};
 ghost use Rattle.wiring.specs.Sets.{oneIf, Put};
 ghost use Rattle.wiring.specs.Prepared.{callWord, wordOf, linkEntries};
-ghost use Rattle.wiring.specs.Regions.{callsBelow, backFrom, TargetsFit, CallFits, CallsReady, SetAdded, MarksCover, MarkedJoined, EntryJoined, EntriesJoined, EntriesReady, RegionsReady, RegionReturns};
-
-// The numbers of `gosub` and `ongosub` in the table of opening words.
-const GOSUB: u16 = 8;
-
-const ONGOSUB: u16 = 12;
-
-fn is_call(word: u16) -> bool
-    ensures { λ r. ⌜ r ≡ callWord word ⌝ }
-{
-    if word == GOSUB {
-        return true;
-    }
-    word == ONGOSUB
-}
+ghost use Rattle.wiring.specs.Regions.{callsBelow, backFrom, TargetsFit, CallFits, CallsReady, SetAdded, MarksCover, ListedJoined, EntryJoined, EntriesJoined, EntriesReady, RegionsReady, RegionReturns};
 
 // Puts node i behind the first m entries, if it is a call.
 fn list_call(stmts: &[u16], i: usize, calls: &mut [u16], m: usize) -> usize
@@ -147,14 +135,7 @@ fn add_backs(
     }
 }
 
-// In a function of its own: a caller's proof then speaks of 64 words by their number alone.
-fn no_backs() -> [u64; 64]
-    ensures { λ r. ⌜ r ≡ replicate 64 0 ⌝ }
-{
-    [0u64; 64]
-}
-
-// For the entry e, with the marks of its region: the continuations of its calls are joined into the set of each RETURN there.
+// For the entry e, with a list of its region: the continuations of its calls are joined into the set of each RETURN there.
 pub(crate) fn join_region(
     stmts: &[u16],
     falls: &[u16],
@@ -162,18 +143,18 @@ pub(crate) fn join_region(
     n: usize,
     calls: &[u16],
     e: usize,
-    marks: &[bool; 4096],
+    list: &[u16],
     sets: &mut [u64],
 )
     requires { ⌜ CallsReady (now stmts) (now falls) (now links) n (now calls) × (e < 4096) × (n * 64 ≤ length (now sets)) ⌝ }
-    ensures { λ _. ⌜ MarkedJoined (now (stmts .entry)) (now (falls .entry)) (now (links .entry)) n e (now (marks .entry)) (now (sets .entry)) (now (sets .exit)) ⌝ }
+    ensures { λ _. ⌜ ListedJoined (now (stmts .entry)) (now (falls .entry)) (now (links .entry)) n e (now (list .entry)) (now (sets .entry)) (now (sets .exit)) ⌝ }
 {
-    let mut backs = no_backs();
+    let mut backs = no_words();
     add_backs(stmts, falls, links, calls, e, &mut backs);
-    join_returns(stmts, n, marks, &backs, sets);
+    join_returns(stmts, n, list, &backs, sets);
 }
 
-// The entry e, if it is called: its region by the stored lists.
+// The entry e, if it is called: its region by the stored lists, listed in `work`.
 fn join_called(
     stmts: &[u16],
     falls: &[u16],
@@ -184,16 +165,17 @@ fn join_called(
     calls: &[u16],
     called: &[bool; 4096],
     e: usize,
+    work: &mut [u16],
     sets: &mut [u64],
 )
-    requires { ⌜ EntriesReady (now stmts) (now falls) (now links) (now lists) (now edges) n (now calls) (now called) (now sets) × (e < n) ⌝ }
+    requires { ⌜ EntriesReady (now stmts) (now falls) (now links) (now lists) (now edges) n (now calls) (now called) (now sets) × (e < n) × (length (now work) ≡ 4096) ⌝ }
     ensures { λ _. ⌜ EntryJoined (now (stmts .entry)) (now (falls .entry)) (now (links .entry)) (now (lists .entry)) (now (edges .entry)) n e (now (sets .entry)) (now (sets .exit)) ⌝ }
 {
     if !called[e] {
         return;
     }
-    let marks = region(lists, edges, n, e);
-    join_region(stmts, falls, links, n, calls, e, &marks, sets);
+    let count = region(lists, edges, n, e, work);
+    join_region(stmts, falls, links, n, calls, e, &work[..count], sets);
 }
 
 // All called entries.
@@ -206,14 +188,27 @@ fn join_entries(
     n: usize,
     calls: &[u16],
     called: &[bool; 4096],
+    work: &mut [u16],
     sets: &mut [u64],
 )
-    requires { ⌜ EntriesReady (now stmts) (now falls) (now links) (now lists) (now edges) n (now calls) (now called) (now sets) ⌝ }
+    requires { ⌜ EntriesReady (now stmts) (now falls) (now links) (now lists) (now edges) n (now calls) (now called) (now sets) × (length (now work) ≡ 4096) ⌝ }
     ensures { λ _. ⌜ EntriesJoined (now (stmts .entry)) (now (falls .entry)) (now (links .entry)) (now (lists .entry)) (now (edges .entry)) n n (now (sets .entry)) (now (sets .exit)) ⌝ }
 {
     let mut e: usize = 0;
     while e < n {
-        join_called(stmts, falls, links, lists, edges, n, calls, called, e, sets);
+        join_called(
+            stmts,
+            falls,
+            links,
+            lists,
+            edges,
+            n,
+            calls,
+            called,
+            e,
+            work,
+            sets,
+        );
         e += 1;
     }
 }
@@ -236,5 +231,17 @@ pub(crate) fn region_return_edges(
     let calls = &buffer[..count];
     let mut called = no_marks();
     mark_called(stmts, links, calls, &mut called);
-    join_entries(stmts, falls, links, lists, edges, n, calls, &called, sets);
+    let mut work = no_work();
+    join_entries(
+        stmts,
+        falls,
+        links,
+        lists,
+        edges,
+        n,
+        calls,
+        &called,
+        &mut work,
+        sets,
+    );
 }

@@ -1,19 +1,21 @@
 // The sets of the RETURNs, 64 words a node: where each returns to.
 use crate::sets::join;
+use crate::widths::wide;
 ghost use mathlib.Core.Path.{_≡_};
-ghost use Prim.Native.Nat.{_+_, _*_, _≤_, _<_};
+ghost use mathlib.Core.List.{[], _∷_};
+ghost use Prim.Native.Nat.{_*_, _≤_};
 ghost use lib.ListN.{length};
-ghost use Rattle.wiring.specs.ReturnSets.{ReturnJoined, ReturnsJoined};
+ghost use Rattle.wiring.specs.ReturnSets.{ReturnsJoined};
 
 // The number of `return` in the table of opening words.
 pub(crate) const RETURN: u16 = 9;
 
-// Joins `backs` into the set of node i, where that is a marked RETURN.
-fn join_return(stmts: &[u16], i: usize, marks: &[bool; 4096], backs: &[u64], sets: &mut [u64])
-    requires { ⌜ (i < 4096) × (i * 12 + 12 ≤ length (now stmts)) × (i * 64 + 64 ≤ length (now sets)) × (length (now backs) ≡ 64) ⌝ }
-    ensures { λ _. ⌜ ReturnJoined (now (stmts .entry)) i (now (marks .entry)) (now (backs .entry)) (now (sets .entry)) (now (sets .exit)) ⌝ }
+// Joins `backs` into the set of node i, where that is a RETURN among the n nodes.
+fn join_return(stmts: &[u16], n: usize, i: usize, backs: &[u64], sets: &mut [u64])
+    requires { ⌜ (n ≤ 4096) × (n * 12 ≤ length (now stmts)) × (n * 64 ≤ length (now sets)) × (length (now backs) ≡ 64) ⌝ }
+    ensures { λ _. ⌜ ReturnsJoined (now (stmts .entry)) n (i ∷ []) (now (backs .entry)) (now (sets .entry)) (now (sets .exit)) ⌝ }
 {
-    if !marks[i] {
+    if n <= i {
         return;
     }
     if stmts[i * 12] != RETURN {
@@ -24,20 +26,14 @@ fn join_return(stmts: &[u16], i: usize, marks: &[bool; 4096], backs: &[u64], set
     join(&mut sets[start..end], backs);
 }
 
-// A region's calls return to `backs`: these are joined into the set of each of its RETURNs, and all other sets stay.
-pub(crate) fn join_returns(
-    stmts: &[u16],
-    n: usize,
-    marks: &[bool; 4096],
-    backs: &[u64],
-    sets: &mut [u64],
-)
+// A region's calls return to `backs`: these are joined into the set of each RETURN of its list, and all other sets stay.
+pub(crate) fn join_returns(stmts: &[u16], n: usize, list: &[u16], backs: &[u64], sets: &mut [u64])
     requires { ⌜ (n ≤ 4096) × (n * 12 ≤ length (now stmts)) × (n * 64 ≤ length (now sets)) × (length (now backs) ≡ 64) ⌝ }
-    ensures { λ _. ⌜ ReturnsJoined (now (stmts .entry)) n (now (marks .entry)) (now (backs .entry)) (now (sets .entry)) (now (sets .exit)) ⌝ }
+    ensures { λ _. ⌜ ReturnsJoined (now (stmts .entry)) n (now (list .entry)) (now (backs .entry)) (now (sets .entry)) (now (sets .exit)) ⌝ }
 {
-    let mut i: usize = 0;
-    while i < n {
-        join_return(stmts, i, marks, backs, sets);
-        i += 1;
+    let mut k: usize = 0;
+    while k < list.len() {
+        join_return(stmts, n, wide(list[k]), backs, sets);
+        k += 1;
     }
 }

@@ -1,4 +1,5 @@
 // The return targets: where the calls continue, in the order in which the calls stand, each once.
+use crate::calls::is_call;
 use crate::walk::no_marks;
 use crate::widths::wide;
 ghost use mathlib.Core.Path.{_≡_};
@@ -7,21 +8,12 @@ ghost use lib.ListN.{length};
 ghost use Rattle.graph.specs.Adding.{decode};
 ghost use Rattle.wiring.specs.ReturnTargets.{continuationNumber, FallsFit, Marking, TargetsAdded, TargetsListed};
 
-// Numbers of opening words.
-const GOSUB: u16 = 8;
-
-const ONGOSUB: u16 = 12;
-
 // Where node i continues if it is a call: one more than the node, or 0.
 fn continuation(stmts: &[u16], falls: &[u16], i: usize) -> u16
     requires { ⌜ (i < 4096) × (i * 12 + 12 ≤ length (now stmts)) × (i * 3 + 3 ≤ length (now falls)) ⌝ }
     ensures { λ r. ⌜ r ≡ continuationNumber (now (stmts .entry)) (now (falls .entry)) i ⌝ }
 {
-    let word = stmts[i * 12];
-    if word == GOSUB {
-        return falls[i * 3];
-    }
-    if word == ONGOSUB {
+    if is_call(stmts[i * 12]) {
         return falls[i * 3];
     }
     0

@@ -1,12 +1,19 @@
 // Sets of nodes, 64 words each: id i is bit i % 64 of word i / 64.
 use crate::widths::narrow;
 ghost use mathlib.Core.Path.{_≡_};
-ghost use Prim.Native.Nat.{_+_, _≤_, _<_, _^_};
+ghost use Prim.Native.Nat.{_+_, _/_, _≤_, _<_, _^_};
 ghost use lib.Dec.{eqb};
-ghost use lib.ListN.{length};
+ghost use lib.ListN.{length, replicate};
 ghost use Rattle.wiring.specs.Sets.{inserted, joined, oneIf, wordMembers, membersOf, Put};
 
-fn bit(r: usize) -> u64
+// In a function of its own, so that no other proof sees the 64 zeros.
+pub(crate) fn no_words() -> [u64; 64]
+    ensures { λ r. ⌜ r ≡ replicate 64 0 ⌝ }
+{
+    [0u64; 64]
+}
+
+pub(crate) fn bit(r: usize) -> u64
     requires { ⌜ r < 64 ⌝ }
     ensures { λ b. ⌜ b ≡ 2 ^ r ⌝ }
 {
@@ -14,7 +21,7 @@ fn bit(r: usize) -> u64
 }
 
 pub(crate) fn insert(set: &mut [u64], id: usize)
-    requires { ⌜ (length (now set) ≡ 64) × (id < 4096) ⌝ }
+    requires { ⌜ id / 64 < length (now set) ⌝ }
     ensures { λ _. ⌜ now (set .exit) ≡ inserted (now (set .entry)) id ⌝ }
 {
     let b = bit(id % 64);

@@ -1,17 +1,12 @@
 // The lists that skipping paths follow, stored for the walks through regions.
+use crate::calls::is_call;
 use crate::list_of::list_of;
 use crate::store::append_list;
-ghost use mathlib.Core.Path.{_≡_};
 ghost use Prim.Native.Nat.{_*_, _≤_, _<_};
 ghost use lib.ListN.{length, take};
-ghost use Rattle.wiring.specs.Prepared.{callWord};
+ghost use Rattle.wiring.specs.Prepared.{fallEntry};
 ghost use Rattle.wiring.specs.NodeList.{ListIs};
 ghost use Rattle.wiring.specs.SkipLists.{skipList, SkipReady, SkipDone, SkipsReady, SkipsDone};
-
-// Opening words, by their numbers in the table.
-const GOSUB: u16 = 8;
-
-const ONGOSUB: u16 = 12;
 
 // The edges that a graph may have.
 pub(crate) const MOST_EDGES: usize = 32768;
@@ -22,13 +17,17 @@ struct Edges {
     at: usize,
 }
 
-pub(crate) fn is_call(word: u16) -> bool
-    ensures { λ r. ⌜ r ≡ callWord word ⌝ }
+// Where node i falls goes to the front of the part.
+pub(crate) fn put_fall(falls: &[u16], i: usize, part: &mut [u16]) -> usize
+    requires { ⌜ (i < 4096) × (i * 3 < length (now falls)) × (0 < length (now part)) ⌝ }
+    ensures { λ r. ⌜ ListIs (fallEntry (now (falls .entry)) i) (now (part .entry)) (now (part .exit)) r ⌝ }
 {
-    if word == GOSUB {
-        return true;
+    let f = falls[i * 3];
+    if f == 0 {
+        return 0;
     }
-    word == ONGOSUB
+    part[0] = f - 1;
+    1
 }
 
 // From node i's list, the first count entries of the buffer, to what skipping paths follow: from a call only where it falls.
@@ -37,12 +36,7 @@ fn skip_list(stmts: &[u16], falls: &[u16], i: usize, buffer: &mut [u16], count: 
     ensures { λ r. ⌜ ListIs (skipList (now (stmts .entry)) (now (falls .entry)) i (take count (now (buffer .entry)))) (now (buffer .entry)) (now (buffer .exit)) r ⌝ }
 {
     if is_call(stmts[i * 12]) {
-        let t = falls[i * 3];
-        if t == 0 {
-            return 0;
-        }
-        buffer[0] = t - 1;
-        return 1;
+        return put_fall(falls, i, buffer);
     }
     count
 }

@@ -1,19 +1,20 @@
 // Where each RETURN goes back to, where all lists together are too long to store: regions by closed rows of bits in place of walks.
 use crate::clearing::clear_sets;
 use crate::closure::close_rows;
-use crate::closure::marks_of;
+use crate::closure::list_row;
 use crate::fill_rows::fill_rows;
 use crate::regions::join_region;
 use crate::regions::list_calls;
 use crate::regions::mark_called;
 use crate::walk::no_marks;
 use crate::walk::no_work;
+ghost use mathlib.Core.Path.{_≡_};
 ghost use Prim.Native.Nat.{_<_};
 ghost use lib.ListN.{length};
 ghost use Rattle.wiring.specs.FillRows.{FillReady};
 ghost use Rattle.wiring.specs.Spread.{EntrySpread, EntriesSpread, RegionsSpread, SpreadEntriesReady, SpreadRegionsReady, SpreadTo};
 
-// The entry e, if it is called: its region by its closed row.
+// The entry e, if it is called: its region by its closed row, listed in `work`.
 fn join_spread(
     stmts: &[u16],
     falls: &[u16],
@@ -22,16 +23,17 @@ fn join_spread(
     calls: &[u16],
     called: &[bool; 4096],
     e: usize,
+    work: &mut [u16],
     rows: &mut [u64],
 )
-    requires { ⌜ SpreadEntriesReady (now stmts) (now falls) (now links) n (now calls) (now called) (now rows) × (e < n) ⌝ }
+    requires { ⌜ SpreadEntriesReady (now stmts) (now falls) (now links) n (now calls) (now called) (now rows) × (e < n) × (length (now work) ≡ 4096) ⌝ }
     ensures { λ _. ⌜ EntrySpread (now (stmts .entry)) (now (falls .entry)) (now (links .entry)) n e (now (rows .entry)) (now (rows .exit)) ⌝ }
 {
     if !called[e] {
         return;
     }
-    let marks = marks_of(stmts, rows, n, e);
-    join_region(stmts, falls, links, n, calls, e, &marks, rows);
+    let count = list_row(stmts, rows, n, e, work);
+    join_region(stmts, falls, links, n, calls, e, &work[..count], rows);
 }
 
 // All called entries.
@@ -42,14 +44,15 @@ fn spread_entries(
     n: usize,
     calls: &[u16],
     called: &[bool; 4096],
+    work: &mut [u16],
     rows: &mut [u64],
 )
-    requires { ⌜ SpreadEntriesReady (now stmts) (now falls) (now links) n (now calls) (now called) (now rows) ⌝ }
+    requires { ⌜ SpreadEntriesReady (now stmts) (now falls) (now links) n (now calls) (now called) (now rows) × (length (now work) ≡ 4096) ⌝ }
     ensures { λ _. ⌜ EntriesSpread (now (stmts .entry)) (now (falls .entry)) (now (links .entry)) n n (now (rows .entry)) (now (rows .exit)) ⌝ }
 {
     let mut e: usize = 0;
     while e < n {
-        join_spread(stmts, falls, links, n, calls, called, e, rows);
+        join_spread(stmts, falls, links, n, calls, called, e, work, rows);
         e += 1;
     }
 }
@@ -64,7 +67,8 @@ fn spread_regions(stmts: &[u16], falls: &[u16], links: &[u16], n: usize, rows: &
     let calls = &buffer[..count];
     let mut called = no_marks();
     mark_called(stmts, links, calls, &mut called);
-    spread_entries(stmts, falls, links, n, calls, &called, rows);
+    let mut work = no_work();
+    spread_entries(stmts, falls, links, n, calls, &called, &mut work, rows);
 }
 
 // The rows of arguments become rows of bits, closed, and then the RETURNs' rows their sets. What stood in the arguments is lost.

@@ -1,9 +1,10 @@
 // A stack of frames by value. The openers of the frames ascend, so that a stack is a set of marks and its top the highest mark.
+use crate::sets::bit;
+use crate::sets::no_words;
 ghost use mathlib.Core.Path.{_≡_};
 ghost use mathlib.Core.List.{[]};
 ghost use Prim.Native.Nat.{_-_, _^_, _≤_, _<_};
-ghost use lib.ListN.{replicate};
-ghost use Rattle.wiring.specs.FrameStacks.{Holds, Highest, Room, Pushed, PoppedTo, BelowIs, CutAt, TopIs};
+ghost use Rattle.wiring.specs.FrameStacks.{Holds, HoldsBelow, Highest, Room, Pushed, PoppedTo, BelowIs, CutAt, TopIs};
 
 // The frame of opener i is bit i % 64 of word i / 64.
 pub struct FrameStack {
@@ -22,20 +23,6 @@ fn wide32(x: u32) -> usize
     x as usize
 }
 
-// In a function of its own, so that no other proof sees the 64 zeros.
-fn no_words() -> [u64; 64]
-    ensures { λ r. ⌜ r ≡ replicate 64 0 ⌝ }
-{
-    [0u64; 64]
-}
-
-fn bit(r: usize) -> u64
-    requires { ⌜ r < 64 ⌝ }
-    ensures { λ b. ⌜ b ≡ 2 ^ r ⌝ }
-{
-    1u64 << r
-}
-
 // The place above the highest bit of a word that is not 0.
 fn height(w: u64) -> usize
     requires { ⌜ 0 < w ⌝ }
@@ -45,7 +32,7 @@ fn height(w: u64) -> usize
 }
 
 // One more than the highest mark in the first n words, or 0.
-pub(crate) fn highest(words: &[u64; 64], n: usize) -> usize
+fn highest(words: &[u64; 64], n: usize) -> usize
     requires { ⌜ n ≤ 64 ⌝ }
     ensures { λ r. ⌜ Highest (now (words .entry)) n r ⌝ }
 {
@@ -58,6 +45,15 @@ pub(crate) fn highest(words: &[u64; 64], n: usize) -> usize
         }
     }
     0
+}
+
+// One more than the newest opener, or 0. All are below i: no word above that of i is looked at.
+pub(crate) fn newest(words: &[u64; 64], i: usize) -> usize
+    requires { ⌜ i < 4096 ⌝ }
+    requires { ⌜ HoldsBelow (now words) i ⌝ }
+    ensures { λ r. ⌜ TopIs (now (words .entry)) r ⌝ }
+{
+    highest(words, i / 64 + 1)
 }
 
 impl FrameStack {
@@ -77,13 +73,6 @@ impl FrameStack {
         let w = self.words[q];
         self.words[q] = w + b;
         self
-    }
-
-    // One more than the opener of the newest frame, or 0.
-    pub fn top(self) -> usize
-        ensures { λ r. ⌜ TopIs (self .words) r ⌝ }
-    {
-        highest(&self.words, 64)
     }
 
     pub fn pop(mut self) -> Popped

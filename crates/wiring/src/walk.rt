@@ -1,18 +1,18 @@
-// The walk through a region: a mark for each of 4,096 statements, and a worklist of marked nodes whose steps are still to be marked.
+// The walk through a region: a mark for each of 4,096 statements, and a list of the marked nodes, whose end is the worklist.
 use crate::widths::narrow;
 use crate::widths::wide;
 ghost use mathlib.Core.Path.{_≡_};
 ghost use mathlib.Core.Bool.{false};
 ghost use Prim.Native.Nat.{_<_, _≤_};
 ghost use lib.ListN.{length, replicate};
-ghost use Rattle.wiring.specs.Walk.{Stored, storedList, RegionMarked, Markable, ListMarked};
+ghost use Rattle.wiring.specs.Walk.{Stored, storedList, RegionListed, Markable, ListMarked};
 
-// Marks the nodes of a list, and puts those that had no mark on the worklist, which has `count`. A node comes on it with its mark,
-// so the free marks leave room.
+// Marks the nodes of a list, and puts those that had no mark behind the `count` nodes of `work`. A node comes there with its mark, so the
+// free marks leave room.
 pub(crate) fn mark_all(
     list: &[u16],
     marks: &mut [bool; 4096],
-    work: &mut [u16; 4096],
+    work: &mut [u16],
     count: usize,
 ) -> usize
     requires { ⌜ Markable 4096 (now list) (now marks) (now work) count ⌝ }
@@ -46,22 +46,23 @@ pub(crate) fn no_work() -> [u16; 4096]
     [0u16; 4096]
 }
 
-// Marks every node that the stored lists lead to from `from`.
-pub(crate) fn region(lists: &[u16], edges: &[u16], n: usize, from: usize) -> [bool; 4096]
-    requires { ⌜ (n ≤ 4096) × (from < n) × Stored (now lists) (now edges) n (storedList (now lists) (now edges)) ⌝ }
-    ensures { λ r. ⌜ RegionMarked (now (lists .entry)) (now (edges .entry)) n from r ⌝ }
+// Lists every node that the stored lists lead to from `from`, each once, and answers how many. The steps of the first `done` of them are
+// marked: the others are the worklist.
+pub(crate) fn region(lists: &[u16], edges: &[u16], n: usize, from: usize, work: &mut [u16]) -> usize
+    requires { ⌜ (n ≤ 4096) × (from < n) × Stored (now lists) (now edges) n (storedList (now lists) (now edges)) × (length (now work) ≡ 4096) ⌝ }
+    ensures { λ r. ⌜ RegionListed (now (lists .entry)) (now (edges .entry)) n from (now (work .exit)) r ⌝ }
 {
     let mut marks = no_marks();
-    let mut work = no_work();
     marks[from] = true;
     work[0] = narrow(from);
-    let mut left: usize = 1;
-    while 0 < left {
-        left -= 1;
-        let v = wide(work[left]);
+    let mut done: usize = 0;
+    let mut count: usize = 1;
+    while done < count {
+        let v = wide(work[done]);
+        done += 1;
         let start = wide(lists[v * 4]);
         let end = start + wide(lists[v * 4 + 1]);
-        left = mark_all(&edges[start..end], &mut marks, &mut work, left);
+        count = mark_all(&edges[start..end], &mut marks, work, count);
     }
-    marks
+    count
 }

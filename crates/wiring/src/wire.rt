@@ -9,7 +9,7 @@ use crate::walk::no_work;
 use crate::write_graph::write_graph;
 ghost use mathlib.Core.Path.{_≡_};
 ghost use mathlib.Core.Bool.{_&&_};
-ghost use Prim.Native.Nat.{min};
+ghost use Prim.Native.Nat.{_-_, _≤_, min};
 ghost use lib.Dec.{leb};
 ghost use lib.ListN.{length};
 ghost use Rattle.wiring.specs.CountGraph.{ReturnsReady, ReturnsFound, CountReady, CountedTo};
@@ -21,10 +21,11 @@ struct Counted {
     targets: usize,
 }
 
-// Whether the graph was written, and how many edges it has.
+// Whether the graph was written; if not, document 01's number and place.
 pub struct Wiring {
     pub written: bool,
-    pub edges: usize,
+    pub number: u8,
+    pub place: usize,
 }
 
 // Room for as many edges as a graph may have and one more for each call, whose continuation need not be among them.
@@ -152,12 +153,12 @@ fn edges_fit(edges: usize, succ: usize, pred: usize) -> bool
     edges <= MOST_EDGES
 }
 
-// The lists of the n nodes; d of their FORs are dispatched and have a body.
+// The lists of the n nodes. What was found is one more than the dispatched FORs with a body, or 0 if an inner statement was not found.
 pub(crate) fn wire_graph(
     handlers: bool,
     count: usize,
     n: usize,
-    d: usize,
+    found: usize,
     counts: &mut [u32; 5],
     stmts: &[u16],
     args: &mut [u64],
@@ -171,9 +172,17 @@ pub(crate) fn wire_graph(
     succ: &mut [u16],
     pred: &mut [u16],
 ) -> Wiring
-    requires { ⌜ WireReady handlers count n d (now counts) (now stmts) (now args) (now entries) (now falls) (now links) (now frames) (now dispatched) (now lists) (now returns) (now succ) (now pred) ⌝ }
-    ensures { λ r. ⌜ WiredTo handlers count n d (now (stmts .entry)) (now (args .entry)) (now (entries .entry)) (now (falls .entry)) (now (links .entry)) (now (frames .entry)) (now (dispatched .entry)) (now (counts .entry)) (now (succ .entry)) (now (pred .entry)) (now (counts .exit)) (now (args .exit)) (now (lists .exit)) (now (returns .exit)) (now (succ .exit)) (now (pred .exit)) (r .written) (r .edges) ⌝ }
+    requires { ⌜ (1 ≤ found) × WireReady handlers count n (found - 1) (now counts) (now stmts) (now args) (now entries) (now falls) (now links) (now frames) (now dispatched) (now lists) (now returns) (now succ) (now pred) ⌝ }
+    ensures { λ r. ⌜ (r .number ≡ 23) × WiredTo handlers count n (found - 1) (now (stmts .entry)) (now (args .entry)) (now (entries .entry)) (now (falls .entry)) (now (links .entry)) (now (frames .entry)) (now (dispatched .entry)) (now (counts .entry)) (now (succ .entry)) (now (pred .entry)) (now (counts .exit)) (now (args .exit)) (now (lists .exit)) (now (returns .exit)) (now (succ .exit)) (now (pred .exit)) (r .written) (r .place) ⌝ }
 {
+    if found == 0 {
+        return Wiring {
+            written: false,
+            number: 27,
+            place: 0,
+        };
+    }
+    let d = found - 1;
     let mut scratch = no_scratch();
     let mut buffer = no_work();
     let c = count_graph(
@@ -217,11 +226,13 @@ pub(crate) fn wire_graph(
         );
         return Wiring {
             written: true,
-            edges: c.edges,
+            number: 23,
+            place: c.edges,
         };
     }
     Wiring {
         written: false,
-        edges: c.edges,
+        number: 23,
+        place: c.edges,
     }
 }

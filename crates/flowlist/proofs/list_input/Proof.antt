@@ -2,7 +2,7 @@
 use borrow.Author.Needs.{needs}
 use mathlib.Core.Path.{sym}
 use lib.Seq.{length-take-le}
-use Rattle.flowlist.specs.Limits.{listed-inside}
+use Rattle.printing.specs.Limits.{puts-inside}
 use Rattle.flowlist.proofs.list_input.Statement.{statement}
 use Rattle.flowlist.proofs.list_input.Tie as tie
 
@@ -19,10 +19,10 @@ list-text-requires : tie.Need-list-text-requires
 list-text-requires c κs = search needs
 
 slice-reshare-prefix-write-all : tie.Need-slice-reshare-prefix-write-all
-slice-reshare-prefix-write-all c = listed-inside _ _ _ _ (c .before .before .list-text .ensures)
+slice-reshare-prefix-write-all c = puts-inside _ _ _ _ (c .before .before .list-text .ensures)
 
 slice-aggregate-write-all : tie.Need-slice-aggregate-write-all
-slice-aggregate-write-all c = sym (length-take-le _ _ (listed-inside _ _ _ _ (c .before .before .before .list-text .ensures)))
+slice-aggregate-write-all c = sym (length-take-le _ _ (puts-inside _ _ _ _ (c .before .before .before .list-text .ensures)))
 
 write-all-requires : tie.Need-write-all-requires
 write-all-requires c κs = search needs

@@ -10,11 +10,11 @@ build-requires c κs = search needs
 enum-known-built : tie.Need-enum-known-built
 enum-known-built c = search needs
 
-cast-print-refusal : tie.Need-cast-print-refusal
-cast-print-refusal c = search needs
+cast-put-refusal : tie.Need-cast-put-refusal
+cast-put-refusal c = search needs
 
-print-refusal-requires : tie.Need-print-refusal-requires
-print-refusal-requires c κs = search needs
+put-refusal-requires : tie.Need-put-refusal-requires
+put-refusal-requires c κs = search needs
 
 enum-told : tie.Need-enum-told
 enum-told c = search needs
@@ -77,7 +77,7 @@ returns : tie.Need-returns
 returns c =
     let b = c .before .before .before .before .before .before .before .before .before .before .before .before .before .before .before .before .before .before .before .before .before .before .before .before .before .before .before .before .before .before .before .before .before .before .before .before .before .before .before .before .before .before .before .before .before .before .before .before .before .before .before .before .before .before .before .before .before .before .before .args in
     let w = c .before .before .before .before .before .before .before .before .before .before .before .before .before .before .before .before .before .before .before .before .before .before .before .before .before .before .before .before .before .before .before .build in
-    refusal-listed (b .text .now) _ _ _ _ _ _ _ _ _ _ _ _ _ _ (w .result) (w .ensures) _ _ _ (c .before .before .before .before .before .built .given .0 .0) (c .before .before .before .before .before .built .given .0 .1 .0) (c .before .before .before .before .before .built .given .1) (c .before .before .print-refusal .ensures)
+    refusal-listed (b .text .now) _ _ _ _ _ _ _ _ _ _ _ _ _ _ (w .result) (w .ensures) _ _ _ (c .before .before .before .before .before .built .given .0 .0) (c .before .before .before .before .before .built .given .0 .1 .0) (c .before .before .before .before .before .built .given .1) (c .before .before .put-refusal .ensures)
 
 same-length-14 : tie.Need-same-length-14
 same-length-14 c = search needs
@@ -130,8 +130,8 @@ list-graph-spec =
     (tie.spec
     build-requires
     enum-known-built
-    cast-print-refusal
-    print-refusal-requires
+    cast-put-refusal
+    put-refusal-requires
     enum-told
     element-copy-out-print-counted
     element-copy-out-print-counted-2

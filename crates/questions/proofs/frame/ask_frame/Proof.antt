@@ -18,11 +18,11 @@ key-of-requires c κs = search needs
 key-answer-requires : tie.Need-key-answer-requires
 key-answer-requires c κs = search needs
 
-element-copy-out-used : tie.Need-element-copy-out-used
-element-copy-out-used c = search needs
+element-copy-out-count-of : tie.Need-element-copy-out-count-of
+element-copy-out-count-of c = search needs
 
-used-requires : tie.Need-used-requires
-used-requires c κs = search needs
+count-of-requires : tie.Need-count-of-requires
+count-of-requires c κs = search needs
 
 frame-of-requires : tie.Need-frame-of-requires
 frame-of-requires c κs = search needs
@@ -34,11 +34,11 @@ returns : tie.Need-returns
 returns c =
     let a = c .before .before .before .before .before .before .before .before .before .before .before .before .before .before .before .before .before .args in
     let z = c .before .before .frame-of in
-    let n = c .before .before .before .before .used in
+    let n = c .before .before .before .before .count-of in
     let k = c .before .before .before .before .before .before .key-answer in
     let e = sym (c .before .before .before .before .before .before .before .before .before .is-name .ensures) ∙ c .before .before .before .before .before .before .before .before .if1 .taken in
     answer-as (frameIn (n .result) (a .stmts .now) (a .args .now) (a .falls .now) (a .lists .now) (a .succ .now) (a .header) (a .node) (k .result) (a .flag) (length (a .out .now))) (frameAt (getD (a .counts .now) 1 0) (a .stmts .now) (a .args .now) (a .falls .now) (a .lists .now) (a .succ .now) (a .header) (a .node) (a .name .now) (a .flag) (length (a .out .now))) (a .out .now) (z .last .1 .1 .1 .1 .1 .1 .1 .1 .1 .1 .0) (z .result)
-    (at-name (getD (a .counts .now) 1 0) (a .stmts .now) (a .args .now) (a .falls .now) (a .lists .now) (a .succ .now) (a .header) (a .node) (a .name .now) (a .flag) (length (a .out .now)) (k .result) (n .result) e (n .ensures) (k .ensures ∙ ap keyAnswer (c .before .before .before .before .before .before .before .key-of .ensures) ∙ name-key (a .name .now) e)) (z .ensures)
+    (at-name (getD (a .counts .now) 1 0) (a .stmts .now) (a .args .now) (a .falls .now) (a .lists .now) (a .succ .now) (a .header) (a .node) (a .name .now) (a .flag) (length (a .out .now)) (k .result) (n .result) e (n .ensures .0) (k .ensures ∙ ap keyAnswer (c .before .before .before .before .before .before .before .key-of .ensures) ∙ name-key (a .name .now) e)) (z .ensures)
 
 returns-2 : tie.Need-returns-2
 returns-2 c =
@@ -52,8 +52,8 @@ ask-frame-spec =
     is-name-requires
     key-of-requires
     key-answer-requires
-    element-copy-out-used
-    used-requires
+    element-copy-out-count-of
+    count-of-requires
     frame-of-requires
     same-length
     returns

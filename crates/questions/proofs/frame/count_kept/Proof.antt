@@ -6,7 +6,7 @@ use borrow.Author.Needs.{needs}
 use native.Mathlib.Omega.{arith}
 use native.Mathlib.Numerals.{add-one}
 use lib.ListN.{length, take}
-use Rattle.questions.specs.Questions.{kept}
+use Rattle.graph.specs.Questions.{kept}
 use Rattle.questions.specs.FrameLaws.{kept-more, kept-same, kept-none, kept-all}
 use Rattle.questions.proofs.frame.count_kept.Statement.{statement}
 use Rattle.questions.proofs.frame.count_kept.Tie as tie

@@ -4,7 +4,7 @@ use mathlib.Core.Path.{ap, _∙_}
 use mathlib.Core.List.{List}
 use lib.ListN.{take, drop}
 use Rattle.wiring.specs.PrintedTables.{succPart}
-use Rattle.questions.specs.Questions.{kept}
+use Rattle.graph.specs.Questions.{kept}
 use Rattle.questions.specs.FrameSlice.{told-as}
 use Rattle.questions.specs.FrameChecks.{part-is}
 use borrow.Author.Needs.{needs}

@@ -1,5 +1,5 @@
 -- `keep_shared`: too long, or stored with zeros behind. Assumes nothing.
-use Rattle.questions.specs.Questions.{kept}
+use Rattle.graph.specs.Questions.{kept}
 use Rattle.questions.specs.FrameSlice.{told-long, told-list}
 use borrow.Author.Needs.{needs}
 use Rattle.questions.proofs.frame.keep_shared.Statement.{statement}

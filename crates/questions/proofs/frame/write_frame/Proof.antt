@@ -3,7 +3,7 @@ use mathlib.Core.Path.{sym, _∙_}
 use mathlib.Core.List.{[]}
 use Rattle.wiring.specs.Prepared.{fallEntry}
 use Rattle.wiring.specs.PrintedTables.{succPart}
-use Rattle.questions.specs.Questions.{kept}
+use Rattle.graph.specs.Questions.{kept}
 use Rattle.questions.specs.FrameAt.{frameRead}
 use Rattle.questions.specs.FrameSlice.{told-as}
 use Rattle.questions.specs.FrameChecks.{read-ended, read-kept, read-call, read-all}

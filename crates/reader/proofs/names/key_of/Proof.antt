@@ -10,12 +10,13 @@ use borrow.Author.Tests.{not-false, not-true}
 use Rattle.reader.specs.declared.names.NameKey.the-variants.{Key}
 use Rattle.reader.specs.Rows.{isName}
 use Rattle.reader.specs.WordText.{name-text}
-use Rattle.reader.specs.Names.{asKey, encode, encode-next, name-byte, name-invalid, rest-below}
+use Rattle.reader.specs.Names.{asKey, key-next, name-byte, name-invalid, rest-below}
 use Rattle.reader.proofs.names.key_of.Statement.{statement}
+use Rattle.reader.specs.Records.{nameKey}
 use Rattle.reader.proofs.names.key_of.Tie as tie
 
 abbrev Inv-loop : tie.InvT-loop
-Inv-loop w a₀ i₀ a i = (i ≤ length w) × (a ≡ encode (drop i w))
+Inv-loop w a₀ i₀ a i = (i ≤ length w) × (a ≡ nameKey (drop i w))
 
 abbrev μ-loop : tie.MeasureT-loop
 μ-loop w a₀ i₀ a i = i
@@ -25,13 +26,13 @@ record Turn (w : List ℕ) (a i r : ℕ) : Type 0 where
   room : a < 281474976710656
   low : 33 ≤ r
   high : r ≤ 95
-  next : a * 64 + (r - 32) ≡ encode (drop (i - 1) w)
+  next : a * 64 + (r - 32) ≡ nameKey (drop (i - 1) w)
 
-turn : (w : List ℕ) (a i r : ℕ) → isName w ≡ true → 0 < i → i ≤ length w → a ≡ encode (drop i w) → r ≡ getD w (i - 1) 0 → Turn w a i r
+turn : (w : List ℕ) (a i r : ℕ) → isName w ≡ true → 0 < i → i ≤ length w → a ≡ nameKey (drop i w) → r ≡ getD w (i - 1) 0 → Turn w a i r
 turn w a i r h p q e v =
     let b = name-byte w (i - 1) h (omega arith) in
     let n : suc (i - 1) ≡ i = omega arith in
-    let f : encode (drop (i - 1) w) ≡ (getD w (i - 1) 0 - 32) + 64 * encode (drop i w) = encode-next w (i - 1) (omega arith) ∙ ap (λ (z : ℕ). (getD w (i - 1) 0 - 32) + 64 * encode (drop z w)) n in
+    let f : nameKey (drop (i - 1) w) ≡ (getD w (i - 1) 0 - 32) + 64 * nameKey (drop i w) = key-next w (i - 1) (omega arith) ∙ ap (λ (z : ℕ). (getD w (i - 1) 0 - 32) + 64 * nameKey (drop z w)) n in
     record { room = omega (arith, rest-below w i h p); low = omega arith; high = omega arith; next = omega arith }
 
 is-name-requires : tie.Need-is-name-requires Inv-loop μ-loop
@@ -41,10 +42,10 @@ returns : tie.Need-returns Inv-loop μ-loop
 returns c = ap asKey (sym (name-invalid (c .before .before .before .args .w .now) (sym (c .before .is-name .ensures) ∙ not-true _ (c .if1 .taken))))
 
 loop-holds : tie.Need-loop-holds Inv-loop μ-loop
-unfolding encode
+unfolding nameKey
 loop-holds c =
     let w = c .before .before .before .args .w .now in
-    (omega arith, sym (ap encode (drop-of-length-le w {i = length w} (omega arith))))
+    (omega arith, sym (ap nameKey (drop-of-length-le w {i = length w} (omega arith))))
 
 sub-i : tie.Need-sub-i Inv-loop μ-loop
 sub-i c = search needs
@@ -93,7 +94,7 @@ returns-2 c =
     let n = l .before in
     let w = n .before .before .before .args .w .now in
     let z : l .loop .i ≡ 0 = omega arith in
-    ap Key (l .loop .inv .1 ∙ ap (λ (i : ℕ). encode (drop i w)) z) ∙ ap asKey (sym (name-text w (sym (n .before .is-name .ensures) ∙ not-false _ (n .if1 .left))))
+    ap Key (l .loop .inv .1 ∙ ap (λ (i : ℕ). nameKey (drop i w)) z) ∙ ap asKey (sym (name-text w (sym (n .before .is-name .ensures) ∙ not-false _ (n .if1 .left))))
 
 pub key-of-spec : {M : Type 1} → statement M
 key-of-spec =

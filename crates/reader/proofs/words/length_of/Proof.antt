@@ -1,6 +1,7 @@
 -- `length_of`: the lengths of the words, none above 8. Assumes nothing.
 use borrow.Author.Needs.{needs}
-use mathlib.Core.Path.{refl}
+use native.Mathlib.Omega.{arith}
+use mathlib.Core.Path.{refl, _∙_}
 use mathlib.Core.List.{[], map}
 use lib.ListN.{length, List·getD-map}
 use Rattle.reader.specs.Bytes.{bytes}
@@ -9,15 +10,17 @@ use Rattle.reader.specs.WordTable.{words, all-le}
 use Rattle.reader.proofs.words.length_of.Statement.{statement}
 use Rattle.reader.proofs.words.length_of.Tie as tie
 
-mul-result : tie.Need-mul-result
-mul-result c = search needs
+array-read-wide-byte : tie.Need-array-read-wide-byte
+array-read-wide-byte c = search needs
 
-array-read-result : tie.Need-array-read-result
-array-read-result c = search needs
+wide-byte-requires : tie.Need-wide-byte-requires
+wide-byte-requires c κs = search needs
 
 returns : tie.Need-returns
 unfolding words openingWords bytes
-returns c = (List·getD-map length words (c .args .i) [], all-le 8 (map length words) refl (c .args .i))
+returns c =
+    let e = c .wide-byte .ensures .0 in
+    (e ∙ List·getD-map length words (c .before .args .i) [], omega (arith, e, all-le 8 (map length words) refl (c .before .args .i)))
 
 pub length-of-spec : {M : Type 1} → statement M
-length-of-spec = tie.close (tie.spec mul-result array-read-result returns)
+length-of-spec = tie.close (tie.spec array-read-wide-byte wide-byte-requires returns)

@@ -35,7 +35,7 @@ insert-requires c κs =
     let s = c .before .before .before .before .before .before .before .before .before .before .before in
     let l = c .before .before .before .before .loop in
     let h = row-id (s .args .list .now) (s .args .count) (l .k) (s .pre .2) (c .before .before .before .loop-test .taken) (s .pre .1) in
-    (l .inv .1 .size, omega (arith, h, c .wide .ensures))
+    omega (arith, l .inv .1 .size, h, c .wide .ensures)
 
 add-k : tie.Need-add-k Inv-loop μ-loop
 add-k c = search needs

@@ -3,13 +3,14 @@ use Prim.Native.Nat.{_+_, _-_, _*_}
 use mathlib.Core.Path.{_≡_, _∙_, ap}
 use native.Mathlib.Omega.{arith}
 use lib.ListN.{length}
-use Rattle.wiring.specs.ClosureLaws.{row-part, row-length, row-copied}
+use Rattle.wiring.specs.ReturnSetLaws.{row-part, row-length}
+use Rattle.wiring.specs.ClosureLaws.{row-copied}
 use borrow.Author.Needs.{needs}
 use Rattle.wiring.proofs.closure.row_copy.Statement.{statement}
 use Rattle.wiring.proofs.closure.row_copy.Tie as tie
 
-no-row-requires : tie.Need-no-row-requires
-no-row-requires c κs = search needs
+no-words-requires : tie.Need-no-words-requires
+no-words-requires c κs = search needs
 
 mul-start : tie.Need-mul-start
 mul-start c = search needs
@@ -42,13 +43,13 @@ returns c =
     let i = s .args .i in
     let k : i * 64 + 64 - i * 64 ≡ 64 = omega arith in
     let e = row-part rows i _ k in
-    row-copied _ _ _ (c .before .before .before .before .no-row .ensures) (ap length e ∙ row-length rows i (s .pre .1)) (c .before .join .ensures) ∙ e
+    row-copied _ _ _ (c .before .before .before .before .no-words .ensures) (ap length e ∙ row-length rows i (s .pre .1)) (c .before .join .ensures) ∙ e
 
 pub row-copy-spec : {M : Type 1} → statement M
 row-copy-spec =
     tie.close
     (tie.spec
-    no-row-requires
+    no-words-requires
     mul-start
     add-end
     slice-aggregate-join

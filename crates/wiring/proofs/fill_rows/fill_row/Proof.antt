@@ -5,7 +5,7 @@ use borrow.Author.Tests.{not-true, not-false}
 use mathlib.Core.Path.{_≡_, sym, _∙_, ap}
 use native.Mathlib.Omega.{arith}
 use lib.ListN.{length}
-use Rattle.wiring.specs.ClosureLaws.{row-part, row-length}
+use Rattle.wiring.specs.ReturnSetLaws.{row-part, row-length}
 use Rattle.wiring.specs.FillRows.{passes}
 use Rattle.wiring.specs.FillRowLaws.{row-left, row-filled, skip-fits}
 use Rattle.wiring.proofs.fill_rows.fill_row.Statement.{statement}

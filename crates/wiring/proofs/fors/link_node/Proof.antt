@@ -1,28 +1,40 @@
--- `link_node`: FOR pushes, NEXT pops slot by slot into its row, any other node does nothing. Assumes nothing.
+-- `link_node`: FOR pushes, NEXT pops slot by slot into its row. Assumes nothing.
 use borrow.Author.Needs.{needs}
 use native.Mathlib.Omega.{arith}
-use mathlib.Core.Path.{_∙_}
+use mathlib.Core.Path.{_≡_}
+use Prim.Native.Nat.{_*_, _≤_}
+use lib.ListN.{getD}
 use Rattle.wiring.specs.ListedNodes.{SlotsCounted}
-use Rattle.wiring.specs.ForStackLaws.{open-wider, node-for, node-next, node-other}
+use Rattle.wiring.specs.ForStackLaws.{node-for, node-next, must-next}
+use Rattle.wiring.specs.NotedKeys.{noted-slots}
 use Rattle.wiring.proofs.fors.link_node.Statement.{statement}
 use Rattle.wiring.proofs.fors.link_node.Tie as tie
 
-mul-w : tie.Need-mul-w
-mul-w c = search needs
+-- what is no FOR is a NEXT, with at most 64 slots
+is-next : (c : tie.After-wide) → getD (c .before .before .before .before .before .before .before .args .stmts .now) (c .before .before .before .before .before .before .before .args .i * 12) 0 ≡ 14
+is-next c = must-next _ (c .before .before .before .before .before .before .before .pre .1 .0) (c .before .before .if1 .left)
 
-mul-w-2 : tie.Need-mul-w-2
-mul-w-2 c = search needs
+few : (c : tie.After-wide) → c .wide .result ≤ 64
+few c =
+    let slots : SlotsCounted (c .before .before .before .before .before .before .before .args .stmts .now) (c .before .before .before .before .before .before .before .args .i) = c .before .before .before .before .before .before .before .pre .1 .1 .0 in
+    omega (arith, c .wide .ensures, slots (is-next c))
 
-shared-slice-read-w : tie.Need-shared-slice-read-w
-shared-slice-read-w c = search needs
+mul-if1 : tie.Need-mul-if1
+mul-if1 c = search needs
 
-push-for-requires : tie.Need-push-for-requires
-push-for-requires c κs = search needs
+mul-if1-2 : tie.Need-mul-if1-2
+mul-if1-2 c = search needs
+
+shared-slice-read-if1 : tie.Need-shared-slice-read-if1
+shared-slice-read-if1 c = search needs
+
+open-for-requires : tie.Need-open-for-requires
+open-for-requires c κs = search needs
 
 returns : tie.Need-returns
 returns c =
-    let a = c .before .before .before .before .before .before .args in
-    node-for (a .stmts .now) (a .args .now) (a .i) (a .s .words) _ (a .links .now) (c .before .if1 .taken) (c .push-for .ensures)
+    let a = c .before .before .before .before .before .before .before .args in
+    (c .open-for .ensures .1, node-for (a .stmts .now) (a .args .now) (a .i) (a .s .words) _ (a .links .now) (c .before .before .if1 .taken) (c .open-for .ensures .0))
 
 mul-at : tie.Need-mul-at
 mul-at c = search needs
@@ -43,10 +55,7 @@ wide-requires : tie.Need-wide-requires
 wide-requires c κs = search needs
 
 add-end : tie.Need-add-end
-add-end c =
-    let p = c .before .before .before .before .before .before .before .before in
-    let few : SlotsCounted (p .args .stmts .now) (p .args .i) = p .pre .1 .0 in
-    omega (arith, c .wide .ensures, few (c .before .before .if2 .taken), p .pre .0)
+add-end c = omega (arith, few c, c .before .before .before .before .before .before .before .pre .0)
 
 mul-pop-slots : tie.Need-mul-pop-slots
 mul-pop-slots c = search needs
@@ -58,10 +67,7 @@ part-pop-slots-start : tie.Need-part-pop-slots-start
 part-pop-slots-start c = search needs
 
 part-pop-slots-end : tie.Need-part-pop-slots-end
-part-pop-slots-end c =
-    let p = c .before .before .before .before .before .before .before .before in
-    let few : SlotsCounted (p .args .stmts .now) (p .args .i) = p .pre .1 .0 in
-    omega (arith, c .wide .ensures, few (c .before .before .if2 .taken), p .pre .0)
+part-pop-slots-end c = omega (arith, few c, c .before .before .before .before .before .before .before .pre .0)
 
 mul-pop-slots-2 : tie.Need-mul-pop-slots-2
 mul-pop-slots-2 c = search needs
@@ -73,15 +79,10 @@ part-pop-slots-start-2 : tie.Need-part-pop-slots-start-2
 part-pop-slots-start-2 c = search needs
 
 part-pop-slots-end-2 : tie.Need-part-pop-slots-end-2
-part-pop-slots-end-2 c =
-    let p = c .before .before .before .before .before .before .before .before .before in
-    let few : SlotsCounted (p .args .stmts .now) (p .args .i) = p .pre .1 .0 in
-    omega (arith, c .before .wide .ensures, few (c .before .before .before .if2 .taken), p .pre .0)
+part-pop-slots-end-2 c = omega (arith, few (c .before .before), c .before .before .before .before .before .before .before .before .before .pre .0)
 
 pop-slots-requires : tie.Need-pop-slots-requires
-pop-slots-requires c κs =
-    let p = c .before .before .before .before .before .before .before .before .before .before in
-    (c .before .pop-slots-arg .given .2 ∙ c .pop-slots-arg2 .given .1, open-wider _ _ (omega (arith, p .pre .0)) (p .pre .1 .1))
+pop-slots-requires c κs = search needs
 
 same-length : tie.Need-same-length
 same-length c = search needs
@@ -90,24 +91,20 @@ returns-2 : tie.Need-returns-2
 returns-2 c =
     let p = c .before .before .before .before .before .before .before .before .before .before .before .before .before in
     let a = p .args in
-    let few : SlotsCounted (a .stmts .now) (a .i) = p .pre .1 .0 in
-    let w = c .before .before .before .before .before .wide in
-    node-next (a .stmts .now) (a .args .now) (a .i) (a .s .words) _ (a .links .now) (w .result) _ (w .ensures)
-    (omega (arith, w .ensures, few (c .before .before .before .before .before .before .before .if2 .taken), p .pre .0)) (c .before .before .before .before .before .before .before .if2 .taken) (c .before .before .pop-slots .ensures)
-
-returns-3 : tie.Need-returns-3
-returns-3 c =
-    let a = c .before .before .before .before .before .before .args in
-    node-other (a .stmts .now) (a .args .now) (a .i) (a .s .words) (a .links .now) (c .before .if1 .left) (c .if2 .left)
+    let w = c .before .before .before .before .before .before .wide in
+    let e = c .before .before .pop-slots .ensures in (
+      noted-slots (a .args .now) (a .notes .now) (a .s .words) _ (a .i) (p .pre .1 .1 .1 .0) (p .pre .1 .1 .1 .1) _ _ e,
+      node-next (a .stmts .now) (a .args .now) (a .i) (a .s .words) _ (a .links .now) (w .result) _ (w .ensures) (omega (arith, few (c .before .before .before .before .before .before), p .pre .0)) (is-next (c .before .before .before .before .before .before)) e,
+    )
 
 pub link-node-spec : {M : Type 1} → statement M
 link-node-spec =
     tie.close
     (tie.spec
-    mul-w
-    mul-w-2
-    shared-slice-read-w
-    push-for-requires
+    mul-if1
+    mul-if1-2
+    shared-slice-read-if1
+    open-for-requires
     returns
     mul-at
     mul-wide
@@ -126,5 +123,4 @@ link-node-spec =
     part-pop-slots-end-2
     pop-slots-requires
     same-length
-    returns-2
-    returns-3)
+    returns-2)

@@ -1,41 +1,71 @@
--- `pop_slots`: the first j slots are popped, and the row holds what they pop. Assumes nothing.
+-- `pop_slots`: the first j slots are popped, the row holds what they pop, and top is what is left open at the top. Assumes nothing.
 use borrow.Author.Needs.{needs}
 use native.Mathlib.Omega.{arith}
 use mathlib.Core.Path.{_≡_, refl}
-use Prim.Native.Nat.{_/_, _-_, _≤_}
-use lib.ListN.{length}
-use Rattle.wiring.specs.ForStack.{OpenBelow}
-use Rattle.wiring.specs.ForStackLaws.{open-few, slot-open, slot-fits, PoppingTo, popping-start, popping-on, popping-end}
+use mathlib.Core.Logic.{⊎-elim}
+use Prim.Native.Nat.{_-_, _≤_}
+use lib.ListN.{length, getD}
+use Rattle.wiring.specs.FrameStacks.{HoldsBelow, TopIs}
+use Rattle.wiring.specs.ForStack.{SlotPopped}
+use Rattle.wiring.specs.ForStackLaws.{open-wider, open-few, slot-none, slot-cut, slot-top, slot-open, slot-fits, PoppingTo, popping-start, popping-on, popping-none, popping-end}
+use Rattle.wiring.specs.NotedKeys.{KeysNoted, noted-slot}
 use Rattle.wiring.proofs.fors.pop_slots.Statement.{statement}
 use Rattle.wiring.proofs.fors.pop_slots.Tie as tie
 
 abbrev Inv-loop : tie.InvT-loop
-Inv-loop args keys row₀ t₀ j₀ row t j =
-    (j ≤ length row₀) × (length row ≡ length row₀) × OpenBelow (t .words) (length args / 64) × PoppingTo args keys (t₀ .words) (t .words) row₀ row j
+Inv-loop args keys notes i row₀ t₀ top₀ j₀ row t top j =
+    (j ≤ length row₀) × (length row ≡ length row₀) × HoldsBelow (t .words) i × TopIs (t .words) top × KeysNoted args notes (t .words) × PoppingTo args keys (t₀ .words) (t .words) row₀ row j
 
 abbrev μ-loop : tie.MeasureT-loop
-μ-loop args keys row₀ t₀ j₀ row t j = length row₀ - j
+μ-loop args keys notes i row₀ t₀ top₀ j₀ row t top j = length row₀ - j
+
+newest-requires : tie.Need-newest-requires Inv-loop μ-loop
+newest-requires c κs = (c .before .before .before .before .before .pre .0 .0, c .before .before .before .before .before .pre .1 .0)
 
 loop-holds : tie.Need-loop-holds Inv-loop μ-loop
-loop-holds c = (omega arith, refl, c .before .before .before .pre .1, popping-start _ _ _ _)
+loop-holds c = (omega arith, refl, c .before .before .before .before .before .before .pre .1 .0, c .newest .ensures, c .before .before .before .before .before .before .pre .1 .1, popping-start _ _ _ _)
 
-mul-pop-slot : tie.Need-mul-pop-slot Inv-loop μ-loop
-mul-pop-slot c = search needs
+clear-behind-requires : tie.Need-clear-behind-requires Inv-loop μ-loop
+clear-behind-requires c κs = search needs
 
-shared-slice-read-pop-slot : tie.Need-shared-slice-read-pop-slot Inv-loop μ-loop
-shared-slice-read-pop-slot c = search needs
+same-length : tie.Need-same-length Inv-loop μ-loop
+same-length c = search needs
 
-pop-slot-requires : tie.Need-pop-slot-requires Inv-loop μ-loop
-pop-slot-requires c κs = c .before .before .loop .inv .2
+returns : tie.Need-returns Inv-loop μ-loop
+returns c =
+    let p = c .before .before .before .before .before .before .before .before .before .before .before .before .before in
+    let l = c .before .before .before .before .before .before .loop in
+    λ m o. rw (c .before .before .clear-behind .ensures) (popping-none (p .args .args .now) (p .args .keys .now) (p .args .s .words) (l .t .words) (p .args .row .now) (l .row) (l .j) (l .top) (l .inv .0) (p .pre .0 .2) (c .before .before .before .before .if1 .taken) (l .inv .3) (l .inv .5) m o)
+
+mul-slot-frame : tie.Need-mul-slot-frame Inv-loop μ-loop
+mul-slot-frame c = search needs
+
+shared-slice-read-slot-frame : tie.Need-shared-slice-read-slot-frame Inv-loop μ-loop
+shared-slice-read-slot-frame c = search needs
+
+slot-frame-requires : tie.Need-slot-frame-requires Inv-loop μ-loop
+slot-frame-requires c κs = (open-wider _ _ (omega (arith, c .before .before .before .before .before .before .before .before .before .before .before .before .pre .0)) (c .before .before .before .before .before .loop .inv .2), (c .before .before .before .before .before .loop .inv .4, c .before .before .before .before .before .loop .inv .3))
 
 narrow-requires : tie.Need-narrow-requires Inv-loop μ-loop
-narrow-requires c κs = omega (arith, slot-fits _ _ _ _ _ _ (open-few (c .before .before .before .loop .inv .2)) (c .pop-slot .ensures))
+narrow-requires c κs = omega (arith, slot-fits _ _ _ _ _ (open-few (c .before .before .before .before .before .before .loop .inv .2)) (c .slot-frame .ensures))
 
 mul-row : tie.Need-mul-row Inv-loop μ-loop
 mul-row c = search needs
 
 slice-write-row : tie.Need-slice-write-row Inv-loop μ-loop
 slice-write-row c = search needs
+
+sub-below : tie.Need-sub-below Inv-loop μ-loop
+sub-below c = search needs
+
+below-requires : tie.Need-below-requires Inv-loop μ-loop
+below-requires c κs = omega (arith, slot-fits _ _ _ _ _ (open-few (c .before .before .before .before .before .before .before .before .before .before .loop .inv .2)) (c .before .before .before .before .slot-frame .ensures))
+
+sub-cut : tie.Need-sub-cut Inv-loop μ-loop
+sub-cut c = search needs
+
+cut-requires : tie.Need-cut-requires Inv-loop μ-loop
+cut-requires c κs = omega (arith, slot-fits _ _ _ _ _ (open-few (c .before .before .before .before .before .before .before .before .before .before .before .loop .inv .2)) (c .before .before .before .before .before .slot-frame .ensures))
 
 add-j : tie.Need-add-j Inv-loop μ-loop
 add-j c = search needs
@@ -45,18 +75,31 @@ loop-less c = search needs
 
 loop-again : tie.Need-loop-again Inv-loop μ-loop
 loop-again c =
-    let l = c .before .before .before .before .before .loop in (
+    let a = c .before .before .before .before .before .before .before .before .before .before .before .before .before .before .before .args in
+    let l = c .before .before .before .before .before .before .before .before .loop in
+    let f = c .before .before .slot-frame in
+    let v = getD (a .keys .now) (l .j) 0 in
+    let p : SlotPopped (a .args .now) v (l .t .words) (c .if2 .t .words) (f .result) × TopIs (c .if2 .t .words) (c .if2 .top)
+    = ⊎-elim
+    (λ w. rw (w .5, w .6) (
+      slot-cut (a .args .now) v (l .t .words) (f .result) (f .ensures) _ (w .0 .taken) (w .4 .ensures),
+      slot-top (a .args .now) v (l .t .words) (f .result) (f .ensures) _ _ (w .3 .result) (l .inv .2) (w .0 .taken) (w .4 .ensures) (w .3 .ensures .1),
+    ))
+    (λ w. rw (w .1, w .2) (slot-none (a .args .now) v (l .t .words) (f .result) (f .ensures) (w .0 .left), l .inv .3))
+    (c .if2 .came) in (
+      omega arith,
       search needs,
-      search needs,
-      slot-open _ _ _ _ _ _ (l .inv .2) (c .before .before .pop-slot .ensures),
-      popping-on _ _ _ _ _ _ _ (l .j) _ _ (omega (arith, c .before .before .before .before .before .before .before .before .before .pre .0)) (c .before .before .before .before .before .before .before .before .before .pre .0) (c .before .narrow .ensures) (l .inv .3) (c .before .before .pop-slot .ensures),
+      slot-open _ _ _ _ _ _ (l .inv .2) (p .0),
+      p .1,
+      noted-slot _ _ _ _ _ (l .inv .2) (l .inv .4) _ _ (p .0),
+      popping-on _ _ _ _ _ _ _ (l .j) _ _ (omega (arith, c .before .before .before .before .before .before .before .before .before .before .before .before .before .before .before .pre .0)) (c .before .before .before .before .before .before .before .before .before .before .before .before .before .before .before .pre .0 .2) (c .before .narrow .ensures) (l .inv .5) (p .0),
     )
 
-same-length : tie.Need-same-length Inv-loop μ-loop
-same-length c = search needs
+same-length-2 : tie.Need-same-length-2 Inv-loop μ-loop
+same-length-2 c = search needs
 
-returns : tie.Need-returns Inv-loop μ-loop
-returns c = popping-end _ _ _ _ _ _ (c .before .loop .j) (omega arith) (c .before .before .before .before .before .pre .0) (c .before .loop .inv .3)
+returns-2 : tie.Need-returns-2 Inv-loop μ-loop
+returns-2 c = popping-end _ _ _ _ _ _ (c .before .loop .j) (omega arith) (c .before .before .before .before .before .before .before .before .pre .0 .2) (c .before .loop .inv .5)
 
 pub pop-slots-spec : {M : Type 1} → statement M
 pop-slots-spec =
@@ -64,15 +107,23 @@ pop-slots-spec =
     (tie.spec
     Inv-loop
     μ-loop
+    newest-requires
     loop-holds
-    mul-pop-slot
-    shared-slice-read-pop-slot
-    pop-slot-requires
+    clear-behind-requires
+    same-length
+    returns
+    mul-slot-frame
+    shared-slice-read-slot-frame
+    slot-frame-requires
     narrow-requires
     mul-row
     slice-write-row
+    sub-below
+    below-requires
+    sub-cut
+    cut-requires
     add-j
     loop-less
     loop-again
-    same-length
-    returns)
+    same-length-2
+    returns-2)

@@ -1,9 +1,13 @@
 -- `push_for`: a frame of its name is cut with all above it, and the FOR is pushed. Assumes nothing.
 use borrow.Author.Needs.{needs}
 use native.Mathlib.Omega.{arith}
-use Rattle.wiring.specs.ForStackLaws.{open-wider, open-room, sought-fits, push-new, push-cut, cut-open}
+use Rattle.wiring.specs.FrameStackLaws.{room-below}
+use Rattle.wiring.specs.ForStackLaws.{open-wider, sought-fits, push-new, push-cut, cut-open}
 use Rattle.wiring.proofs.fors.push_for.Statement.{statement}
 use Rattle.wiring.proofs.fors.push_for.Tie as tie
+
+newest-requires : tie.Need-newest-requires
+newest-requires c κs = search needs
 
 mul-seek : tie.Need-mul-seek
 mul-seek c = search needs
@@ -15,10 +19,10 @@ shared-slice-read-seek : tie.Need-shared-slice-read-seek
 shared-slice-read-seek c = search needs
 
 seek-requires : tie.Need-seek-requires
-seek-requires c κs = open-wider _ _ (omega arith) (c .before .before .before .before .pre .1)
+seek-requires c κs = (open-wider _ _ (omega arith) (c .before .before .before .before .before .before .pre .1), c .before .newest .ensures)
 
 push-requires : tie.Need-push-requires
-push-requires c κs = (c .before .before .before .before .before .before .pre .0 .0, open-room _ _ (c .before .before .before .before .before .before .pre .1))
+push-requires c κs = (c .before .before .before .before .before .before .before .before .pre .0 .0, room-below _ _ (c .before .before .before .before .before .before .before .before .pre .1))
 
 returns : tie.Need-returns
 returns c = push-new _ _ _ _ _ (c .before .before .seek .ensures) (c .before .if1 .taken) (c .push .ensures)
@@ -27,10 +31,10 @@ sub-cut : tie.Need-sub-cut
 sub-cut c = search needs
 
 cut-requires : tie.Need-cut-requires
-cut-requires c κs = omega (arith, sought-fits _ _ _ _ _ (c .before .before .before .before .before .before .pre .1) (c .before .seek .ensures))
+cut-requires c κs = omega (arith, sought-fits _ _ _ _ _ (c .before .before .before .before .before .before .before .before .pre .1) (c .before .seek .ensures))
 
 push-requires-2 : tie.Need-push-requires-2
-push-requires-2 c κs = (c .before .before .before .before .before .before .before .pre .0 .0, open-room _ _ (cut-open _ _ _ _ _ _ (c .before .before .seek .ensures) (c .before .if1 .left) (c .cut .ensures) (c .before .before .before .before .before .before .before .pre .1)))
+push-requires-2 c κs = (c .before .before .before .before .before .before .before .before .before .pre .0 .0, room-below _ _ (cut-open _ _ _ _ _ _ (c .before .before .seek .ensures) (c .before .if1 .left) (c .cut .ensures) (c .before .before .before .before .before .before .before .before .before .pre .1)))
 
 returns-2 : tie.Need-returns-2
 returns-2 c = push-cut _ _ _ _ _ (c .before .before .before .seek .ensures) _ (c .before .before .if1 .left) (c .before .cut .ensures) (c .push2 .ensures)
@@ -39,6 +43,7 @@ pub push-for-spec : {M : Type 1} → statement M
 push-for-spec =
     tie.close
     (tie.spec
+    newest-requires
     mul-seek
     mul-seek-2
     shared-slice-read-seek

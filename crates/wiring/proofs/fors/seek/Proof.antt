@@ -3,26 +3,23 @@ use borrow.Author.Needs.{needs}
 use native.Mathlib.Omega.{arith}
 use Prim.Native.Nat.{_/_, _≤_}
 use lib.ListN.{length}
-use Rattle.wiring.specs.ForStackLaws.{Seeking, open-few, seek-start, seek-le, seek-none, seek-here, seek-on}
+use Rattle.wiring.specs.FrameStackLaws.{top-le}
+use Rattle.wiring.specs.ForStackLaws.{Seeking, open-few, seek-start, seek-none, seek-here, seek-on}
 use Rattle.wiring.proofs.fors.seek.Statement.{statement}
 use Rattle.wiring.proofs.fors.seek.Tie as tie
 
 abbrev Inv-loop : tie.InvT-loop
-Inv-loop args words v t₀ t = (t ≤ length args / 64) × (t ≤ 4096) × Seeking args v words t
+Inv-loop args words top v t₀ t = (t ≤ length args / 64) × (t ≤ 4096) × Seeking args v words t
 
 abbrev μ-loop : tie.MeasureT-loop
-μ-loop args words v t₀ t = t
-
-highest-requires : tie.Need-highest-requires Inv-loop μ-loop
-highest-requires c κs = search needs
+μ-loop args words top v t₀ t = t
 
 loop-holds : tie.Need-loop-holds Inv-loop μ-loop
 loop-holds c =
-    let a = c .before .before in
-    let h = c .highest in (
-      seek-le _ _ _ (h .ensures) (a .pre),
-      seek-le _ _ _ (h .ensures) (open-few (a .pre)),
-      seek-start (a .args .args .now) (a .args .v) (a .args .words .now) (h .result) (h .ensures),
+    let a = c .before in (
+      top-le _ _ _ (a .pre .0) (a .pre .1),
+      top-le _ _ _ (open-few (a .pre .0)) (a .pre .1),
+      seek-start (a .args .args .now) (a .args .v) (a .args .words .now) (a .args .top) (a .pre .1),
     )
 
 sub-k : tie.Need-sub-k Inv-loop μ-loop
@@ -65,7 +62,6 @@ seek-spec =
     (tie.spec
     Inv-loop
     μ-loop
-    highest-requires
     loop-holds
     sub-k
     mul-if1

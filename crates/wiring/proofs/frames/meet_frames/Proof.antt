@@ -1,10 +1,12 @@
 -- `meet_frames`: both stacks and the first column before node i. Assumes nothing.
 use borrow.Author.Needs.{needs}
 use Prim.Native.Nat.{_≤_, _-_}
-use mathlib.Core.Path.{_≡_, refl, _∙_}
+use mathlib.Core.Path.{_≡_, refl, sym, _∙_}
+use mathlib.Core.Logic.{⊎-elim}
 use native.Mathlib.Omega.{arith}
 use lib.ListN.{length}
-use Rattle.wiring.specs.FramePassLaws.{Meeting, meeting-start, meeting-next, meeting-end}
+use Rattle.wiring.specs.FramePass.{moveOf, FrameMoved}
+use Rattle.wiring.specs.FramePassLaws.{moved-none, Meeting, meeting-start, meeting-next, meeting-end}
 use Rattle.wiring.proofs.frames.meet_frames.Statement.{statement}
 use Rattle.wiring.proofs.frames.meet_frames.Tie as tie
 
@@ -35,14 +37,26 @@ shared-slice-read-word c = search needs
 loop-move-requires : tie.Need-loop-move-requires Inv-loop μ-loop
 loop-move-requires c κs = search needs
 
-frame-step-requires : tie.Need-frame-step-requires Inv-loop μ-loop
-frame-step-requires c κs = (omega arith, c .before .before .before .before .loop .inv .2 .loops)
+meet-frame-requires : tie.Need-meet-frame-requires Inv-loop μ-loop
+meet-frame-requires c κs = (omega arith, c .before .before .before .before .before .before .loop .inv .2 .loops)
+
+moves-requires : tie.Need-moves-requires Inv-loop μ-loop
+moves-requires c κs = search needs
+
+move-stack-requires : tie.Need-move-stack-requires Inv-loop μ-loop
+move-stack-requires c κs = (omega arith, c .before .before .before .before .before .before .before .before .before .before .before .loop .inv .2 .loops)
 
 do-move-requires : tie.Need-do-move-requires Inv-loop μ-loop
 do-move-requires c κs = search needs
 
-frame-step-requires-2 : tie.Need-frame-step-requires-2 Inv-loop μ-loop
-frame-step-requires-2 c κs = search needs
+meet-frame-requires-2 : tie.Need-meet-frame-requires-2 Inv-loop μ-loop
+meet-frame-requires-2 c κs = (search needs, c .before .before .before .before .before .before .before .before .before .before .before .before .before .before .before .loop .inv .2 .dos)
+
+moves-requires-2 : tie.Need-moves-requires-2 Inv-loop μ-loop
+moves-requires-2 c κs = search needs
+
+move-stack-requires-2 : tie.Need-move-stack-requires-2 Inv-loop μ-loop
+move-stack-requires-2 c κs = (omega arith, c .before .before .before .before .before .before .before .before .before .before .before .before .before .before .before .before .before .before .before .before .loop .inv .2 .dos)
 
 add-i : tie.Need-add-i Inv-loop μ-loop
 add-i c = search needs
@@ -52,12 +66,18 @@ loop-less c = search needs
 
 loop-again : tie.Need-loop-again Inv-loop μ-loop
 loop-again c =
-    let l = c .before .before .before .before .before .before .before .before .before .before .before .before .loop in
-    let s = c .before .before .before .before .before .before .before .frame-step in
-    let d = c .before .before .frame-step2 in (
+    let l = c .before .before .before .before .before .before .before .before .before .before .before .before .before .before .before .before .before .before .before .before .loop in
+    let m = c .before .before .before .before .before .before .before .before .before .before .before .before .before .before .before .before .before .loop-move in
+    let k = c .before .before .before .before .before .before .before .before .do-move in
+    let s = c .before .before .before .before .before .before .before .before .before .before .before .before .before .meet-frame in
+    let d = c .before .before .before .before .meet-frame2 in
+    let ml : FrameMoved (moveOf (m .result)) (l .i) (l .loops .words) (c .before .before .before .before .before .before .before .before .before .if1 .loops .words)
+    = ⊎-elim (λ w. rw (w .2) (w .1 .ensures)) (λ w. rw (w .1) (moved-none _ _ _ (sym (c .before .before .before .before .before .before .before .before .before .before .moves .ensures) ∙ w .0 .left))) (c .before .before .before .before .before .before .before .before .before .if1 .came) in
+    let md : FrameMoved (moveOf (k .result)) (l .i) (l .dos .words) (c .if2 .dos .words)
+    = ⊎-elim (λ w. rw (w .2) (w .1 .ensures)) (λ w. rw (w .1) (moved-none _ _ _ (sym (c .before .moves2 .ensures) ∙ w .0 .left))) (c .if2 .came) in (
       omega arith,
       d .kept .1 .1 .1 .0 ∙ s .kept .1 .1 .1 .0 ∙ l .inv .1,
-      meeting-next _ _ _ _ _ _ _ _ _ (l .i) _ _ _ (c .before .before .before .before .before .before .before .before .before .before .before .loop-test .taken) refl (c .before .before .before .before .before .before .before .before .before .loop-move .ensures) (c .before .before .before .before .do-move .ensures) (omega (arith, l .inv .1, c .before .before .before .before .before .before .before .before .before .before .before .before .before .before .before .before .before .pre .0)) (s .ensures) (d .ensures) (l .inv .2),
+      meeting-next _ _ _ _ _ _ _ _ _ (l .i) _ _ _ (c .before .before .before .before .before .before .before .before .before .before .before .before .before .before .before .before .before .before .before .loop-test .taken) refl (m .ensures) (k .ensures) (omega (arith, l .inv .1, c .before .before .before .before .before .before .before .before .before .before .before .before .before .before .before .before .before .before .before .before .before .before .before .before .before .pre .0)) (record { held = ml; written = s .ensures }) (record { held = md; written = d .ensures }) (l .inv .2),
     )
 
 same-length : tie.Need-same-length Inv-loop μ-loop
@@ -79,9 +99,13 @@ meet-frames-spec =
     mul-word-2
     shared-slice-read-word
     loop-move-requires
-    frame-step-requires
+    meet-frame-requires
+    moves-requires
+    move-stack-requires
     do-move-requires
-    frame-step-requires-2
+    meet-frame-requires-2
+    moves-requires-2
+    move-stack-requires-2
     add-i
     loop-less
     loop-again

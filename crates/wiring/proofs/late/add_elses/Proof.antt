@@ -3,6 +3,7 @@ use borrow.Author.Needs.{needs}
 use native.Mathlib.Omega.{arith}
 use lib.ListN.{length}
 use Rattle.wiring.specs.ChainLaws.{chainLeft, Walk, walk-start, walk-visit, walk-next, walk-end}
+use Rattle.wiring.specs.FitLaws.{fits-room, fits-next}
 use Rattle.wiring.proofs.late.add_elses.Statement.{statement}
 use Rattle.wiring.proofs.late.add_elses.Tie as tie
 
@@ -18,33 +19,33 @@ loop-holds c = let s = c .before .before .before in walk-start _ _ _ _ _ (s .pre
 sub-j : tie.Need-sub-j Inv-loop μ-loop
 sub-j c = search needs
 
-mul-add-fitting : tie.Need-mul-add-fitting Inv-loop μ-loop
-mul-add-fitting c =
+mul-add-node : tie.Need-mul-add-node Inv-loop μ-loop
+mul-add-node c =
     let a = c .before .before .before .before .before .before .args in
     let l = c .before .before .loop in
     let v = walk-visit (a .falls .now) (a .frames .now) (a .first) (a .part .now) (a .n) (l .part) (l .r) (l .c) (c .before .loop-test .taken) (l .inv) in
     omega (arith, v .there)
 
-mul-add-fitting-2 : tie.Need-mul-add-fitting-2 Inv-loop μ-loop
-mul-add-fitting-2 c =
+mul-add-node-2 : tie.Need-mul-add-node-2 Inv-loop μ-loop
+mul-add-node-2 c =
     let a = c .before .before .before .before .before .before .args in
     let l = c .before .before .loop in
     let v = walk-visit (a .falls .now) (a .frames .now) (a .first) (a .part .now) (a .n) (l .part) (l .r) (l .c) (c .before .loop-test .taken) (l .inv) in
     omega (arith, v .there)
 
-shared-slice-read-add-fitting : tie.Need-shared-slice-read-add-fitting Inv-loop μ-loop
-shared-slice-read-add-fitting c =
+shared-slice-read-add-node : tie.Need-shared-slice-read-add-node Inv-loop μ-loop
+shared-slice-read-add-node c =
     let a = c .before .before .before .before .before .before .before .args in
     let l = c .before .before .before .loop in
     let v = walk-visit (a .falls .now) (a .frames .now) (a .first) (a .part .now) (a .n) (l .part) (l .r) (l .c) (c .before .before .loop-test .taken) (l .inv) in
     v .there
 
-add-fitting-requires : tie.Need-add-fitting-requires Inv-loop μ-loop
-add-fitting-requires c κs =
+add-node-requires : tie.Need-add-node-requires Inv-loop μ-loop
+add-node-requires c κs =
     let a = c .before .before .before .before .before .before .before .args in
     let l = c .before .before .before .loop in
     let v = walk-visit (a .falls .now) (a .frames .now) (a .first) (a .part .now) (a .n) (l .part) (l .r) (l .c) (c .before .before .loop-test .taken) (l .inv) in
-    (l .inv .fits, v .leads)
+    fits-room (l .part) (l .r) _ (l .inv .fits) (v .leads)
 
 mul-wide : tie.Need-mul-wide Inv-loop μ-loop
 mul-wide c =
@@ -88,8 +89,11 @@ loop-again : tie.Need-loop-again Inv-loop μ-loop
 loop-again c =
     let a = c .before .before .before .before .before .before .before .before .before .before .before .before .args in
     let l = c .before .before .before .before .before .before .before .before .loop in
-    let s = c .before .before .before .before .add-fitting in
-    walk-next (a .falls .now) (a .frames .now) (a .first) (a .part .now) (a .n) (l .part) (l .r) (l .c) (c .wide .result) (s .result) _ (c .before .before .before .before .before .before .before .loop-test .taken) (s .ensures .0) (s .ensures .1) (s .kept .0)
+    let t = c .before .before .before .before .before .before .before .loop-test .taken in
+    let v = walk-visit (a .falls .now) (a .frames .now) (a .first) (a .part .now) (a .n) (l .part) (l .r) (l .c) t (l .inv) in
+    let s = c .before .before .before .before .add-node in
+    let f = fits-next (l .part) (s .last .0) (l .r) (s .result) _ (l .inv .fits) (v .leads) (s .kept .0) (s .ensures) in
+    walk-next (a .falls .now) (a .frames .now) (a .first) (a .part .now) (a .n) (l .part) (l .r) (l .c) (c .wide .result) (s .result) _ t (s .ensures .added) f (s .kept .0)
     (c .wide .ensures) (l .inv)
 
 same-length : tie.Need-same-length Inv-loop μ-loop
@@ -109,10 +113,10 @@ add-elses-spec =
     μ-loop
     loop-holds
     sub-j
-    mul-add-fitting
-    mul-add-fitting-2
-    shared-slice-read-add-fitting
-    add-fitting-requires
+    mul-add-node
+    mul-add-node-2
+    shared-slice-read-add-node
+    add-node-requires
     mul-wide
     add-wide
     mul-wide-2

@@ -2,6 +2,7 @@
 use borrow.Author.Needs.{needs}
 use native.Mathlib.Omega.{arith}
 use Rattle.wiring.specs.ChainLaws.{fall-fits, fall-none, fall-some}
+use Rattle.wiring.specs.FitLaws.{fits-room, fits-next}
 use Rattle.wiring.proofs.late.add_fall.Statement.{statement}
 use Rattle.wiring.proofs.late.add_fall.Tie as tie
 
@@ -11,17 +12,19 @@ returns c = let s = c .before .before .before in (fall-none (s .args .falls .now
 sub-j : tie.Need-sub-j
 sub-j c = search needs
 
-mul-add-fitting : tie.Need-mul-add-fitting
-mul-add-fitting c = let s = c .before .before .before .before in omega (arith, fall-fits (s .args .falls .now) _ (s .args .c) (c .before .if1 .left) (s .pre .1) .0)
+mul-add-node : tie.Need-mul-add-node
+mul-add-node c = let s = c .before .before .before .before in omega (arith, fall-fits (s .args .falls .now) _ (s .args .c) (c .before .if1 .left) (s .pre .1) .0)
 
-mul-add-fitting-2 : tie.Need-mul-add-fitting-2
-mul-add-fitting-2 c = let s = c .before .before .before .before in omega (arith, fall-fits (s .args .falls .now) _ (s .args .c) (c .before .if1 .left) (s .pre .1) .0)
+mul-add-node-2 : tie.Need-mul-add-node-2
+mul-add-node-2 c = let s = c .before .before .before .before in omega (arith, fall-fits (s .args .falls .now) _ (s .args .c) (c .before .if1 .left) (s .pre .1) .0)
 
-shared-slice-read-add-fitting : tie.Need-shared-slice-read-add-fitting
-shared-slice-read-add-fitting c = let s = c .before .before .before .before .before in fall-fits (s .args .falls .now) _ (s .args .c) (c .before .before .if1 .left) (s .pre .1) .0
+shared-slice-read-add-node : tie.Need-shared-slice-read-add-node
+shared-slice-read-add-node c = let s = c .before .before .before .before .before in fall-fits (s .args .falls .now) _ (s .args .c) (c .before .before .if1 .left) (s .pre .1) .0
 
-add-fitting-requires : tie.Need-add-fitting-requires
-add-fitting-requires c κs = let s = c .before .before .before .before .before in (s .pre .0, fall-fits (s .args .falls .now) _ (s .args .c) (c .before .before .if1 .left) (s .pre .1) .1)
+add-node-requires : tie.Need-add-node-requires
+add-node-requires c κs =
+    let s = c .before .before .before .before .before in
+    fits-room (s .args .part .now) (s .args .n) _ (s .pre .0) (fall-fits (s .args .falls .now) _ (s .args .c) (c .before .before .if1 .left) (s .pre .1) .1)
 
 same-length : tie.Need-same-length
 same-length c = search needs
@@ -29,8 +32,11 @@ same-length c = search needs
 returns-2 : tie.Need-returns-2
 returns-2 c =
     let s = c .before .before .before .before .before .before .before .before in
-    let a = c .before .before .add-fitting .ensures in
-    (fall-some (s .args .falls .now) _ _ _ _ (s .args .c) (c .before .before .before .before .before .if1 .left) (a .0), a .1)
+    let a = c .before .before .add-node in
+    let z = c .before .before .before .before .before .if1 .left in (
+      fall-some (s .args .falls .now) _ _ _ _ (s .args .c) z (a .ensures .added),
+      fits-next (s .args .part .now) (a .last .0) (s .args .n) (a .result) _ (s .pre .0) (fall-fits (s .args .falls .now) _ (s .args .c) z (s .pre .1) .1) (a .kept .0) (a .ensures),
+    )
 
 pub add-fall-spec : {M : Type 1} → statement M
 add-fall-spec =
@@ -38,9 +44,9 @@ add-fall-spec =
     (tie.spec
     returns
     sub-j
-    mul-add-fitting
-    mul-add-fitting-2
-    shared-slice-read-add-fitting
-    add-fitting-requires
+    mul-add-node
+    mul-add-node-2
+    shared-slice-read-add-node
+    add-node-requires
     same-length
     returns-2)

@@ -6,6 +6,7 @@ use Prim.Native.Nat.{_-_, _≤_}
 use lib.ListN.{length, take}
 use Rattle.graph.specs.Lists.{each}
 use Rattle.wiring.specs.Growing.{Grows, each-start, each-on, each-end}
+use Rattle.wiring.specs.AddedAgain.{grows-in}
 use Rattle.wiring.specs.NextBodies.{slotBodies, slot-room}
 use Rattle.wiring.proofs.nexts.add_slots.Statement.{statement}
 use Rattle.wiring.proofs.nexts.add_slots.Tie as tie
@@ -19,17 +20,12 @@ abbrev μ-loop : tie.MeasureT-loop
 loop-holds : tie.Need-loop-holds Inv-loop μ-loop
 loop-holds c = let a = c .before .before .before .before .before .args in (omega arith, refl, each-start (slotBodies (a .args .now) (a .falls .now) (a .fors .now)) (a .keys .now) _ _)
 
-mul-add-slot : tie.Need-mul-add-slot Inv-loop μ-loop
-mul-add-slot c = search needs
-
-shared-slice-read-add-slot : tie.Need-shared-slice-read-add-slot Inv-loop μ-loop
-shared-slice-read-add-slot c = search needs
-
-add-slot-requires : tie.Need-add-slot-requires Inv-loop μ-loop
-add-slot-requires c κs =
-    let a = c .before .before .before .before .before .before .before .before .before .args in
-    let l = c .before .before .before .loop in
-    slot-room (a .args .now) (a .falls .now) (a .fors .now) (a .keys .now) (a .part .now) _ (a .n) _ (l .k) (c .before .before .before .before .before .before .before .before .before .pre) (l .inv .2)
+add-new-slot-requires : tie.Need-add-new-slot-requires Inv-loop μ-loop
+add-new-slot-requires c κs =
+    let p = c .before .before .before .before .before .before .before .before in
+    let a = p .args in
+    let l = c .before .before .loop in
+    (slot-room (a .args .now) (a .falls .now) (a .fors .now) (a .keys .now) (a .part .now) _ (a .n) _ (l .k) (p .pre) (l .inv .2), (search needs, grows-in _ _ _ _ _ (l .inv .2)))
 
 add-k : tie.Need-add-k Inv-loop μ-loop
 add-k c = search needs
@@ -39,9 +35,9 @@ loop-less c = search needs
 
 loop-again : tie.Need-loop-again Inv-loop μ-loop
 loop-again c =
-    let a = c .before .before .before .before .before .before .before .before .before .before .before .before .args in
-    let l = c .before .before .before .before .before .before .loop in
-    (search needs, search needs, each-on (slotBodies (a .args .now) (a .falls .now) (a .fors .now)) (a .keys .now) _ _ _ _ _ _ (l .k) (c .before .before .before .before .before .loop-test .taken) (l .inv .2) (c .before .before .add-slot .ensures))
+    let a = c .before .before .before .before .before .before .before .before .before .before .before .args in
+    let l = c .before .before .before .before .before .loop in
+    (search needs, search needs, each-on (slotBodies (a .args .now) (a .falls .now) (a .fors .now)) (a .keys .now) _ _ _ _ _ _ (l .k) (c .before .before .before .before .loop-test .taken) (l .inv .2) (c .before .before .add-new-slot .ensures))
 
 same-length : tie.Need-same-length Inv-loop μ-loop
 same-length c = search needs
@@ -59,9 +55,7 @@ add-slots-spec =
     Inv-loop
     μ-loop
     loop-holds
-    mul-add-slot
-    shared-slice-read-add-slot
-    add-slot-requires
+    add-new-slot-requires
     add-k
     loop-less
     loop-again

@@ -1,6 +1,8 @@
 -- `join_called`: an entry without its mark has no calls; any other has its region walked. Assumes nothing.
 use borrow.Author.Needs.{needs}
 use borrow.Author.Tests.{not-true}
+use mathlib.Core.Path.{sym}
+use lib.Seq.{length-take-le}
 use Rattle.graph.specs.Graph.{skipSteps}
 use Rattle.wiring.specs.RegionLaws.{unmarked-joined}
 use Rattle.wiring.proofs.regions.join_called.Statement.{statement}
@@ -11,7 +13,7 @@ element-copy-out-if1 c = search needs
 
 returns : tie.Need-returns
 returns c =
-    let s = c .before .before .before .before .before .before .before .before .before in
+    let s = c .before .before .before .before .before .before .before .before .before .before in
     let a = s .args in
     λ W r t.
     unmarked-joined (a .stmts .now) (a .falls .now) (a .links .now) (a .n) (a .e) (a .calls .now) (a .called .now) _ (s .pre .0 .calls-ready .listed) (s .pre .0 .marked)
@@ -20,14 +22,23 @@ returns c =
 region-requires : tie.Need-region-requires
 region-requires c κs = search needs
 
+slice-reshare-prefix-join-region : tie.Need-slice-reshare-prefix-join-region
+slice-reshare-prefix-join-region c = search needs
+
+slice-aggregate-join-region : tie.Need-slice-aggregate-join-region
+slice-aggregate-join-region c = sym (length-take-le _ _ (c .before .before .before .region .ensures .within))
+
 join-region-requires : tie.Need-join-region-requires
 join-region-requires c κs = search needs
 
 same-length : tie.Need-same-length
 same-length c = search needs
 
+same-length-2 : tie.Need-same-length-2
+same-length-2 c = search needs
+
 returns-2 : tie.Need-returns-2
-returns-2 c = λ W s t. c .before .before .join-region .ensures W s (c .before .before .before .before .before .region .ensures (skipSteps W) t)
+returns-2 c = λ W s t. c .before .before .join-region .ensures W s (c .before .before .before .before .before .before .before .region .ensures .reached (skipSteps W) t)
 
 pub join-called-spec : {M : Type 1} → statement M
 join-called-spec =
@@ -36,6 +47,9 @@ join-called-spec =
     element-copy-out-if1
     returns
     region-requires
+    slice-reshare-prefix-join-region
+    slice-aggregate-join-region
     join-region-requires
     same-length
+    same-length-2
     returns-2)

@@ -1,11 +1,11 @@
--- `join_region`: the continuations of the calls of the entry, joined into the marked RETURNs. Assumes nothing.
+-- `join_region`: the continuations of the calls of the entry, joined into the RETURNs of its list. Assumes nothing.
 use borrow.Author.Needs.{needs}
-use Rattle.wiring.specs.RegionLaws.{marked-joined}
+use Rattle.wiring.specs.RegionLaws.{listed-joined}
 use Rattle.wiring.proofs.regions.join_region.Statement.{statement}
 use Rattle.wiring.proofs.regions.join_region.Tie as tie
 
-no-backs-requires : tie.Need-no-backs-requires
-no-backs-requires c κs = search needs
+no-words-requires : tie.Need-no-words-requires
+no-words-requires c κs = search needs
 
 slice-aggregate-add-backs : tie.Need-slice-aggregate-add-backs
 slice-aggregate-add-backs c = search needs
@@ -24,16 +24,16 @@ same-length c = search needs
 
 returns : tie.Need-returns
 returns c =
-    let s = c .before .before .before .before .before .before .before .before .before .before .before .before .before .before in
+    let s = c .before .before .before .before .before .before .before .before .before .before .before .before .before .before .before in
     let a = s .args in
-    marked-joined (a .stmts .now) (a .falls .now) (a .links .now) (a .n) (a .e) (a .marks .now) (c .before .before .before .before .before .before .before .before .no-backs .result) _ (a .calls .now) (a .sets .now) _ (c .before .before .before .before .before .before .before .before .no-backs .ensures)
-    (s .pre .0) (s .pre .2) (c .before .before .before .before .before .before .add-backs .ensures) (c .before .before .join-returns .ensures)
+    listed-joined (a .stmts .now) (a .falls .now) (a .links .now) (a .n) (a .e) (a .list .now) (c .before .before .before .before .before .before .before .before .no-words .result) _ (a .calls .now) (a .sets .now) _ (c .before .before .before .before .before .before .before .before .no-words .ensures)
+    (s .pre .0) (c .before .before .before .before .before .before .add-backs .ensures) (c .before .before .join-returns .ensures)
 
 pub join-region-spec : {M : Type 1} → statement M
 join-region-spec =
     tie.close
     (tie.spec
-    no-backs-requires
+    no-words-requires
     slice-aggregate-add-backs
     add-backs-requires
     slice-aggregate-join-returns

@@ -20,10 +20,10 @@ list-calls-requires : tie.Need-list-calls-requires
 list-calls-requires c κs = search needs
 
 array-share-prefix-buffer : tie.Need-array-share-prefix-buffer
-array-share-prefix-buffer c = omega (arith, c .before .list-calls .ensures .count, calls-few (c .before .before .before .before .before .before .before .before .before .before .args .stmts .now) (c .before .before .before .before .before .before .before .before .before .before .args .n), c .before .before .before .before .before .before .before .before .before .before .pre .roles .few, c .before .before .before .no-work .ensures)
+array-share-prefix-buffer c = let s = c .before .before .before .before .before .before .before .before .before .before in omega (arith, c .before .list-calls .ensures .count, calls-few (s .args .stmts .now) (s .args .n), s .pre .roles .few, c .before .before .before .no-work .ensures)
 
 slice-aggregate-calls : tie.Need-slice-aggregate-calls
-slice-aggregate-calls c = sym (length-take-le _ _ (omega (arith, c .before .before .list-calls .ensures .count, calls-few (c .before .before .before .before .before .before .before .before .before .before .before .args .stmts .now) (c .before .before .before .before .before .before .before .before .before .before .before .args .n), c .before .before .before .before .before .before .before .before .before .before .before .pre .roles .few, c .before .before .before .before .no-work .ensures)))
+slice-aggregate-calls c = let s = c .before .before .before .before .before .before .before .before .before .before .before in sym (length-take-le _ _ (omega (arith, c .before .before .list-calls .ensures .count, calls-few (s .args .stmts .now) (s .args .n), s .pre .roles .few, c .before .before .before .before .no-work .ensures)))
 
 no-marks-requires : tie.Need-no-marks-requires
 no-marks-requires c κs = search needs
@@ -34,24 +34,32 @@ mark-called-requires c κs =
     let r = calls-ready (s .pre .wired) (s .args .stmts .now) (s .args .falls .now) (s .args .links .now) (s .args .n) _ (s .pre .roles) (c .before .before .before .before .list-calls .ensures .list) in
     (targets-fit (r .fit), ap length (c .before .no-marks .ensures) ∙ length-replicate 4096 false)
 
+no-work-requires-2 : tie.Need-no-work-requires-2
+no-work-requires-2 c κs = search needs
+
+slice-aggregate-join-entries : tie.Need-slice-aggregate-join-entries
+slice-aggregate-join-entries c = search needs
+
 join-entries-requires : tie.Need-join-entries-requires
 join-entries-requires c κs =
-    let s = c .before .before .before .before .before .before .before .before .before .before .before .before .before .before .before .before in
-    record {
-      calls-ready = calls-ready (s .pre .wired) (s .args .stmts .now) (s .args .falls .now) (s .args .links .now) (s .args .n) _ (s .pre .roles) (c .before .before .before .before .before .before .before .list-calls .ensures .list);
-      marked = c .before .before .mark-called .ensures .covers;
-      stored = stored-own (s .pre .stored);
-      in-sets = s .pre .in-sets;
-    }
+    let s = c .before .before .before .before .before .before .before .before .before .before .before .before .before .before .before .before .before .before in (
+      record {
+        calls-ready = calls-ready (s .pre .wired) (s .args .stmts .now) (s .args .falls .now) (s .args .links .now) (s .args .n) _ (s .pre .roles) (c .before .before .before .before .before .before .before .before .before .list-calls .ensures .list);
+        marked = c .before .before .before .before .mark-called .ensures .covers;
+        stored = stored-own (s .pre .stored);
+        in-sets = s .pre .in-sets;
+      },
+      c .before .before .before .no-work2 .ensures,
+    )
 
 same-length : tie.Need-same-length
 same-length c = search needs
 
 returns : tie.Need-returns
 returns c =
-    let s = c .before .before .before .before .before .before .before .before .before .before .before .before .before .before .before .before .before .before .before in
+    let s = c .before .before .before .before .before .before .before .before .before .before .before .before .before .before .before .before .before .before .before .before .before .before in
     λ W r t.
-    regions-end W (s .args .stmts .now) (s .args .falls .now) (s .args .links .now) (s .args .n) (s .args .sets .now) _ r (s .pre .in-sets) (s .pre .clear) (c .before .before .join-entries .ensures W r t)
+    regions-end W (s .args .stmts .now) (s .args .falls .now) (s .args .links .now) (s .args .n) (s .args .sets .now) _ r (s .pre .in-sets) (s .pre .clear) (c .before .before .before .join-entries .ensures W r t)
 
 pub region-return-edges-spec : {M : Type 1} → statement M
 region-return-edges-spec =
@@ -64,6 +72,8 @@ region-return-edges-spec =
     slice-aggregate-calls
     no-marks-requires
     mark-called-requires
+    no-work-requires-2
+    slice-aggregate-join-entries
     join-entries-requires
     same-length
     returns)

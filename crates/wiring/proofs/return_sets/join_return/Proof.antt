@@ -1,21 +1,16 @@
 -- `join_return`: one node's set, lent on as the part that it is. Assumes nothing.
 use Prim.Native.Nat.{_+_, _-_, _*_}
-use borrow.Author.Tests.{not-true, not-false}
 use mathlib.Core.Path.{_≡_}
 use native.Mathlib.Omega.{arith}
-use Rattle.wiring.specs.ReturnSetLaws.{is-marked-return, no-mark, no-return, return-kept, return-joined}
+use Rattle.wiring.specs.ReturnSetLaws.{return-other, return-joined}
 use borrow.Author.Needs.{needs}
 use Rattle.wiring.proofs.return_sets.join_return.Statement.{statement}
 use Rattle.wiring.proofs.return_sets.join_return.Tie as tie
 
-element-copy-out-if1 : tie.Need-element-copy-out-if1
-element-copy-out-if1 c = search needs
-
 returns : tie.Need-returns
 returns c =
-    let s = c .before .before .before .before .before in
-    return-kept (s .args .stmts .now) (s .args .marks .now) (s .args .backs .now) (s .args .i) (s .args .sets .now)
-    (no-mark (s .args .stmts .now) (s .args .marks .now) (s .args .i) (not-true _ (c .if1 .taken)))
+    let s = c .before .before .before .before in
+    return-other (s .args .stmts .now) (s .args .n) (s .args .backs .now) (s .args .i) (s .args .sets .now) (λ h. omega (arith, h .0))
 
 mul-if2 : tie.Need-mul-if2
 mul-if2 c = search needs
@@ -28,9 +23,8 @@ shared-slice-read-if2 c = search needs
 
 returns-2 : tie.Need-returns-2
 returns-2 c =
-    let s = c .before .before .before .before .before .before .before in
-    return-kept (s .args .stmts .now) (s .args .marks .now) (s .args .backs .now) (s .args .i) (s .args .sets .now)
-    (no-return (s .args .stmts .now) (s .args .marks .now) (s .args .i) (c .if2 .taken))
+    let s = c .before .before .before .before .before .before in
+    return-other (s .args .stmts .now) (s .args .n) (s .args .backs .now) (s .args .i) (s .args .sets .now) (λ h. c .if2 .taken (h .1))
 
 mul-start : tie.Need-mul-start
 mul-start c = search needs
@@ -58,17 +52,15 @@ same-length c = search needs
 
 returns-3 : tie.Need-returns-3
 returns-3 c =
-    let s = c .before .before .before .before .before .before .before .before .before .before .before in
+    let s = c .before .before .before .before .before .before .before .before .before .before in
     let k : s .args .i * 64 + 64 - s .args .i * 64 ≡ 64 = omega arith in
-    return-joined (s .args .stmts .now) (s .args .marks .now) (s .args .backs .now) (s .args .i) _ (s .args .sets .now) (c .before .before .join .last .0)
-    (is-marked-return (s .args .stmts .now) (s .args .marks .now) (s .args .i) (not-false _ (c .before .before .before .before .before .before .if1 .left)) (c .before .before .before .before .if2 .left)) k
-    (omega (arith, s .pre .2)) (s .pre .3) (c .before .before .join .ensures)
+    return-joined (s .args .stmts .now) (s .args .n) (s .args .backs .now) (s .args .i) _ (s .args .sets .now) (c .before .before .join .last .0)
+    (omega (arith, c .before .before .before .before .before .before .if1 .left), c .before .before .before .before .if2 .left) (s .pre .2) k (s .pre .3) (c .before .before .join .ensures)
 
 pub join-return-spec : {M : Type 1} → statement M
 join-return-spec =
     tie.close
     (tie.spec
-    element-copy-out-if1
     returns
     mul-if2
     mul-if2-2

@@ -1,7 +1,8 @@
--- `join_returns`: the first i nodes are done. Assumes nothing.
+-- `join_returns`: the first k nodes of the list are done. Assumes nothing.
 use Prim.Native.Nat.{_-_, _≤_}
-use mathlib.Core.Path.{_≡_}
 use native.Mathlib.Omega.{arith}
+use lib.ListN.{length, take}
+use lib.Seq.{take-all}
 use Rattle.wiring.specs.ReturnSets.{ReturnsJoined}
 use Rattle.wiring.specs.ReturnSetLaws.{returns-none, returns-more}
 use borrow.Author.Needs.{needs}
@@ -9,41 +10,47 @@ use Rattle.wiring.proofs.return_sets.join_returns.Statement.{statement}
 use Rattle.wiring.proofs.return_sets.join_returns.Tie as tie
 
 abbrev Inv-loop : tie.InvT-loop
-Inv-loop stmts n marks backs sets₀ i₀ sets i = (i ≤ n) × ReturnsJoined stmts i marks backs sets₀ sets
+Inv-loop stmts n list backs sets₀ k₀ sets k = (k ≤ length list) × ReturnsJoined stmts n (take k list) backs sets₀ sets
 
 abbrev μ-loop : tie.MeasureT-loop
-μ-loop stmts n marks backs sets₀ i₀ sets i = n - i
+μ-loop stmts n list backs sets₀ k₀ sets k = length list - k
 
 loop-holds : tie.Need-loop-holds Inv-loop μ-loop
-loop-holds c = (omega arith, returns-none _ _ _ _)
+loop-holds c = let a = c .before .before .before .before .args in (omega arith, returns-none (a .stmts .now) (a .n) (a .backs .now) (a .list .now) _)
+
+mul-wide : tie.Need-mul-wide Inv-loop μ-loop
+mul-wide c = search needs
+
+shared-slice-read-wide : tie.Need-shared-slice-read-wide Inv-loop μ-loop
+shared-slice-read-wide c = search needs
+
+wide-requires : tie.Need-wide-requires Inv-loop μ-loop
+wide-requires c κs = search needs
 
 join-return-requires : tie.Need-join-return-requires Inv-loop μ-loop
 join-return-requires c κs =
-    let s = c .before .before .before .before .before .before in
-    let l = c .before .before .loop in
-    (omega arith, omega arith, omega (arith, l .inv .1 .size), s .pre .3)
+    let s = c .before .before .before .before .before .before .before .before .before in
+    (s .pre .0, s .pre .1, omega (arith, c .before .before .before .before .loop .inv .1 .size, s .pre .2), s .pre .3)
 
-add-i : tie.Need-add-i Inv-loop μ-loop
-add-i c = search needs
+add-k : tie.Need-add-k Inv-loop μ-loop
+add-k c = search needs
 
 loop-less : tie.Need-loop-less Inv-loop μ-loop
 loop-less c = search needs
 
 loop-again : tie.Need-loop-again Inv-loop μ-loop
 loop-again c =
-    let s = c .before .before .before .before .before .before .before .before .before in
-    let l = c .before .before .before .before .before .loop in
-    (omega arith, returns-more (s .args .stmts .now) (s .args .marks .now) (s .args .backs .now) (l .i) (s .args .sets .now) (l .sets) _ (l .inv .1) (c .before .before .join-return .ensures))
+    let a = c .before .before .before .before .before .before .before .before .before .before .before .before .args in
+    let l = c .before .before .before .before .before .before .before .loop in
+    (omega arith, returns-more (a .stmts .now) (a .n) (a .backs .now) (a .list .now) (l .k) (c .before .before .before .before .wide .result) (a .sets .now) (l .sets) _ (c .before .before .before .before .before .before .loop-test .taken) (c .before .before .before .before .wide .ensures) (l .inv .1) (c .before .before .join-return .ensures))
 
 same-length : tie.Need-same-length Inv-loop μ-loop
 same-length c = c .before .loop .inv .1 .size
 
 returns : tie.Need-returns Inv-loop μ-loop
 returns c =
-    let s = c .before .before .before .before .before in
     let l = c .before .loop in
-    let e : l .i ≡ s .args .n = omega arith in
-    rw e at (l .inv .1)
+    rw (take-all (l .k) (c .before .before .before .before .before .before .args .list .now) (omega arith)) at (l .inv .1)
 
 pub join-returns-spec : {M : Type 1} → statement M
 join-returns-spec =
@@ -52,8 +59,11 @@ join-returns-spec =
     Inv-loop
     μ-loop
     loop-holds
+    mul-wide
+    shared-slice-read-wide
+    wide-requires
     join-return-requires
-    add-i
+    add-k
     loop-less
     loop-again
     same-length

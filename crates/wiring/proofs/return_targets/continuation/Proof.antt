@@ -1,17 +1,21 @@
 -- `continuation`: by the opening word. Assumes nothing.
-use Rattle.wiring.specs.ReturnTargets.{continuation-gosub, continuation-ongosub, continuation-none}
 use borrow.Author.Needs.{needs}
+use mathlib.Core.Path.{sym, _∙_}
+use Rattle.wiring.specs.ReturnTargets.{continuation-call, continuation-none}
 use Rattle.wiring.proofs.return_targets.continuation.Statement.{statement}
 use Rattle.wiring.proofs.return_targets.continuation.Tie as tie
 
-mul-word : tie.Need-mul-word
-mul-word c = search needs
+mul-is-call : tie.Need-mul-is-call
+mul-is-call c = search needs
 
-mul-word-2 : tie.Need-mul-word-2
-mul-word-2 c = search needs
+mul-is-call-2 : tie.Need-mul-is-call-2
+mul-is-call-2 c = search needs
 
-shared-slice-read-word : tie.Need-shared-slice-read-word
-shared-slice-read-word c = search needs
+shared-slice-read-is-call : tie.Need-shared-slice-read-is-call
+shared-slice-read-is-call c = search needs
+
+is-call-requires : tie.Need-is-call-requires
+is-call-requires c κs = search needs
 
 mul-result : tie.Need-mul-result
 mul-result c = search needs
@@ -24,41 +28,24 @@ shared-slice-read-result c = search needs
 
 returns : tie.Need-returns
 returns c =
-    let s = c .before .before .before in
-    continuation-gosub (s .args .stmts .now) (s .args .falls .now) (s .args .i) (c .before .if1 .taken)
-
-mul-result-3 : tie.Need-mul-result-3
-mul-result-3 c = search needs
-
-mul-result-4 : tie.Need-mul-result-4
-mul-result-4 c = search needs
-
-shared-slice-read-result-2 : tie.Need-shared-slice-read-result-2
-shared-slice-read-result-2 c = search needs
+    let a = c .before .before .before .before .before .before .args in
+    continuation-call (a .stmts .now) (a .falls .now) (a .i) (sym (c .before .before .is-call .ensures) ∙ c .before .if1 .taken)
 
 returns-2 : tie.Need-returns-2
 returns-2 c =
-    let s = c .before .before .before .before in
-    continuation-ongosub (s .args .stmts .now) (s .args .falls .now) (s .args .i) (c .before .if2 .taken)
-
-returns-3 : tie.Need-returns-3
-returns-3 c =
-    let s = c .before .before .before in
-    continuation-none (s .args .stmts .now) (s .args .falls .now) (s .args .i) (c .before .if1 .left) (c .if2 .left)
+    let a = c .before .before .before .before .before .args in
+    continuation-none (a .stmts .now) (a .falls .now) (a .i) (sym (c .before .is-call .ensures) ∙ c .if1 .left)
 
 pub continuation-spec : {M : Type 1} → statement M
 continuation-spec =
     tie.close
     (tie.spec
-    mul-word
-    mul-word-2
-    shared-slice-read-word
+    mul-is-call
+    mul-is-call-2
+    shared-slice-read-is-call
+    is-call-requires
     mul-result
     mul-result-2
     shared-slice-read-result
     returns
-    mul-result-3
-    mul-result-4
-    shared-slice-read-result-2
-    returns-2
-    returns-3)
+    returns-2)

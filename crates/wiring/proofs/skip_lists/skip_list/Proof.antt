@@ -1,10 +1,10 @@
--- `skip_list`: by the tests that the node's word and fall pass. Assumes nothing.
-use mathlib.Core.Path.{_≡_, refl, sym, _∙_}
+-- `skip_list`: by the test that the node's word passes. Assumes nothing.
+use mathlib.Core.Path.{_≡_, sym, _∙_}
 use mathlib.Core.Bool.{true, false}
 use native.Mathlib.Omega.{arith}
 use borrow.Author.Needs.{needs}
 use Rattle.wiring.specs.Prepared.{callWord, wordOf}
-use Rattle.wiring.specs.SkipLists.{skip-same, skip-none, skip-one}
+use Rattle.wiring.specs.SkipLists.{skip-same, skip-fall}
 use Rattle.wiring.proofs.skip_lists.skip_list.Statement.{statement}
 use Rattle.wiring.proofs.skip_lists.skip_list.Tie as tie
 
@@ -20,59 +20,25 @@ shared-slice-read-is-call c = search needs
 is-call-requires : tie.Need-is-call-requires
 is-call-requires c κs = search needs
 
-mul-t : tie.Need-mul-t
-mul-t c = search needs
-
-mul-t-2 : tie.Need-mul-t-2
-mul-t-2 c = search needs
-
-shared-slice-read-t : tie.Need-shared-slice-read-t
-shared-slice-read-t c = search needs
-
-returns : tie.Need-returns
-unfolding wordOf
-returns c =
-    let a = c .before .before .before .before .before .before .before .before .args in
-    let e : callWord (wordOf (a .stmts .now) (a .i)) ≡ true = sym (c .before .before .before .is-call .ensures) ∙ c .before .before .if1 .taken in
-    skip-none (a .stmts .now) (a .falls .now) (a .i) (a .buffer .now) (a .count) e (c .if2 .taken)
-
-sub-buffer : tie.Need-sub-buffer
-sub-buffer c = search needs
-
-slice-write-buffer : tie.Need-slice-write-buffer
-slice-write-buffer c = search needs
+put-fall-requires : tie.Need-put-fall-requires
+put-fall-requires c κs = search needs
 
 same-length : tie.Need-same-length
 same-length c = search needs
 
+returns : tie.Need-returns
+unfolding wordOf
+returns c =
+    let a = c .before .before .before .before .before .before .before .before .before .before .args in
+    let e : callWord (wordOf (a .stmts .now) (a .i)) ≡ true = sym (c .before .before .before .before .before .is-call .ensures) ∙ c .before .before .before .before .if1 .taken in
+    skip-fall (a .stmts .now) (a .falls .now) (a .i) (a .buffer .now) (a .count) e _ _ (c .before .before .put-fall .ensures)
+
 returns-2 : tie.Need-returns-2
 unfolding wordOf
 returns-2 c =
-    let a = c .before .before .before .before .before .before .before .before .args in
-    let e : callWord (wordOf (a .stmts .now) (a .i)) ≡ true = sym (c .before .before .before .is-call .ensures) ∙ c .before .before .if1 .taken in
-    skip-one (a .stmts .now) (a .falls .now) (a .i) (a .buffer .now) (a .count) e (c .if2 .left) (omega arith) _ refl
-
-returns-3 : tie.Need-returns-3
-unfolding wordOf
-returns-3 c =
     let a = c .before .before .before .before .before .before .args in
     let e : callWord (wordOf (a .stmts .now) (a .i)) ≡ false = sym (c .before .is-call .ensures) ∙ c .if1 .left in
     skip-same (a .stmts .now) (a .falls .now) (a .i) (a .buffer .now) (a .count) e (omega arith)
 
 pub skip-list-spec : {M : Type 1} → statement M
-skip-list-spec =
-    tie.close
-    (tie.spec
-    mul-is-call
-    mul-is-call-2
-    shared-slice-read-is-call
-    is-call-requires
-    mul-t
-    mul-t-2
-    shared-slice-read-t
-    returns
-    sub-buffer
-    slice-write-buffer
-    same-length
-    returns-2
-    returns-3)
+skip-list-spec = tie.close (tie.spec mul-is-call mul-is-call-2 shared-slice-read-is-call is-call-requires put-fall-requires same-length returns returns-2)

@@ -19,10 +19,10 @@ list-calls-requires : tie.Need-list-calls-requires
 list-calls-requires c κs = search needs
 
 array-share-prefix-buffer : tie.Need-array-share-prefix-buffer
-array-share-prefix-buffer c = omega (arith, c .before .list-calls .ensures .count, calls-few (c .before .before .before .before .before .before .before .before .args .stmts .now) (c .before .before .before .before .before .before .before .before .args .n), c .before .before .before .before .before .before .before .before .pre .roles .few, c .before .before .before .no-work .ensures)
+array-share-prefix-buffer c = let s = c .before .before .before .before .before .before .before .before in omega (arith, c .before .list-calls .ensures .count, calls-few (s .args .stmts .now) (s .args .n), s .pre .roles .few, c .before .before .before .no-work .ensures)
 
 slice-aggregate-calls : tie.Need-slice-aggregate-calls
-slice-aggregate-calls c = sym (length-take-le _ _ (omega (arith, c .before .before .list-calls .ensures .count, calls-few (c .before .before .before .before .before .before .before .before .before .args .stmts .now) (c .before .before .before .before .before .before .before .before .before .args .n), c .before .before .before .before .before .before .before .before .before .pre .roles .few, c .before .before .before .before .no-work .ensures)))
+slice-aggregate-calls c = let s = c .before .before .before .before .before .before .before .before .before in sym (length-take-le _ _ (omega (arith, c .before .before .list-calls .ensures .count, calls-few (s .args .stmts .now) (s .args .n), s .pre .roles .few, c .before .before .before .before .no-work .ensures)))
 
 no-marks-requires : tie.Need-no-marks-requires
 no-marks-requires c κs = search needs
@@ -33,23 +33,31 @@ mark-called-requires c κs =
     let r = calls-ready (s .pre .wired) (s .args .stmts .now) (s .args .falls .now) (s .args .links .now) (s .args .n) _ (s .pre .roles) (c .before .before .before .before .list-calls .ensures .list) in
     (targets-fit (r .fit), ap length (c .before .no-marks .ensures) ∙ length-replicate 4096 false)
 
+no-work-requires-2 : tie.Need-no-work-requires-2
+no-work-requires-2 c κs = search needs
+
+slice-aggregate-spread-entries : tie.Need-slice-aggregate-spread-entries
+slice-aggregate-spread-entries c = search needs
+
 spread-entries-requires : tie.Need-spread-entries-requires
 spread-entries-requires c κs =
-    let s = c .before .before .before .before .before .before .before .before .before .before .before .before .before .before in
-    record {
-      calls-ready = calls-ready (s .pre .wired) (s .args .stmts .now) (s .args .falls .now) (s .args .links .now) (s .args .n) _ (s .pre .roles) (c .before .before .before .before .before .before .before .list-calls .ensures .list);
-      marked = c .before .before .mark-called .ensures .covers;
-      in-rows = s .pre .in-rows;
-    }
+    let s = c .before .before .before .before .before .before .before .before .before .before .before .before .before .before .before .before in (
+      record {
+        calls-ready = calls-ready (s .pre .wired) (s .args .stmts .now) (s .args .falls .now) (s .args .links .now) (s .args .n) _ (s .pre .roles) (c .before .before .before .before .before .before .before .before .before .list-calls .ensures .list);
+        marked = c .before .before .before .before .mark-called .ensures .covers;
+        in-rows = s .pre .in-rows;
+      },
+      c .before .before .before .no-work2 .ensures,
+    )
 
 same-length : tie.Need-same-length
 same-length c = search needs
 
 returns : tie.Need-returns
 returns c =
-    let s = c .before .before .before .before .before .before .before .before .before .before .before .before .before .before .before .before .before in
-    λ W r o.
-    regions-end W (s .args .stmts .now) (s .args .falls .now) (s .args .links .now) (s .args .n) (s .args .rows .now) _ r (s .pre .in-rows) (s .pre .clear) (c .before .before .spread-entries .ensures W r o)
+    let s = c .before .before .before .before .before .before .before .before .before .before .before .before .before .before .before .before .before .before .before .before in
+    λ W r t.
+    regions-end W (s .args .stmts .now) (s .args .falls .now) (s .args .links .now) (s .args .n) (s .args .rows .now) _ r (s .pre .in-rows) (s .pre .clear) (c .before .before .before .spread-entries .ensures W r t)
 
 pub spread-regions-spec : {M : Type 1} → statement M
 spread-regions-spec =
@@ -62,6 +70,8 @@ spread-regions-spec =
     slice-aggregate-calls
     no-marks-requires
     mark-called-requires
+    no-work-requires-2
+    slice-aggregate-spread-entries
     spread-entries-requires
     same-length
     returns)

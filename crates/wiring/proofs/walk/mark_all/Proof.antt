@@ -24,7 +24,7 @@ abbrev μ-loop : tie.MeasureT-loop
 
 below : (c : tie.After-wide Inv-loop μ-loop) → c .wide .result < 4096
 below c =
-    let s = c .before .before .before .before .before in
+    let s = c .before .before .before .before .before .before in
     let k = c .before .before .before .loop .k in
     omega (arith, id-at 4096 (s .args .list .now) k (s .pre .ids) (c .before .before .loop-test .taken))
 
@@ -33,12 +33,12 @@ unmarked : (c : tie.After-if12 Inv-loop μ-loop) → lts.Then1·own (wide-reads.
 unmarked c w = not-true _ (w .taken)
 
 marks-size : (c : tie.After-if12 Inv-loop μ-loop) → length (c .before .before .before .before .loop .marks) ≡ 4096
-marks-size c = c .before .before .before .before .loop .inv .1 .marks-size ∙ c .before .before .before .before .before .before .pre .marks-size
+marks-size c = c .before .before .before .before .loop .inv .1 .marks-size ∙ c .before .before .before .before .before .before .before .pre .marks-size
 
 room : (c : tie.After-if12 Inv-loop μ-loop) → lts.Then1·own (wide-reads.Asked, wide-reads.Learnt) reads.Pre reads.Post Inv-loop μ-loop c
     → c .before .before .before .before .loop .n < 4096
 room c w =
-    let s = c .before .before .before .before .before .before in
+    let s = c .before .before .before .before .before .before .before in
     let h = c .before .before .before .before .loop in
     room-for 4096 (s .args .count) (s .args .marks .now) (h .marks) (h .n) (c .before .wide .result) (s .pre .room) (h .inv .1 .count)
     (omega (arith, below (c .before), marks-size c)) (unmarked c w)
@@ -64,8 +64,8 @@ element-write-marks c = below (c .before .before)
 mul-work : tie.Need-mul-work Inv-loop μ-loop
 mul-work c = search needs
 
-element-write-work : tie.Need-element-write-work Inv-loop μ-loop
-element-write-work c = room (c .before) (c .if1)
+slice-write-work : tie.Need-slice-write-work Inv-loop μ-loop
+slice-write-work c = omega (arith, room (c .before) (c .if1), c .before .before .before .before .before .loop .inv .1 .work-size, c .before .before .before .before .before .before .before .before .pre .work-size)
 
 add-n : tie.Need-add-n Inv-loop μ-loop
 add-n c = omega (arith, room (c .before) (c .if1))
@@ -78,7 +78,7 @@ loop-less c = search needs
 
 loop-again : tie.Need-loop-again Inv-loop μ-loop
 loop-again c =
-    let s = c .before .before .before .before .before .before .before in
+    let s = c .before .before .before .before .before .before .before .before in
     let h = c .before .before .before .before .before .loop in
     let e = c .before .before .wide .ensures in
     let lt = c .before .before .before .before .loop-test .taken in
@@ -98,8 +98,11 @@ loop-again c =
     ))
     (c .if1 .came)
 
+same-length : tie.Need-same-length Inv-loop μ-loop
+same-length c = c .before .loop .inv .1 .work-size
+
 returns : tie.Need-returns Inv-loop μ-loop
-returns c = rw (take-all (c .before .loop .k) (c .before .before .before .args .list .now) (omega arith)) at (c .before .loop .inv .1)
+returns c = rw (take-all (c .before .loop .k) (c .before .before .before .before .args .list .now) (omega arith)) at (c .before .loop .inv .1)
 
 pub mark-all-spec : {M : Type 1} → statement M
 mark-all-spec =
@@ -114,9 +117,10 @@ mark-all-spec =
     element-copy-out-if1
     element-write-marks
     mul-work
-    element-write-work
+    slice-write-work
     add-n
     add-k
     loop-less
     loop-again
+    same-length
     returns)

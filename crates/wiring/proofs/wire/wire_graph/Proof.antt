@@ -1,10 +1,16 @@
 -- `wire_graph`: counted, then written where the edges fit. Assumes nothing.
 use borrow.Author.Needs.{needs}
-use mathlib.Core.Path.{_∙_}
+use mathlib.Core.Path.{refl, _∙_}
 use native.Mathlib.Omega.{arith}
 use Rattle.wiring.specs.WireLaws.{ready-count, write-ready, wired-yes, wired-no}
 use Rattle.wiring.proofs.wire.wire_graph.Statement.{statement}
 use Rattle.wiring.proofs.wire.wire_graph.Tie as tie
+
+returns : tie.Need-returns
+returns c = absurd (omega (arith, c .before .before .before .before .before .before .before .before .before .before .before .before .pre .0, c .if1 .taken))
+
+sub-d : tie.Need-sub-d
+sub-d c = search needs
 
 no-scratch-requires : tie.Need-no-scratch-requires
 no-scratch-requires c κs = search needs
@@ -19,7 +25,7 @@ slice-aggregate-count-graph-2 : tie.Need-slice-aggregate-count-graph-2
 slice-aggregate-count-graph-2 c = search needs
 
 count-graph-requires : tie.Need-count-graph-requires
-count-graph-requires c κs = ready-count (c .before .before .before .before .before .before .before .before .before .before .before .before .before .before .before .before .before .before .pre) _ (c .before .before .before .before .before .before .no-scratch .ensures) _ (c .before .before .before .before .before .no-work .ensures)
+count-graph-requires c κs = ready-count (c .before .before .before .before .before .before .before .before .before .before .before .before .before .before .before .before .before .before .before .pre .1) _ (c .before .before .before .before .before .before .no-scratch .ensures) _ (c .before .before .before .before .before .no-work .ensures)
 
 edges-fit-requires : tie.Need-edges-fit-requires
 edges-fit-requires c κs = search needs
@@ -33,7 +39,7 @@ slice-aggregate-write-graph-2 c = search needs
 write-graph-requires : tie.Need-write-graph-requires
 write-graph-requires c κs =
     let f = c .before .before .before .before .before .before .before .before .before .edges-fit in
-    write-ready (c .before .before .before .before .before .before .before .before .before .before .before .before .before .before .before .before .before .before .before .before .before .before .before .before .before .before .before .before .before .before .before .before .before .before .before .before .before .pre) (c .before .before .before .before .before .before .before .before .before .before .before .before .before .before .before .before .before .before .count-graph .ensures) (f .result) (f .ensures) (c .before .before .before .before .before .before .before .before .if1 .taken) (c .before .before .before .before .before .before .before .before .before .before .before .before .before .before .before .lists .given) _ (search needs)
+    write-ready (c .before .before .before .before .before .before .before .before .before .before .before .before .before .before .before .before .before .before .before .before .before .before .before .before .before .before .before .before .before .before .before .before .before .before .before .before .before .before .pre .1) (c .before .before .before .before .before .before .before .before .before .before .before .before .before .before .before .before .before .before .count-graph .ensures) (f .result) (f .ensures) (c .before .before .before .before .before .before .before .before .if2 .taken) (c .before .before .before .before .before .before .before .before .before .before .before .before .before .before .before .lists .given) _ (search needs)
 
 same-length : tie.Need-same-length
 same-length c = c .before .before .before .before .before .before .before .before .args3 .given ∙ c .before .before .before .before .before .before .before .before .before .before .before .before .before .before .before .before .before .before .before .before .before .before .before .before .before .before .before .args2 .given
@@ -50,8 +56,8 @@ same-length-4 c = c .before .before .before .before .succ .given
 same-length-5 : tie.Need-same-length-5
 same-length-5 c = c .before .before .pred .given
 
-returns : tie.Need-returns
-returns c = wired-yes (c .before .before .before .before .before .before .before .before .before .before .before .before .before .before .before .before .before .before .before .before .before .before .before .before .before .before .before .before .count-graph .ensures) (c .before .before .before .before .before .before .before .before .before .before .before .before .before .before .before .before .before .before .before .edges-fit .result) (c .before .before .before .before .before .before .before .before .before .before .before .before .before .before .before .before .before .before .before .edges-fit .ensures) (c .before .before .before .before .before .before .before .before .before .before .before .before .before .before .before .before .before .before .if1 .taken) (c .before .before .before .before .succ .given) (c .before .before .pred .given) (omega (arith, c .before .before .before .before .before .before .before .before .before .before .before .before .before .before .before .before .before .before .before .before .before .before .before .before .before .before .before .before .before .before .before .before .before .before .before .before .before .before .before .before .before .before .before .before .before .before .before .pre .lists-fit, c .before .before .before .before .before .before .before .before .before .before .before .before .before .before .before .before .before .before .before .before .before .before .before .before .before .lists .given)) (c .before .before .before .before .before .before .before .before .before .write-graph .ensures)
+returns-2 : tie.Need-returns-2
+returns-2 c = (refl, wired-yes (c .before .before .before .before .before .before .before .before .before .before .before .before .before .before .before .before .before .before .before .before .before .before .before .before .before .before .before .before .count-graph .ensures) (c .before .before .before .before .before .before .before .before .before .before .before .before .before .before .before .before .before .before .before .edges-fit .result) (c .before .before .before .before .before .before .before .before .before .before .before .before .before .before .before .before .before .before .before .edges-fit .ensures) (c .before .before .before .before .before .before .before .before .before .before .before .before .before .before .before .before .before .before .if2 .taken) (c .before .before .before .before .succ .given) (c .before .before .pred .given) (omega (arith, c .before .before .before .before .before .before .before .before .before .before .before .before .before .before .before .before .before .before .before .before .before .before .before .before .before .before .before .before .before .before .before .before .before .before .before .before .before .before .before .before .before .before .before .before .before .before .before .before .pre .1 .lists-fit, c .before .before .before .before .before .before .before .before .before .before .before .before .before .before .before .before .before .before .before .before .before .before .before .before .before .lists .given)) (c .before .before .before .before .before .before .before .before .before .write-graph .ensures))
 
 same-length-6 : tie.Need-same-length-6
 same-length-6 c = c .before .before .before .before .before .before .before .before .before .args2 .given
@@ -62,13 +68,15 @@ same-length-7 c = c .before .before .before .before .before .before .before .lis
 same-length-8 : tie.Need-same-length-8
 same-length-8 c = c .before .before .before .before .returns .given
 
-returns-2 : tie.Need-returns-2
-returns-2 c = wired-no (c .before .before .before .before .before .before .before .before .before .before .count-graph .ensures) (c .before .edges-fit .result) (c .before .edges-fit .ensures) (c .if1 .left)
+returns-3 : tie.Need-returns-3
+returns-3 c = (refl, wired-no (c .before .before .before .before .before .before .before .before .before .before .count-graph .ensures) (c .before .edges-fit .result) (c .before .edges-fit .ensures) (c .if2 .left))
 
 pub wire-graph-spec : {M : Type 1} → statement M
 wire-graph-spec =
     tie.close
     (tie.spec
+    returns
+    sub-d
     no-scratch-requires
     no-work-requires
     slice-aggregate-count-graph
@@ -83,8 +91,8 @@ wire-graph-spec =
     same-length-3
     same-length-4
     same-length-5
-    returns
+    returns-2
     same-length-6
     same-length-7
     same-length-8
-    returns-2)
+    returns-3)
