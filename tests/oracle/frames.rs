@@ -37,7 +37,7 @@ pub fn answers(listing: &Listing, salt: u64) -> String {
 }
 
 /// The names that occur, and one that does not: it differs in its kind only where it can.
-fn names(listing: &Listing) -> BTreeSet<String> {
+pub fn names(listing: &Listing) -> BTreeSet<String> {
     let mut names = BTreeSet::new();
     listing.lines.iter().for_each(|l| collect(&l.body, &mut names));
     let first = names.first().map_or("Q", |n| n.trim_end_matches(['%', '$'])).to_string();
@@ -62,7 +62,7 @@ fn collect(body: &[Form], names: &mut BTreeSet<String>) {
     }
 }
 
-fn word(stmt: &Stmt) -> &'static str {
+pub fn word(stmt: &Stmt) -> &'static str {
     match stmt {
         Stmt::If { .. } => "if",
         Stmt::IfElse { .. } => "ifelse",

@@ -9,42 +9,43 @@ use std::hash::{DefaultHasher, Hash, Hasher};
 
 type Shape = fn() -> Listing;
 
-const SHAPES: [Shape; 30] = [
-    || plain(1_024, 4),
-    || any(32, 1_024, 0),
-    || any(32, 1_024, 1),
-    || calls(180, 176, false, false),
-    || calls(180, 176, true, false),
-    || calls(180, 176, false, true),
-    || calls(3_500, 8, false, false),
-    || calls(3_500, 8, false, true),
-    || many_returns(2_000, 1_000),
-    || calls(2_048, 2_046, false, true),
-    || regions(0),
-    || regions(9),
-    || regions(200),
-    || slots(78, 450, "plain", "static"),
-    || slots(60, 450, "orphan", "dispatched"),
-    || slots(90, 440, "orphan", "dispatched"),
-    || elses(4_093),
-    || listing(vec![vec![bare("any"); 4]; 1_024]),
-    || deep(16, 1),
-    || deep(16, 150),
-    || names(2_000, false),
-    || names(2_000, true),
-    || frames("repeat", "until"),
-    || frames("loop", "endloop"),
-    || exits(4_093),
-    || numbers(),
-    || listing(vec![Vec::new(); 1_024]),
-    last_line_only,
-    || padded(65_536),
-    spread_numbers,
+/// What each is, and how it is made.
+pub const SHAPES: [(&str, Shape); 30] = [
+    ("4,096 plain statements in 1,024 lines", || plain(1_024, 4)),
+    ("32,768 edges of `any`", || any(32, 1_024, 0)),
+    ("32,769 edges of `any`", || any(32, 1_024, 1)),
+    ("180 calls, 176 RETURNs", || calls(180, 176, false, false)),
+    ("180 calls through 180 entries, 176 RETURNs", || calls(180, 176, true, false)),
+    ("180 calls, 176 RETURNs, handlers", || calls(180, 176, false, true)),
+    ("3,500 calls, 8 RETURNs", || calls(3_500, 8, false, false)),
+    ("3,500 calls, 8 RETURNs, handlers", || calls(3_500, 8, false, true)),
+    ("2,000 calls, 1,000 RETURNs by `any`", || many_returns(2_000, 1_000)),
+    ("2,048 calls, 2,046 RETURNs, handlers", || calls(2_048, 2_046, false, true)),
+    ("1,024 regions", || regions(0)),
+    ("1,024 regions, 10 `any`", || regions(9)),
+    ("1,024 regions, 205 `any`", || regions(200)),
+    ("528 statements, NEXTs of 64 `*` slots", || slots(78, 450, "plain", "static")),
+    ("450 orphan NEXTs of 64 `*` slots, 60 dispatched FORs", || slots(60, 450, "orphan", "dispatched")),
+    ("440 orphan NEXTs of 64 `*` slots, 90 dispatched FORs", || slots(90, 440, "orphan", "dispatched")),
+    ("4,093 ELSEs in one DOIF", || elses(4_093)),
+    ("4,096 `any` in 1,024 lines", || listing(vec![vec![bare("any"); 4]; 1_024])),
+    ("one nest of depth 16", || deep(16, 1)),
+    ("150 nests of depth 16", || deep(16, 150)),
+    ("2,000 FORs, closed one by one", || names(2_000, false)),
+    ("2,000 FORs, closed at once", || names(2_000, true)),
+    ("2,047 REPEATs", || frames("repeat", "until")),
+    ("2,047 LOOPs", || frames("loop", "endloop")),
+    ("4,093 EXITs in one LOOP", || exits(4_093)),
+    ("320 ONs of 64 numbers", || numbers()),
+    ("1,024 empty lines", || listing(vec![Vec::new(); 1_024])),
+    ("1,023 empty lines", last_line_only),
+    ("65,536 bytes", || padded(65_536)),
+    ("2,048 jumps and calls between far numbers", spread_numbers),
 ];
 
 pub fn listing_text(index: u64, random: &mut Random) -> Vec<u8> {
     let count = SHAPES.len() as u64;
-    let mut found = SHAPES[(index % count) as usize]();
+    let mut found = SHAPES[(index % count) as usize].1();
     if index >= count {
         vary(&mut found, random);
     }

@@ -1,0 +1,70 @@
+-- `flow_build`: what `build` answers and leaves, then told by number and place. Assumes nothing.
+use borrow.Author.Needs.{needs}
+use Rattle.flowgraph.specs.BuildTold.{build-told}
+use Rattle.flowgraph.proofs.build.flow_build.Statement.{statement}
+use Rattle.flowgraph.proofs.build.flow_build.Tie as tie
+
+build-requires : tie.Need-build-requires
+build-requires c κs = search needs
+
+tell-built-requires : tie.Need-tell-built-requires
+tell-built-requires c κs = search needs
+
+same-length : tie.Need-same-length
+same-length c = search needs
+
+same-length-2 : tie.Need-same-length-2
+same-length-2 c = search needs
+
+same-length-3 : tie.Need-same-length-3
+same-length-3 c = search needs
+
+same-length-4 : tie.Need-same-length-4
+same-length-4 c = search needs
+
+same-length-5 : tie.Need-same-length-5
+same-length-5 c = search needs
+
+same-length-6 : tie.Need-same-length-6
+same-length-6 c = search needs
+
+same-length-7 : tie.Need-same-length-7
+same-length-7 c = search needs
+
+same-length-8 : tie.Need-same-length-8
+same-length-8 c = search needs
+
+same-length-9 : tie.Need-same-length-9
+same-length-9 c = search needs
+
+same-length-10 : tie.Need-same-length-10
+same-length-10 c = search needs
+
+same-length-11 : tie.Need-same-length-11
+same-length-11 c = search needs
+
+same-length-12 : tie.Need-same-length-12
+same-length-12 c = search needs
+
+returns : tie.Need-returns
+returns c = build-told (c .before .before .before .before .before .before .before .before .before .before .before .before .before .before .before .before .before .before .before .before .before .before .before .before .before .before .build .ensures) (c .tell-built .ensures)
+
+pub flow-build-spec : {M : Type 1} → statement M
+flow-build-spec =
+    tie.close
+    (tie.spec
+    build-requires
+    tell-built-requires
+    same-length
+    same-length-2
+    same-length-3
+    same-length-4
+    same-length-5
+    same-length-6
+    same-length-7
+    same-length-8
+    same-length-9
+    same-length-10
+    same-length-11
+    same-length-12
+    returns)

@@ -1,0 +1,21 @@
+-- `tell_built`: one of two cases. Assumes nothing.
+use mathlib.Core.Path.{sym, _∙_}
+use borrow.Author.Needs.{needs}
+use Rattle.flowgraph.specs.BuildTold.{graph-told, refusal-told}
+use Rattle.flowgraph.proofs.build.tell_built.Statement.{statement}
+use Rattle.flowgraph.proofs.build.tell_built.Tie as tie
+
+enum-told : tie.Need-enum-told
+enum-told c = search needs
+
+enum-known-built : tie.Need-enum-known-built
+enum-known-built c = search needs
+
+returns : tie.Need-returns
+returns c b h = graph-told b (sym (c .before .enum-told .given .1) ∙ h)
+
+returns-2 : tie.Need-returns-2
+returns-2 c b h = refusal-told b _ _ (sym (c .before .before .built .given .1) ∙ h)
+
+pub tell-built-spec : {M : Type 1} → statement M
+tell-built-spec = tie.close (tie.spec enum-told enum-known-built returns returns-2)

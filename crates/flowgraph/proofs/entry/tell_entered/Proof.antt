@@ -1,0 +1,29 @@
+-- `tell_entered`: one of three cases. Assumes nothing.
+use mathlib.Core.Path.{sym, _∙_}
+use borrow.Author.Needs.{needs}
+use Rattle.flowgraph.specs.QuestionTold.{node-told, nowhere-told, entered-refused}
+use Rattle.flowgraph.proofs.entry.tell_entered.Statement.{statement}
+use Rattle.flowgraph.proofs.entry.tell_entered.Tie as tie
+
+enum-known-entered : tie.Need-enum-known-entered
+enum-known-entered c = search needs
+
+enum-told : tie.Need-enum-told
+enum-told c = search needs
+
+enum-known-entered-2 : tie.Need-enum-known-entered-2
+enum-known-entered-2 c = search needs
+
+returns : tie.Need-returns
+returns c q h = node-told q _ (sym (c .before .before .entered .given .1) ∙ h)
+
+returns-2 : tie.Need-returns-2
+returns-2 c q h = nowhere-told q (sym (c .before .enum-told .given .1) ∙ h)
+
+returns-3 : tie.Need-returns-3
+returns-3 c q h = entered-refused q _ _ (sym (c .before .before .entered2 .given .1) ∙ h)
+
+pub tell-entered-spec : {M : Type 1} → statement M
+tell-entered-spec =
+    tie.close
+    (tie.spec enum-known-entered enum-told enum-known-entered-2 returns returns-2 returns-3)

@@ -1,0 +1,19 @@
+-- `flow_frame`: the question, then told; `out` is as the question left it. Assumes nothing.
+use borrow.Author.Needs.{needs}
+use Rattle.flowgraph.proofs.frame.flow_frame.Statement.{statement}
+use Rattle.flowgraph.proofs.frame.flow_frame.Tie as tie
+
+ask-frame-requires : tie.Need-ask-frame-requires
+ask-frame-requires c κs = search needs
+
+tell-framed-requires : tie.Need-tell-framed-requires
+tell-framed-requires c κs = search needs
+
+same-length : tie.Need-same-length
+same-length c = search needs
+
+returns : tie.Need-returns
+returns c = record { told = c .tell-framed .ensures _ (c .before .before .before .before .ask-frame .ensures .told); slice = c .before .before .before .before .ask-frame .ensures .slice }
+
+pub flow-frame-spec : {M : Type 1} → statement M
+flow-frame-spec = tie.close (tie.spec ask-frame-requires tell-framed-requires same-length returns)

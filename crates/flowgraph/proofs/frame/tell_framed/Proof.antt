@@ -1,0 +1,21 @@
+-- `tell_framed`: one of two cases. Assumes nothing.
+use mathlib.Core.Path.{sym, _∙_}
+use borrow.Author.Needs.{needs}
+use Rattle.flowgraph.specs.QuestionTold.{listed-told, framed-refused}
+use Rattle.flowgraph.proofs.frame.tell_framed.Statement.{statement}
+use Rattle.flowgraph.proofs.frame.tell_framed.Tie as tie
+
+enum-known-framed : tie.Need-enum-known-framed
+enum-known-framed c = search needs
+
+enum-known-framed-2 : tie.Need-enum-known-framed-2
+enum-known-framed-2 c = search needs
+
+returns : tie.Need-returns
+returns c q h = listed-told q _ (sym (c .before .before .framed .given .1) ∙ h)
+
+returns-2 : tie.Need-returns-2
+returns-2 c q h = framed-refused q _ _ (sym (c .before .before .framed2 .given .1) ∙ h)
+
+pub tell-framed-spec : {M : Type 1} → statement M
+tell-framed-spec = tie.close (tie.spec enum-known-framed enum-known-framed-2 returns returns-2)

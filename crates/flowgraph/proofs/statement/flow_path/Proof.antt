@@ -1,0 +1,16 @@
+-- `flow_path`: the question, then told. Assumes nothing.
+use borrow.Author.Needs.{needs}
+use Rattle.flowgraph.proofs.statement.flow_path.Statement.{statement}
+use Rattle.flowgraph.proofs.statement.flow_path.Tie as tie
+
+ask-path-requires : tie.Need-ask-path-requires
+ask-path-requires c κs = search needs
+
+tell-stated-requires : tie.Need-tell-stated-requires
+tell-stated-requires c κs = search needs
+
+returns : tie.Need-returns
+returns c = c .tell-stated .ensures _ (c .before .before .ask-path .ensures)
+
+pub flow-path-spec : {M : Type 1} → statement M
+flow-path-spec = tie.close (tie.spec ask-path-requires tell-stated-requires returns)

@@ -1,0 +1,3 @@
+pub mod BuildTold
+pub mod QuestionTold
+pub mod Zero

@@ -1,0 +1,60 @@
+// The graph of a listing.
+use wiring::build::Built;
+use wiring::build::build;
+ghost use Rattle.graph.specs.Build.{build as builtBy};
+ghost use Rattle.wiring.specs.GraphTables.{sizesOf, capacity};
+ghost use Rattle.flowgraph.specs.BuildTold.{BuiltTold, BuildTold};
+
+fn tell_built(built: Built, place: &mut [usize; 1]) -> u8
+    ensures { λ r. ⌜ BuiltTold built r (now (place .exit)) ⌝ }
+{
+    match built {
+        Built::Graph => {
+            *place = [0];
+            0
+        }
+        Built::Refused { number, place: at } => {
+            *place = [at];
+            number
+        }
+    }
+}
+
+#[no_mangle]
+pub extern "C" fn flow_build(
+    text: &[u8],
+    counts: &mut [u32; 5],
+    lines: &mut [u16],
+    stmts: &mut [u16],
+    args: &mut [u64],
+    entries: &mut [u16],
+    falls: &mut [u16],
+    links: &mut [u16],
+    frames: &mut [u16],
+    dispatched: &mut [u16],
+    lists: &mut [u16],
+    returns: &mut [u16],
+    succ: &mut [u16],
+    pred: &mut [u16],
+    place: &mut [usize; 1],
+) -> u8
+    ensures { λ r. ⌜ BuildTold (builtBy (capacity (sizesOf (now (lines .entry)) (now (stmts .entry)) (now (args .entry)) (now (entries .entry)) (now (falls .entry)) (now (links .entry)) (now (frames .entry)) (now (dispatched .entry)) (now (lists .entry)) (now (returns .entry)) (now (succ .entry)) (now (pred .entry)))) (now (text .entry))) (sizesOf (now (lines .entry)) (now (stmts .entry)) (now (args .entry)) (now (entries .entry)) (now (falls .entry)) (now (links .entry)) (now (frames .entry)) (now (dispatched .entry)) (now (lists .entry)) (now (returns .entry)) (now (succ .entry)) (now (pred .entry))) (now (counts .exit)) (now (lines .exit)) (now (stmts .exit)) (now (args .exit)) (now (entries .exit)) (now (falls .exit)) (now (links .exit)) (now (frames .exit)) (now (dispatched .exit)) (now (lists .exit)) (now (returns .exit)) (now (succ .exit)) (now (pred .exit)) r (now (place .exit)) ⌝ }
+{
+    let built = build(
+        text,
+        counts,
+        lines,
+        stmts,
+        args,
+        entries,
+        falls,
+        links,
+        frames,
+        dispatched,
+        lists,
+        returns,
+        succ,
+        pred,
+    );
+    tell_built(built, place)
+}

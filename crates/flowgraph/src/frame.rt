@@ -1,0 +1,54 @@
+// The frame list: its length; the list itself stands in `out`.
+use questions::frame::Framed;
+use questions::frame::ask_frame;
+ghost use lib.ListN.{length, getD};
+ghost use Rattle.questions.specs.FrameAt.{frameAt};
+ghost use Rattle.flowgraph.specs.QuestionTold.{FramedTold, ListTold};
+
+fn tell_framed(framed: Framed, answer: &mut [usize; 2]) -> u8
+    ensures { λ r. ⌜ FramedTold framed r (now (answer .exit)) ⌝ }
+{
+    match framed {
+        Framed::Listed { len } => {
+            *answer = [len, 0];
+            0
+        }
+        Framed::Refused { number, place } => {
+            *answer = [place, 0];
+            number
+        }
+    }
+}
+
+#[no_mangle]
+pub extern "C" fn flow_frame(
+    counts: &[u32; 5],
+    stmts: &[u16],
+    args: &[u64],
+    falls: &[u16],
+    lists: &[u16],
+    succ: &[u16],
+    header: usize,
+    node: usize,
+    name: &[u8],
+    flag: bool,
+    out: &mut [u16],
+    answer: &mut [usize; 2],
+) -> u8
+    ensures { λ r. ⌜ ListTold (frameAt (getD (now (counts .entry)) 1 0) (now (stmts .entry)) (now (args .entry)) (now (falls .entry)) (now (lists .entry)) (now (succ .entry)) header node (now (name .entry)) flag (length (now (out .entry)))) (now (out .entry)) (now (out .exit)) r (now (answer .exit)) ⌝ }
+{
+    let framed = ask_frame(
+        counts,
+        stmts,
+        args,
+        falls,
+        lists,
+        succ,
+        header,
+        node,
+        name,
+        flag,
+        out,
+    );
+    tell_framed(framed, answer)
+}
