@@ -1,0 +1,8 @@
+pub mod Flowask
+pub mod Cases
+pub mod AnswersAt
+pub mod RowLaws
+pub mod TextLaws
+pub mod QuestionWords
+pub mod AnswerLaws
+pub mod Asked

@@ -1,0 +1,177 @@
+// A text with a listing and questions: the listing's graph built in the lent tables, and the questions answered.
+use crate::answers::answer_row;
+use printing::print::put_refusal;
+use reader::scan::equal;
+use reader::scan::find;
+use wiring::build::Built;
+use wiring::build::build;
+ghost use Rattle.reader.specs.Rows.{split};
+ghost use Rattle.wiring.specs.Printing.{Puts};
+ghost use Rattle.wiring.specs.GraphTables.{sizesOf};
+ghost use Rattle.asking.specs.Flowask.{answerRows};
+ghost use Rattle.asking.specs.AnswersAt.{answerAt};
+ghost use Rattle.asking.specs.TextLaws.{CutAt};
+ghost use Rattle.asking.specs.Asked.{QuestionsAnswered, TextAsked};
+
+// How many bytes stand before the row `(questions`, all of them where there is none.
+fn listing_length(text: &[u8]) -> usize
+    ensures { λ r. ⌜ CutAt (now (text .entry)) r ⌝ }
+{
+    let mut at: usize = 0;
+    loop {
+        let e = find(&text[at..], 10);
+        let to = at + e;
+        if to == text.len() {
+            return to;
+        }
+        if equal(&text[at..to], b"(questions") {
+            return at;
+        }
+        at = to + 1;
+    }
+}
+
+// Rows of questions, as far as the `)` that closes them.
+fn answer_rows(
+    out: &mut [u8],
+    text: &[u8],
+    counts: &[u32; 5],
+    lines: &[u16],
+    stmts: &[u16],
+    args: &[u64],
+    entries: &[u16],
+    falls: &[u16],
+    lists: &[u16],
+    succ: &[u16],
+    pred: &[u16],
+) -> usize
+    ensures { λ r. ⌜ Puts (now (out .entry)) 0 (now (out .exit)) r (answerRows (answerAt (now (counts .entry)) (now (lines .entry)) (now (stmts .entry)) (now (args .entry)) (now (entries .entry)) (now (falls .entry)) (now (lists .entry)) (now (succ .entry)) (now (pred .entry))) 0 (split 10 (now (text .entry)))) ⌝ }
+{
+    let mut r: usize = 0;
+    let mut k: usize = 0;
+    let mut at: usize = 0;
+    loop {
+        let e = find(&text[at..], 10);
+        let to = at + e;
+        if to == text.len() {
+            return put_refusal(out, r, 2, k);
+        }
+        if equal(&text[at..to], b")") {
+            if to + 1 == text.len() {
+                return r;
+            }
+            return put_refusal(out, r, 2, k + 1);
+        }
+        r = answer_row(
+            out,
+            r,
+            k,
+            &text[at..to],
+            counts,
+            lines,
+            stmts,
+            args,
+            entries,
+            falls,
+            lists,
+            succ,
+            pred,
+        );
+        at = to + 1;
+        k += 1;
+    }
+}
+
+// The questions behind the first n bytes, if there are any.
+fn answer_questions(
+    out: &mut [u8],
+    text: &[u8],
+    n: usize,
+    counts: &[u32; 5],
+    lines: &[u16],
+    stmts: &[u16],
+    args: &[u64],
+    entries: &[u16],
+    falls: &[u16],
+    lists: &[u16],
+    succ: &[u16],
+    pred: &[u16],
+) -> usize
+    requires { ⌜ CutAt (now text) n ⌝ }
+    ensures { λ r. ⌜ QuestionsAnswered (now (text .entry)) (answerAt (now (counts .entry)) (now (lines .entry)) (now (stmts .entry)) (now (args .entry)) (now (entries .entry)) (now (falls .entry)) (now (lists .entry)) (now (succ .entry)) (now (pred .entry))) (now (out .entry)) (now (out .exit)) r ⌝ }
+{
+    if n == text.len() {
+        return 0;
+    }
+    // past the row `(questions` and its byte 10
+    let from = n + 11;
+    answer_rows(
+        out,
+        &text[from..],
+        counts,
+        lines,
+        stmts,
+        args,
+        entries,
+        falls,
+        lists,
+        succ,
+        pred,
+    )
+}
+
+// Builds the graph of a text's listing in the lent tables and answers its questions, or gives the listing's refusal; answers where the next byte would go (the length of `out` if it did not fit).
+pub fn ask_text(
+    text: &[u8],
+    counts: &mut [u32; 5],
+    lines: &mut [u16],
+    stmts: &mut [u16],
+    args: &mut [u64],
+    entries: &mut [u16],
+    falls: &mut [u16],
+    links: &mut [u16],
+    frames: &mut [u16],
+    dispatched: &mut [u16],
+    lists: &mut [u16],
+    returns: &mut [u16],
+    succ: &mut [u16],
+    pred: &mut [u16],
+    out: &mut [u8],
+) -> usize
+    ensures { λ r. ⌜ TextAsked (now (text .entry)) (sizesOf (now (lines .entry)) (now (stmts .entry)) (now (args .entry)) (now (entries .entry)) (now (falls .entry)) (now (links .entry)) (now (frames .entry)) (now (dispatched .entry)) (now (lists .entry)) (now (returns .entry)) (now (succ .entry)) (now (pred .entry))) (now (counts .exit)) (now (lines .exit)) (now (stmts .exit)) (now (args .exit)) (now (entries .exit)) (now (falls .exit)) (now (links .exit)) (now (frames .exit)) (now (dispatched .exit)) (now (lists .exit)) (now (returns .exit)) (now (succ .exit)) (now (pred .exit)) (now (out .entry)) (now (out .exit)) r ⌝ }
+{
+    let n = listing_length(text);
+    let built = build(
+        &text[..n],
+        counts,
+        lines,
+        stmts,
+        args,
+        entries,
+        falls,
+        links,
+        frames,
+        dispatched,
+        lists,
+        returns,
+        succ,
+        pred,
+    );
+    match built {
+        Built::Refused { number, place } => put_refusal(out, 0, number as usize, place),
+        Built::Graph => answer_questions(
+            out,
+            text,
+            n,
+            counts,
+            lines,
+            stmts,
+            args,
+            entries,
+            falls,
+            lists,
+            succ,
+            pred,
+        ),
+    }
+}

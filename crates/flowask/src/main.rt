@@ -1,0 +1,69 @@
+// A listing with questions on standard input; their answers, or the listing's refusal, on standard output.
+use asking::ask::ask_text;
+use libc::STDIN_FILENO;
+use libc::STDOUT_FILENO;
+use printing::print::put_refusal;
+ghost use Rattle.graph.specs.Build.{limits};
+ghost use Rattle.wiring.specs.Printing.{Puts};
+ghost use Rattle.asking.specs.Flowask.{askText, flowask};
+
+// So many bytes a text may have, questions and all.
+const MAX_BYTES: usize = 262144;
+
+// With tables that suffice at all limits.
+fn ask_at_limits(text: &[u8], out: &mut [u8]) -> usize
+    ensures { λ r. ⌜ Puts (now (out .entry)) 0 (now (out .exit)) r (askText limits (now (text .entry))) ⌝ }
+{
+    let mut counts = [0u32; 5];
+    let mut lines = [0u16; 1024];
+    let mut stmts = [0u16; 49152];
+    let mut args = [0u64; 262144];
+    let mut entries = [0u16; 1024];
+    let mut falls = [0u16; 12288];
+    let mut links = [0u16; 262144];
+    let mut frames = [0u16; 12288];
+    let mut dispatched = [0u16; 4096];
+    let mut lists = [0u16; 16384];
+    let mut returns = [0u16; 4096];
+    let mut succ = [0u16; 32768];
+    let mut pred = [0u16; 32768];
+    ask_text(
+        text,
+        &mut counts,
+        &mut lines,
+        &mut stmts,
+        &mut args,
+        &mut entries,
+        &mut falls,
+        &mut links,
+        &mut frames,
+        &mut dispatched,
+        &mut lists,
+        &mut returns,
+        &mut succ,
+        &mut pred,
+        out,
+    )
+}
+
+fn ask(text: &[u8], out: &mut [u8]) -> usize
+    ensures { λ r. ⌜ Puts (now (out .entry)) 0 (now (out .exit)) r (flowask (now (text .entry))) ⌝ }
+{
+    if MAX_BYTES < text.len() {
+        return put_refusal(out, 0, 1, 0);
+    }
+    ask_at_limits(text, out)
+}
+
+// The text ends where the input does; one that goes on past the room for it is refused by its length.
+fn ask_input(text: &mut [u8], out: &mut [u8]) {
+    let n = io::read_full(STDIN_FILENO, text);
+    let r = ask(&text[..n], out);
+    io::write_all(STDOUT_FILENO, &out[..r]);
+}
+
+fn main() {
+    let mut text = [0u8; 262145];
+    let mut out = [0u8; 2097152];
+    ask_input(&mut text, &mut out);
+}
