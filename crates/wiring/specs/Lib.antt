@@ -76,6 +76,7 @@ pub mod CountGraph
 pub mod WireLaws
 pub mod BuildLaws
 pub mod GraphOf
+pub mod Spans
 pub mod Regions
 pub mod RegionLaws
 pub mod Printing

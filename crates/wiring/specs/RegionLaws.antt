@@ -1,4 +1,4 @@
--- Laws of regions: calls, sets and marks that grow, and the sets of the RETURNs, entry after entry. Assumes nothing.
+-- Laws of regions: calls, sets that grow, and the sets of the RETURNs, entry after entry. Assumes nothing.
 use Prim.Native.Nat.{ℕ, zero, suc, _+_, _-_, _*_, _/_, _≤_, _<_}
 use mathlib.Core.Path.{_≡_, refl, sym, ap, subst, _∙_}
 use mathlib.Core.Bool.{Bool, true, false}
@@ -7,8 +7,8 @@ use mathlib.Core.Logic.{_⊎_, inl, inr, ⊎-elim, _↔_}
 use native.Mathlib.Omega.{arith}
 use native.Mathlib.Numerals.{add-one}
 use lib.Dec.{T}
-use lib.ListN.{length, length-append, length-drop, length-set, length-replicate, getD, getD-replicate, set, take, drop, replicate}
-use lib.Seq.{length-take-le, take-suc, getD-take, getD-drop, getD-set-same, getD-set-other, ext-getD}
+use lib.ListN.{length, length-append, length-drop, length-replicate, getD, getD-replicate, set, take, drop, replicate}
+use lib.Seq.{length-take-le, take-suc, getD-take, getD-drop, ext-getD}
 use Rattle.reader.specs.Bytes.{pick}
 use Rattle.reader.specs.Every.{All, all[], all∷, all-append}
 use Rattle.graph.specs.Lists.{has, each}
@@ -24,7 +24,8 @@ use Rattle.wiring.specs.Sets.{In, inserted, oneIf, Put}
 use Rattle.wiring.specs.SetLaws.{none-in, in-inserted, inserted-length, members-are, put-none, put-both, put-yes}
 use Rattle.wiring.specs.ReturnSets.{IsReturn, setOf, ReturnsJoined}
 use Rattle.wiring.specs.Prepared.{callWord, wordOf, fallEntry, linkEntries, Roles}
-use Rattle.wiring.specs.Regions.{callsBelow, targetRow, backFrom, TargetsFit, CallFits, CallsReady, SetAdded, MarksCover, CallsBack, ReturnsBy, RegionJoined, RegionsJoined, ReturnRows, SetsClear, ListedJoined, CalledMarked, EntriesReady}
+use Rattle.wiring.specs.Spans.{SpansGrow, Spanned, mem-place, mem-take, mem-drop, part-place}
+use Rattle.wiring.specs.Regions.{callsBelow, targetRow, backFrom, TargetsFit, CallFits, CallsReady, EntryCalls, SetAdded, CallsBack, ReturnsBy, RegionJoined, RegionsJoined, ReturnRows, SetsClear, ListedJoined, EntriesReady}
 use Rattle.wiring.specs.WalkLaws.{mem-getD, all-take}
 
 -- ---- lists
@@ -140,9 +141,9 @@ target-part stmts links c u e =
 pub part-ids : (stmts links : List ℕ) (c : ℕ) (row : List ℕ) → row ≡ targetRow stmts links c → TargetsFit stmts links c → All (λ (t : ℕ). t ≤ 4096) row
 part-ids stmts links c row e f = rw e (f .ids)
 
-pub target-entries : (stmts links : List ℕ) (c : ℕ) (row : List ℕ) (a b : List Bool) → row ≡ targetRow stmts links c → MarksCover a b (each decode row) → MarksCover a b (linkEntries stmts links c)
+pub target-entries : (stmts links : List ℕ) (c k : ℕ) (row s t : List ℕ) → row ≡ targetRow stmts links c → SpansGrow k (each decode row) s t → SpansGrow k (linkEntries stmts links c) s t
 unfolding targetRow linkEntries
-target-entries stmts links c row a b e m = rw e at m
+target-entries stmts links c k row s t e m = rw e at m
 
 -- ---- nodes go into a set
 
@@ -192,56 +193,15 @@ module _ (stmts falls links : List ℕ) (e c a : ℕ) (row : List ℕ) (b : Bool
   unfolding backFrom
   back-no s h = rw (test ∙ h) (set-kept s)
 
--- ---- nodes get marks
-
-cover-none : (m : List Bool) → MarksCover m m []
-cover-none m = record { size = refl; grows = λ v e. e; covers = λ v i. absurd (List·Memᴰ·not-nil i) }
-
-cover-both : (a b c : List Bool) (k l : List ℕ) → MarksCover a b k → MarksCover b c l → MarksCover a c (k ++ l)
-cover-both a b c k l p q =
-    record {
-      size = q .size ∙ p .size;
-      grows = λ v e. q .grows v (p .grows v e);
-      covers = λ v i. ⊎-elim (λ x. q .grows v (p .covers v x)) (λ x. q .covers v x) (List·Memᴰ·append-cases k i);
-    }
-
-cover-one : (m : List Bool) (i : ℕ) → i < length m → MarksCover m (set m i true) (i ∷ [])
-cover-one m i h =
-    record {
-      size = length-set m i true;
-      grows = λ v e. grow v e (eq-or v i);
-      covers = λ v j. ⊎-elim (λ q. rw q (getD-set-same m i true false h)) (λ x. absurd (List·Memᴰ·not-nil x)) (List·Memᴰ·cases-cons j);
-    }
-  where
-    grow : (v : ℕ) → getD m v false ≡ true → (v ≡ i) ⊎ (v ≡ i → ⊥) → getD (set m i true) v false ≡ true
-    grow v e (inl q) = rw q (getD-set-same m i true false h)
-    grow v e (inr q) = getD-set-other m i v true false q ∙ e
-
-pub cover-zero : (m : List Bool) (t : ℕ) → t ≡ 0 → MarksCover m m (decode t)
-cover-zero m zero e = cover-none m
-cover-zero m (suc t) e = absurd (omega arith)
-
-pub cover-some : (m : List Bool) (t u : ℕ) → u ≡ t → (t ≡ 0 → ⊥) → t ≤ length m → MarksCover m (set m (u - 1) true) (decode t)
-cover-some m zero u q e h = absurd (e refl)
-cover-some m (suc t) u q e h = let v : u - 1 ≡ t = omega arith in rw v (cover-one m t (omega arith))
-
--- a loop that marks, or inserts, what f gives for each element
+-- a loop that inserts what f gives for each element
 module _ (f : ℕ → List ℕ) (xs : List ℕ) where
-  pub cover-start : (m : List Bool) → MarksCover m m (each f (take 0 xs))
-  unfolding each
-  cover-start m = cover-none m
-
   pub set-start : (s : List ℕ) → SetAdded s s (each f (take 0 xs))
   unfolding each
   set-start s = set-kept s
 
   -- a is the element at k
-  module _ (k a : ℕ) (h : k < length xs) (e : a ≡ getD xs k 0) where
-    pub cover-more : (l m n : List Bool) → MarksCover l m (each f (take k xs)) → MarksCover m n (f a) → MarksCover l n (each f (take (k + 1) xs))
-    cover-more l m n p q = rw (each-more f xs k h, ← e) (cover-both l m n (each f (take k xs)) (f a) p q)
-
-    pub set-more : (s t u : List ℕ) → SetAdded s t (each f (take k xs)) → SetAdded t u (f a) → SetAdded s u (each f (take (k + 1) xs))
-    set-more s t u p q = rw (each-more f xs k h, ← e) (set-both s t u (each f (take k xs)) (f a) p q)
+  pub set-more : (k a : ℕ) → k < length xs → a ≡ getD xs k 0 → (s t u : List ℕ) → SetAdded s t (each f (take k xs)) → SetAdded t u (f a) → SetAdded s u (each f (take (k + 1) xs))
+  set-more k a h e s t u p q = rw (each-more f xs k h, ← e) (set-both s t u (each f (take k xs)) (f a) p q)
 
 -- ---- the calls of an entry, by the tables and in the graph
 
@@ -315,16 +275,13 @@ module _ (W : Wired) (stmts falls links : List ℕ) (n : ℕ) (s : Roles W stmts
       record { node = lt; calls = p .0; exists = q .1; continues = p .1 }
 
   -- the set of the continuations of the calls of e
-  pub backs-are : (none backs calls : List ℕ) → ((a : ℕ) → In none a → ⊥) → calls ≡ callsBelow stmts n → SetAdded none backs (each (backFrom stmts falls links e) calls) → In backs k ↔ CallsBack W e k
-  backs-are none backs calls z q a = (
-    λ m.
-        ⊎-elim (λ x. absurd (z k x))
-        (λ x. let t = backs-table (subst (λ (l : List ℕ). List·Memᴰ k (each (backFrom stmts falls links e) l)) q x) in table-calls (t .0) (t .1))
-        (a .members k .0 m),
-    λ b. a .members k .1 (inr (subst (λ (l : List ℕ). List·Memᴰ k (each (backFrom stmts falls links e) l)) (sym q) (table-backs (b .caller) (calls-table b)))),
+  pub backs-are : (none backs calls : List ℕ) → ((a : ℕ) → In none a → ⊥) → EntryCalls stmts falls links n e calls → SetAdded none backs (each (backFrom stmts falls links e) calls) → In backs k ↔ CallsBack W e k
+  backs-are none backs calls z r a = (
+    λ m. ⊎-elim (λ x. absurd (z k x)) (λ x. let t = backs-table (r .backs k .0 x) in table-calls (t .0) (t .1)) (a .members k .0 m),
+    λ b. a .members k .1 (inr (r .backs k .1 (table-backs (b .caller) (calls-table b)))),
   )
 
-  -- an entry that some call has among its targets is one of the nodes, and marked
+  -- an entry that some call has among its targets is one of the nodes, and has a span
   pub called-node : CallsBack W e k → e < n
   unfolding linkEntries
   called-node b =
@@ -334,10 +291,40 @@ module _ (W : Wired) (stmts falls links : List ℕ) (n : ℕ) (s : Roles W stmts
       let h : m .0 ≤ n = all-mem (all-take (λ (x : ℕ). x ≤ n) (getD stmts (c * 12 + 10) 0) (drop (c * 64) links) (λ j lt. rw (getD-drop (c * 64) links j 0) (s .link-fits c (t .node) (t .calls) j lt))) (m .0) (m .1) in
       omega (arith, decoded e (m .0) (m .2))
 
-  pub called-marked : (calls : List ℕ) → calls ≡ callsBelow stmts n → CallsBack W e k → List·Memᴰ e (each (linkEntries stmts links) calls)
-  called-marked calls q b =
+  called-spanned : (calls spans : List ℕ) → calls ≡ callsBelow stmts n → Spanned stmts links calls (length calls) spans → CallsBack W e k → 0 < getD spans (e * 2 + 1) 0
+  called-spanned calls spans q p b =
       let t = calls-table b in
-      rw q (mem-each (linkEntries stmts links) (mem-calls stmts n (b .caller) (t .node) (t .calls)) (t .exists))
+      let m = mem-place {c = b .caller} calls (rw q (mem-calls stmts n (b .caller) (t .node) (t .calls))) in
+      let i = p .covers (m .0) (m .1) e (rw (m .2) (t .exists)) in
+      omega (arith, i .below)
+
+-- ---- a span has all calls of its entry
+
+-- as code lends it: from a to b
+module _ (stmts falls links : List ℕ) (n e : ℕ) (calls spans : List ℕ) (r : CallsReady stmts falls links n calls) (p : Spanned stmts links calls (length calls) spans) (a b : ℕ)
+    (ea : a ≡ getD spans (e * 2) 0) (eb : b ≡ getD spans (e * 2 + 1) 0) where
+  pub span-fits : (a ≤ b) × (b ≤ length calls)
+  span-fits = let h = p .ends e in (omega arith, omega arith)
+
+  in-span : {k : ℕ} (c : ℕ) → List·Memᴰ c calls → List·Memᴰ k (backFrom stmts falls links e c) → List·Memᴰ c (take (b - a) (drop a calls))
+  unfolding backFrom targetRow linkEntries
+  in-span c mc mk =
+      let h = has-row e (targetRow stmts links c) (picked (has (e + 1) (targetRow stmts links c)) (fallEntry falls c) mk .0) in
+      let m = mem-place calls mc in
+      let i = p .covers (m .0) (m .1) e (rw (m .2) h) in
+      subst (λ (x : ℕ). List·Memᴰ x (take (b - a) (drop a calls))) (m .2) (part-place calls a b (m .0) (omega (arith, i .above)) (omega (arith, i .below)) (span-fits .1))
+
+  pub entry-calls : EntryCalls stmts falls links n e (take (b - a) (drop a calls))
+  entry-calls =
+      record {
+        few = r .few;
+        in-stmts = r .in-stmts;
+        fit = all-take (CallFits stmts falls links) (b - a) (drop a calls) (λ j h. rw (getD-drop a calls j 0) (all-getD (r .fit) (a + j) _ (omega (arith, span-fits .1)) refl));
+        backs = λ k. (
+          λ m. let t = each-mem (backFrom stmts falls links e) (take (b - a) (drop a calls)) m in mem-each (backFrom stmts falls links e) (subst (List·Memᴰ (t .0)) (r .listed) (mem-drop a calls (mem-take (b - a) (drop a calls) (t .1)))) (t .2),
+          λ m. let t = each-mem (backFrom stmts falls links e) (callsBelow stmts n) m in mem-each (backFrom stmts falls links e) (in-span (t .0) (subst (List·Memᴰ (t .0)) (sym (r .listed)) (t .1)) (t .2)) (t .2),
+        );
+      }
 
 -- ---- one entry
 
@@ -362,17 +349,16 @@ module _ (W : Wired) (stmts : List ℕ) (n e : ℕ) where
         others = s .others;
       }
 
-pub listed-joined : (stmts falls links : List ℕ) (n e : ℕ) (l none backs calls xs ys : List ℕ) → none ≡ replicate 64 0 → CallsReady stmts falls links n calls
+pub listed-joined : (stmts falls links : List ℕ) (n e : ℕ) (l none backs calls xs ys : List ℕ) → none ≡ replicate 64 0 → EntryCalls stmts falls links n e calls
     → SetAdded none backs (each (backFrom stmts falls links e) calls) → ReturnsJoined stmts n l backs xs ys → ListedJoined stmts falls links n e l xs ys
 listed-joined stmts falls links n e l none backs calls xs ys z r a j W s w =
     let empty : (k : ℕ) → In none k → ⊥ = λ k m. none-in 64 k (rw z at m) in
-    region-joined W stmts n e l backs xs ys (λ k. backs-are W stmts falls links n s e k none backs calls empty (r .listed) a) w j
+    region-joined W stmts n e l backs xs ys (λ k. backs-are W stmts falls links n s e k none backs calls empty r a) w j
 
--- an entry without its mark has no calls
-pub unmarked-joined : (stmts falls links : List ℕ) (n e : ℕ) (calls : List ℕ) (called : List Bool) (xs : List ℕ) → calls ≡ callsBelow stmts n → CalledMarked stmts links calls called
-    → getD called e false ≡ false → (W : Wired) → Roles W stmts falls links n → RegionJoined W stmts n e xs xs
-unmarked-joined stmts falls links n e calls called xs q m z W s =
-    region-skipped W stmts n e xs (λ k b. let h = m e (called-marked W stmts falls links n s e k calls q b) in let y : _≡_ {A = ℕ} 0 1 = cc in omega arith)
+-- an entry with an empty span has no calls
+pub uncalled-joined : (stmts falls links : List ℕ) (n e : ℕ) (calls spans xs : List ℕ) (b : ℕ) → calls ≡ callsBelow stmts n → Spanned stmts links calls (length calls) spans
+    → b ≡ getD spans (e * 2 + 1) 0 → b ≡ 0 → (W : Wired) → Roles W stmts falls links n → RegionJoined W stmts n e xs xs
+uncalled-joined stmts falls links n e calls spans xs b q p eb z W s = region-skipped W stmts n e xs (λ k c. omega (arith, called-spanned W stmts falls links n s e k calls spans q p c))
 
 -- ---- entry after entry
 
@@ -402,9 +388,9 @@ module _ (W : Wired) (stmts : List ℕ) (n : ℕ) where
       earlier r h k e lt b (inr q) = inl (s .members r h k .1 (inr (e, omega arith, b)))
 
 -- the same tables, with other sets
-pub entries-again : {stmts falls links lists edges : List ℕ} {n : ℕ} {calls : List ℕ} {called : List Bool} {xs : List ℕ} (ys : List ℕ) → length ys ≡ length xs
-    → EntriesReady stmts falls links lists edges n calls called xs → EntriesReady stmts falls links lists edges n calls called ys
-entries-again ys e r = record { calls-ready = r .calls-ready; marked = r .marked; stored = r .stored; in-sets = omega (arith, r .in-sets) }
+pub entries-again : {stmts falls links lists edges : List ℕ} {n : ℕ} {calls spans xs : List ℕ} (ys : List ℕ) → length ys ≡ length xs
+    → EntriesReady stmts falls links lists edges n calls spans xs → EntriesReady stmts falls links lists edges n calls spans ys
+entries-again ys e r = record { calls-ready = r .calls-ready; spanned = r .spanned; in-spans = r .in-spans; stored = r .stored; in-sets = omega (arith, r .in-sets) }
 
 -- ---- the RETURNs' lists
 

@@ -2,7 +2,6 @@
 -- entries leave in the sets of the RETURNs. Assumes nothing.
 use Prim.Native.Nat.{ℕ, zero, suc, _+_, _*_, _/_, _≤_, _<_}
 use mathlib.Core.Path.{_≡_}
-use mathlib.Core.Bool.{Bool, true, false}
 use mathlib.Core.List.{List, [], _++_, List·Memᴰ}
 use mathlib.Core.Logic.{_⊎_, _↔_}
 use lib.ListN.{length, getD, take, drop}
@@ -12,9 +11,10 @@ use Rattle.graph.specs.Lists.{has, each}
 use Rattle.graph.specs.Graph.{Wired, continuation, callees, skipSteps, regionReturnEdges}
 use Rattle.graph.specs.ReturnLists.{SkippingPath}
 use Rattle.wiring.specs.Walk.{Reached, Stored, storedList}
+use Rattle.wiring.specs.Spans.{Spanned}
 use Rattle.wiring.specs.Sets.{In, oneIf, membersOf}
 use Rattle.wiring.specs.ReturnSets.{returnWord, IsReturn, setOf}
-use Rattle.wiring.specs.Prepared.{callWord, wordOf, fallEntry, linkEntries, Roles}
+use Rattle.wiring.specs.Prepared.{callWord, wordOf, fallEntry, Roles}
 
 -- ---- calls, by the tables
 
@@ -52,17 +52,18 @@ pub record CallsReady (stmts falls links : List ℕ) (n : ℕ) (calls : List ℕ
   pub listed : calls ≡ callsBelow stmts n
   pub fit : All (CallFits stmts falls links) calls
 
--- ---- nodes that go into a set, and nodes that get marks
+-- some calls that can be read, with all that have the entry e among their targets
+pub record EntryCalls (stmts falls links : List ℕ) (n e : ℕ) (calls : List ℕ) : Type 0 where
+  pub few : n ≤ 4096
+  pub in-stmts : n * 12 ≤ length stmts
+  pub fit : All (CallFits stmts falls links) calls
+  pub backs : (k : ℕ) → List·Memᴰ k (each (backFrom stmts falls links e) calls) ↔ List·Memᴰ k (each (backFrom stmts falls links e) (callsBelow stmts n))
+
+-- ---- nodes that go into a set
 
 pub record SetAdded (set set′ l : List ℕ) : Type 0 where
   pub size : length set′ ≡ length set
   pub members : (k : ℕ) → In set′ k ↔ (In set k ⊎ List·Memᴰ k l)
-
--- marks stay, and those of l are there
-pub record MarksCover (marks marks′ : List Bool) (l : List ℕ) : Type 0 where
-  pub size : length marks′ ≡ length marks
-  pub grows : (v : ℕ) → getD marks v false ≡ true → getD marks′ v false ≡ true
-  pub covers : (v : ℕ) → List·Memᴰ v l → getD marks′ v false ≡ true
 
 -- ---- what a region gives to the sets of its RETURNs
 
@@ -117,14 +118,11 @@ abbrev pub RegionReturns : (stmts falls links lists edges : List ℕ) (n : ℕ) 
 RegionReturns stmts falls links lists edges n sets sets′ =
     (W : Wired) → Roles W stmts falls links n → Stored lists edges n (skipSteps W) → ReturnRows W stmts n sets sets′
 
--- each entry that a call has among its targets is marked
-abbrev pub CalledMarked : (stmts links : List ℕ) (calls : List ℕ) (called : List Bool) → Type 0
-CalledMarked stmts links calls called = (e : ℕ) → List·Memᴰ e (each (linkEntries stmts links) calls) → getD called e false ≡ true
-
 -- the walks can start
-pub record EntriesReady (stmts falls links lists edges : List ℕ) (n : ℕ) (calls : List ℕ) (called : List Bool) (sets : List ℕ) : Type 0 where
+pub record EntriesReady (stmts falls links lists edges : List ℕ) (n : ℕ) (calls spans sets : List ℕ) : Type 0 where
   pub calls-ready : CallsReady stmts falls links n calls
-  pub marked : CalledMarked stmts links calls called
+  pub spanned : Spanned stmts links calls (length calls) spans
+  pub in-spans : length spans ≡ 8192
   pub stored : Stored lists edges n (storedList lists edges)
   pub in-sets : n * 64 ≤ length sets
 

@@ -1,7 +1,6 @@
 -- Where RETURNs go back to, where all lists together are too long to store: regions by closed rows of bits. Assumes nothing.
 use Prim.Native.Nat.{ℕ, _*_, _≤_, _<_}
 use mathlib.Core.Path.{_≡_}
-use mathlib.Core.Bool.{Bool}
 use mathlib.Core.List.{List}
 use lib.ListN.{length, getD}
 use Rattle.reader.specs.Listing.{Listing}
@@ -10,7 +9,8 @@ use Rattle.wiring.specs.Sets.{membersOf}
 use Rattle.wiring.specs.ReturnSets.{returnWord, setOf}
 use Rattle.wiring.specs.Closure.{OthersClosed}
 use Rattle.wiring.specs.Prepared.{Prepared, Roles}
-use Rattle.wiring.specs.Regions.{RegionJoined, RegionsJoined, ReturnRows, SetsClear, CallsReady, CalledMarked}
+use Rattle.wiring.specs.Regions.{RegionJoined, RegionsJoined, ReturnRows, SetsClear, CallsReady}
+use Rattle.wiring.specs.Spans.{Spanned}
 
 -- ---- entries
 
@@ -27,10 +27,11 @@ abbrev pub RegionsSpread : (stmts falls links : List ℕ) (n : ℕ) (rows rows�
 RegionsSpread stmts falls links n rows rows′ =
     (W : Wired) → Roles W stmts falls links n → OthersClosed (skipSteps W) stmts n rows → ReturnRows W stmts n rows rows′
 
--- the calls and the entries are known
-pub record SpreadEntriesReady (stmts falls links : List ℕ) (n : ℕ) (calls : List ℕ) (called : List Bool) (rows : List ℕ) : Type 0 where
+-- the calls and their spans are known
+pub record SpreadEntriesReady (stmts falls links : List ℕ) (n : ℕ) (calls spans rows : List ℕ) : Type 0 where
   pub calls-ready : CallsReady stmts falls links n calls
-  pub marked : CalledMarked stmts links calls called
+  pub spanned : Spanned stmts links calls (length calls) spans
+  pub in-spans : length spans ≡ 8192
   pub in-rows : n * 64 ≤ length rows
 
 pub record SpreadRegionsReady (stmts falls links : List ℕ) (n : ℕ) (rows : List ℕ) : Type 0 where

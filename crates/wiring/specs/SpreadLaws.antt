@@ -1,7 +1,6 @@
 -- Laws of regions by closed rows of bits: the RETURNs' rows change, the others stay closed. Assumes nothing.
 use Prim.Native.Nat.{ℕ, _+_, _*_, _/_, _≤_}
 use mathlib.Core.Path.{_≡_, ap, _∙_}
-use mathlib.Core.Bool.{Bool}
 use mathlib.Core.List.{List}
 use native.Mathlib.Omega.{arith}
 use lib.ListN.{length, getD}
@@ -26,9 +25,9 @@ entries-more stmts falls links n m xs ys zs fits s t W r o =
     regions-more W stmts n m xs ys zs a (t W r (others-kept (skipSteps W) stmts n xs ys fits (a .size) (a .others) o))
 
 -- the same tables, with other rows
-pub spread-again : {stmts falls links : List ℕ} {n : ℕ} {calls : List ℕ} {called : List Bool} {xs : List ℕ} (ys : List ℕ) → length ys ≡ length xs
-    → SpreadEntriesReady stmts falls links n calls called xs → SpreadEntriesReady stmts falls links n calls called ys
-spread-again ys e r = record { calls-ready = r .calls-ready; marked = r .marked; in-rows = omega (arith, r .in-rows) }
+pub spread-again : {stmts falls links : List ℕ} {n : ℕ} {calls spans xs : List ℕ} (ys : List ℕ) → length ys ≡ length xs
+    → SpreadEntriesReady stmts falls links n calls spans xs → SpreadEntriesReady stmts falls links n calls spans ys
+spread-again ys e r = record { calls-ready = r .calls-ready; spanned = r .spanned; in-spans = r .in-spans; in-rows = omega (arith, r .in-rows) }
 
 -- ---- the whole
 

@@ -25,6 +25,7 @@ pub mod return_totals;
 pub mod room;
 pub mod sets;
 pub mod skip_lists;
+pub mod spans;
 pub mod spread;
 pub mod stacks;
 pub mod store;

@@ -5,20 +5,21 @@ use crate::lists::holds;
 use crate::return_sets::join_returns;
 use crate::sets::insert;
 use crate::sets::no_words;
-use crate::walk::no_marks;
+use crate::spans::no_spans;
+use crate::spans::span_calls;
 use crate::walk::no_work;
 use crate::walk::region;
 use crate::widths::narrow;
 use crate::widths::wide;
 ghost use mathlib.Core.Path.{_≡_};
-ghost use Prim.Native.Nat.{ℕ, _+_, _*_, _≤_, _<_};
+ghost use Prim.Native.Nat.{_+_, _*_, _≤_, _<_};
 ghost use lib.ListN.{length};
 ghost use Rattle.reader.specs.Every.{All};
 ghost use Rattle.graph.specs.Lists.{each};
 ghost use Rattle.graph.specs.Adding.{decode};
 ghost use Rattle.wiring.specs.Sets.{oneIf, Put};
-ghost use Rattle.wiring.specs.Prepared.{callWord, wordOf, linkEntries};
-ghost use Rattle.wiring.specs.Regions.{callsBelow, backFrom, TargetsFit, CallFits, CallsReady, SetAdded, MarksCover, ListedJoined, EntryJoined, EntriesJoined, EntriesReady, RegionsReady, RegionReturns};
+ghost use Rattle.wiring.specs.Prepared.{callWord, wordOf};
+ghost use Rattle.wiring.specs.Regions.{callsBelow, backFrom, CallFits, EntryCalls, SetAdded, ListedJoined, EntryJoined, EntriesJoined, EntriesReady, RegionsReady, RegionReturns};
 
 // Puts node i behind the first m entries, if it is a call.
 fn list_call(stmts: &[u16], i: usize, calls: &mut [u16], m: usize) -> usize
@@ -44,52 +45,6 @@ pub(crate) fn list_calls(stmts: &[u16], n: usize, calls: &mut [u16]) -> usize
         i += 1;
     }
     m
-}
-
-// Marks the node t - 1, where t is not 0.
-fn mark_some(called: &mut [bool; 4096], t: u16)
-    requires { ⌜ (t ≤ 4096) × (length (now called) ≡ 4096) ⌝ }
-    ensures { λ _. ⌜ MarksCover (now (called .entry)) (now (called .exit)) (decode t) ⌝ }
-{
-    if t == 0 {
-        return;
-    }
-    let e = wide(t) - 1;
-    called[e] = true;
-}
-
-// Marks the entries that a row of links names.
-fn mark_row(row: &[u16], called: &mut [bool; 4096])
-    requires { ⌜ All (λ (t : ℕ). t ≤ 4096) (now row) × (length (now called) ≡ 4096) ⌝ }
-    ensures { λ _. ⌜ MarksCover (now (called .entry)) (now (called .exit)) (each decode (now (row .entry))) ⌝ }
-{
-    let mut k: usize = 0;
-    while k < row.len() {
-        mark_some(called, row[k]);
-        k += 1;
-    }
-}
-
-// Marks the entries of the targets of call c.
-fn mark_targets(stmts: &[u16], links: &[u16], c: usize, called: &mut [bool; 4096])
-    requires { ⌜ TargetsFit (now stmts) (now links) c × (length (now called) ≡ 4096) ⌝ }
-    ensures { λ _. ⌜ MarksCover (now (called .entry)) (now (called .exit)) (linkEntries (now (stmts .entry)) (now (links .entry)) c) ⌝ }
-{
-    let at = c * 64;
-    let end = at + wide(stmts[c * 12 + 10]);
-    mark_row(&links[at..end], called);
-}
-
-// Marks every entry that one of the calls has among its targets.
-pub(crate) fn mark_called(stmts: &[u16], links: &[u16], calls: &[u16], called: &mut [bool; 4096])
-    requires { ⌜ All (TargetsFit (now stmts) (now links)) (now calls) × (length (now called) ≡ 4096) ⌝ }
-    ensures { λ _. ⌜ MarksCover (now (called .entry)) (now (called .exit)) (each (linkEntries (now (stmts .entry)) (now (links .entry))) (now (calls .entry))) ⌝ }
-{
-    let mut k: usize = 0;
-    while k < calls.len() {
-        mark_targets(stmts, links, wide(calls[k]), called);
-        k += 1;
-    }
 }
 
 // Inserts the node t - 1, where t is not 0.
@@ -135,7 +90,7 @@ fn add_backs(
     }
 }
 
-// For the entry e, with a list of its region: the continuations of its calls are joined into the set of each RETURN there.
+// For the entry e, with its calls and a list of its region: the continuations of the calls are joined into the set of each RETURN there.
 pub(crate) fn join_region(
     stmts: &[u16],
     falls: &[u16],
@@ -146,7 +101,7 @@ pub(crate) fn join_region(
     list: &[u16],
     sets: &mut [u64],
 )
-    requires { ⌜ CallsReady (now stmts) (now falls) (now links) n (now calls) × (e < 4096) × (n * 64 ≤ length (now sets)) ⌝ }
+    requires { ⌜ EntryCalls (now stmts) (now falls) (now links) n e (now calls) × (e < 4096) × (n * 64 ≤ length (now sets)) ⌝ }
     ensures { λ _. ⌜ ListedJoined (now (stmts .entry)) (now (falls .entry)) (now (links .entry)) n e (now (list .entry)) (now (sets .entry)) (now (sets .exit)) ⌝ }
 {
     let mut backs = no_words();
@@ -163,19 +118,31 @@ fn join_called(
     edges: &[u16],
     n: usize,
     calls: &[u16],
-    called: &[bool; 4096],
+    spans: &[u16],
     e: usize,
     work: &mut [u16],
     sets: &mut [u64],
 )
-    requires { ⌜ EntriesReady (now stmts) (now falls) (now links) (now lists) (now edges) n (now calls) (now called) (now sets) × (e < n) × (length (now work) ≡ 4096) ⌝ }
+    requires { ⌜ EntriesReady (now stmts) (now falls) (now links) (now lists) (now edges) n (now calls) (now spans) (now sets) × (e < n) × (length (now work) ≡ 4096) ⌝ }
     ensures { λ _. ⌜ EntryJoined (now (stmts .entry)) (now (falls .entry)) (now (links .entry)) (now (lists .entry)) (now (edges .entry)) n e (now (sets .entry)) (now (sets .exit)) ⌝ }
 {
-    if !called[e] {
+    let at = e * 2;
+    let end = wide(spans[at + 1]);
+    if end == 0 {
         return;
     }
+    let start = wide(spans[at]);
     let count = region(lists, edges, n, e, work);
-    join_region(stmts, falls, links, n, calls, e, &work[..count], sets);
+    join_region(
+        stmts,
+        falls,
+        links,
+        n,
+        &calls[start..end],
+        e,
+        &work[..count],
+        sets,
+    );
 }
 
 // All called entries.
@@ -187,11 +154,11 @@ fn join_entries(
     edges: &[u16],
     n: usize,
     calls: &[u16],
-    called: &[bool; 4096],
+    spans: &[u16],
     work: &mut [u16],
     sets: &mut [u64],
 )
-    requires { ⌜ EntriesReady (now stmts) (now falls) (now links) (now lists) (now edges) n (now calls) (now called) (now sets) × (length (now work) ≡ 4096) ⌝ }
+    requires { ⌜ EntriesReady (now stmts) (now falls) (now links) (now lists) (now edges) n (now calls) (now spans) (now sets) × (length (now work) ≡ 4096) ⌝ }
     ensures { λ _. ⌜ EntriesJoined (now (stmts .entry)) (now (falls .entry)) (now (links .entry)) (now (lists .entry)) (now (edges .entry)) n n (now (sets .entry)) (now (sets .exit)) ⌝ }
 {
     let mut e: usize = 0;
@@ -204,7 +171,7 @@ fn join_entries(
             edges,
             n,
             calls,
-            called,
+            spans,
             e,
             work,
             sets,
@@ -229,8 +196,8 @@ pub(crate) fn region_return_edges(
     let mut buffer = no_work();
     let count = list_calls(stmts, n, &mut buffer);
     let calls = &buffer[..count];
-    let mut called = no_marks();
-    mark_called(stmts, links, calls, &mut called);
+    let mut spans = no_spans();
+    span_calls(stmts, links, calls, &mut spans);
     let mut work = no_work();
     join_entries(
         stmts,
@@ -240,7 +207,7 @@ pub(crate) fn region_return_edges(
         edges,
         n,
         calls,
-        &called,
+        &spans,
         &mut work,
         sets,
     );

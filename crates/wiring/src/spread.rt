@@ -5,9 +5,10 @@ use crate::closure::list_row;
 use crate::fill_rows::fill_rows;
 use crate::regions::join_region;
 use crate::regions::list_calls;
-use crate::regions::mark_called;
-use crate::walk::no_marks;
+use crate::spans::no_spans;
+use crate::spans::span_calls;
 use crate::walk::no_work;
+use crate::widths::wide;
 ghost use mathlib.Core.Path.{_≡_};
 ghost use Prim.Native.Nat.{_<_};
 ghost use lib.ListN.{length};
@@ -21,19 +22,31 @@ fn join_spread(
     links: &[u16],
     n: usize,
     calls: &[u16],
-    called: &[bool; 4096],
+    spans: &[u16],
     e: usize,
     work: &mut [u16],
     rows: &mut [u64],
 )
-    requires { ⌜ SpreadEntriesReady (now stmts) (now falls) (now links) n (now calls) (now called) (now rows) × (e < n) × (length (now work) ≡ 4096) ⌝ }
+    requires { ⌜ SpreadEntriesReady (now stmts) (now falls) (now links) n (now calls) (now spans) (now rows) × (e < n) × (length (now work) ≡ 4096) ⌝ }
     ensures { λ _. ⌜ EntrySpread (now (stmts .entry)) (now (falls .entry)) (now (links .entry)) n e (now (rows .entry)) (now (rows .exit)) ⌝ }
 {
-    if !called[e] {
+    let at = e * 2;
+    let end = wide(spans[at + 1]);
+    if end == 0 {
         return;
     }
+    let start = wide(spans[at]);
     let count = list_row(stmts, rows, n, e, work);
-    join_region(stmts, falls, links, n, calls, e, &work[..count], rows);
+    join_region(
+        stmts,
+        falls,
+        links,
+        n,
+        &calls[start..end],
+        e,
+        &work[..count],
+        rows,
+    );
 }
 
 // All called entries.
@@ -43,16 +56,16 @@ fn spread_entries(
     links: &[u16],
     n: usize,
     calls: &[u16],
-    called: &[bool; 4096],
+    spans: &[u16],
     work: &mut [u16],
     rows: &mut [u64],
 )
-    requires { ⌜ SpreadEntriesReady (now stmts) (now falls) (now links) n (now calls) (now called) (now rows) × (length (now work) ≡ 4096) ⌝ }
+    requires { ⌜ SpreadEntriesReady (now stmts) (now falls) (now links) n (now calls) (now spans) (now rows) × (length (now work) ≡ 4096) ⌝ }
     ensures { λ _. ⌜ EntriesSpread (now (stmts .entry)) (now (falls .entry)) (now (links .entry)) n n (now (rows .entry)) (now (rows .exit)) ⌝ }
 {
     let mut e: usize = 0;
     while e < n {
-        join_spread(stmts, falls, links, n, calls, called, e, work, rows);
+        join_spread(stmts, falls, links, n, calls, spans, e, work, rows);
         e += 1;
     }
 }
@@ -65,10 +78,10 @@ fn spread_regions(stmts: &[u16], falls: &[u16], links: &[u16], n: usize, rows: &
     let mut buffer = no_work();
     let count = list_calls(stmts, n, &mut buffer);
     let calls = &buffer[..count];
-    let mut called = no_marks();
-    mark_called(stmts, links, calls, &mut called);
+    let mut spans = no_spans();
+    span_calls(stmts, links, calls, &mut spans);
     let mut work = no_work();
-    spread_entries(stmts, falls, links, n, calls, &called, &mut work, rows);
+    spread_entries(stmts, falls, links, n, calls, &spans, &mut work, rows);
 }
 
 // The rows of arguments become rows of bits, closed, and then the RETURNs' rows their sets. What stood in the arguments is lost.

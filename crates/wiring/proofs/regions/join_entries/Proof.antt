@@ -10,19 +10,19 @@ use Rattle.wiring.proofs.regions.join_entries.Statement.{statement}
 use Rattle.wiring.proofs.regions.join_entries.Tie as tie
 
 abbrev Inv-loop : tie.InvT-loop
-Inv-loop stmts falls links lists edges n calls called work₀ sets₀ e₀ work sets e = (e ≤ n) × (length work ≡ length work₀) × (length sets ≡ length sets₀) × EntriesJoined stmts falls links lists edges n e sets₀ sets
+Inv-loop stmts falls links lists edges n calls spans work₀ sets₀ e₀ work sets e = (e ≤ n) × (length work ≡ length work₀) × (length sets ≡ length sets₀) × EntriesJoined stmts falls links lists edges n e sets₀ sets
 
 abbrev μ-loop : tie.MeasureT-loop
-μ-loop stmts falls links lists edges n calls called work₀ sets₀ e₀ work sets e = n - e
+μ-loop stmts falls links lists edges n calls spans work₀ sets₀ e₀ work sets e = n - e
 
 loop-holds : tie.Need-loop-holds Inv-loop μ-loop
 loop-holds c =
-    let a = c .before .before .before .before .before .before .before .before .args in
+    let a = c .before .before .before .before .before .before .before .before .before .args in
     (omega arith, refl, refl, λ W s t. regions-none W (a .stmts .now) (a .n) (a .sets .now))
 
 join-called-requires : tie.Need-join-called-requires Inv-loop μ-loop
 join-called-requires c κs =
-    let s = c .before .before .before .before .before .before .before .before .before .before .before .before in
+    let s = c .before .before .before .before .before .before .before .before .before .before .before .before .before in
     let l = c .before .before .before .loop in
     (entries-again _ (l .inv .2) (s .pre .0), c .before .before .loop-test .taken, omega (arith, l .inv .1, s .pre .1))
 
@@ -34,7 +34,7 @@ loop-less c = search needs
 
 loop-again : tie.Need-loop-again Inv-loop μ-loop
 loop-again c =
-    let a = c .before .before .before .before .before .before .before .before .before .before .before .before .before .before .before .before .before .args in
+    let a = c .before .before .before .before .before .before .before .before .before .before .before .before .before .before .before .before .before .before .args in
     let l = c .before .before .before .before .before .before .before .before .loop in
     (omega arith, search needs, search needs, λ W s t. regions-more W (a .stmts .now) (a .n) (l .e) (a .sets .now) (l .sets) _ (l .inv .3 W s t) (c .before .before .before .before .join-called .ensures W s t))
 
@@ -47,7 +47,7 @@ same-length-2 c = search needs
 returns : tie.Need-returns Inv-loop μ-loop
 returns c =
     let l = c .before .loop in
-    let q : l .e ≡ c .before .before .before .before .before .before .before .before .before .before .args .n = omega arith in
+    let q : l .e ≡ c .before .before .before .before .before .before .before .before .before .before .before .args .n = omega arith in
     rw q at (l .inv .3)
 
 pub join-entries-spec : {M : Type 1} → statement M

@@ -1,35 +1,71 @@
--- `join_spread`: an entry without its mark has no calls; any other has its region listed by its row. Assumes nothing.
+-- `join_spread`: an entry with an empty span has no calls; any other has its region listed by its row. Assumes nothing.
 use borrow.Author.Needs.{needs}
-use borrow.Author.Tests.{not-true}
 use mathlib.Core.Path.{sym}
+use native.Mathlib.Omega.{arith}
 use lib.Seq.{length-take-le}
 use Rattle.graph.specs.Graph.{skipSteps}
-use Rattle.wiring.specs.RegionLaws.{unmarked-joined}
+use Rattle.wiring.specs.RegionLaws.{uncalled-joined, span-fits, entry-calls}
 use Rattle.wiring.proofs.spread.join_spread.Statement.{statement}
 use Rattle.wiring.proofs.spread.join_spread.Tie as tie
 
-element-copy-out-if1 : tie.Need-element-copy-out-if1
-element-copy-out-if1 c = search needs
+mul-at : tie.Need-mul-at
+mul-at c = search needs
+
+add-wide : tie.Need-add-wide
+add-wide c = search needs
+
+mul-wide : tie.Need-mul-wide
+mul-wide c = search needs
+
+shared-slice-read-wide : tie.Need-shared-slice-read-wide
+shared-slice-read-wide c = search needs
+
+wide-requires : tie.Need-wide-requires
+wide-requires c κs = search needs
 
 returns : tie.Need-returns
 returns c =
-    let s = c .before .before .before .before .before .before .before .before in
+    let s = c .before .before .before .before .before .before .before .before .before .before in
     let a = s .args in
-    λ W r o.
-    unmarked-joined (a .stmts .now) (a .falls .now) (a .links .now) (a .n) (a .e) (a .calls .now) (a .called .now) _ (s .pre .0 .calls-ready .listed) (s .pre .0 .marked)
-    (not-true _ (c .if1 .taken)) W r
+    λ W r t.
+    uncalled-joined (a .stmts .now) (a .falls .now) (a .links .now) (a .n) (a .e) (a .calls .now) (a .spans .now) _ (c .before .wide .result) (s .pre .0 .calls-ready .listed) (s .pre .0 .spanned)
+    (c .before .wide .ensures) (c .if1 .taken) W r
+
+mul-wide-2 : tie.Need-mul-wide-2
+mul-wide-2 c = search needs
+
+shared-slice-read-wide-2 : tie.Need-shared-slice-read-wide-2
+shared-slice-read-wide-2 c = search needs
+
+wide-requires-2 : tie.Need-wide-requires-2
+wide-requires-2 c κs = search needs
 
 list-row-requires : tie.Need-list-row-requires
 list-row-requires c κs = search needs
+
+mul-join-region : tie.Need-mul-join-region
+mul-join-region c = let s = c .before .before .before .before .before .before .before .before .before .before .before .before .before .before .before .before .before in let a = s .args in let h = span-fits (a .stmts .now) (a .falls .now) (a .links .now) (a .n) (a .e) (a .calls .now) (a .spans .now) (s .pre .0 .calls-ready) (s .pre .0 .spanned) (c .before .before .before .before .before .wide2 .result) (c .before .before .before .before .before .before .before .before .wide .result) (c .before .before .before .before .before .wide2 .ensures) (c .before .before .before .before .before .before .before .before .wide .ensures) in omega (arith, h .0, h .1)
+
+sub-join-region : tie.Need-sub-join-region
+sub-join-region c = let s = c .before .before .before .before .before .before .before .before .before .before .before .before .before .before .before .before .before in let a = s .args in let h = span-fits (a .stmts .now) (a .falls .now) (a .links .now) (a .n) (a .e) (a .calls .now) (a .spans .now) (s .pre .0 .calls-ready) (s .pre .0 .spanned) (c .before .before .before .before .before .wide2 .result) (c .before .before .before .before .before .before .before .before .wide .result) (c .before .before .before .before .before .wide2 .ensures) (c .before .before .before .before .before .before .before .before .wide .ensures) in omega (arith, h .0, h .1)
+
+part-join-region-start : tie.Need-part-join-region-start
+part-join-region-start c = let s = c .before .before .before .before .before .before .before .before .before .before .before .before .before .before .before .before .before in let a = s .args in let h = span-fits (a .stmts .now) (a .falls .now) (a .links .now) (a .n) (a .e) (a .calls .now) (a .spans .now) (s .pre .0 .calls-ready) (s .pre .0 .spanned) (c .before .before .before .before .before .wide2 .result) (c .before .before .before .before .before .before .before .before .wide .result) (c .before .before .before .before .before .wide2 .ensures) (c .before .before .before .before .before .before .before .before .wide .ensures) in omega (arith, h .0, h .1)
+
+part-join-region-end : tie.Need-part-join-region-end
+part-join-region-end c = let s = c .before .before .before .before .before .before .before .before .before .before .before .before .before .before .before .before .before in let a = s .args in let h = span-fits (a .stmts .now) (a .falls .now) (a .links .now) (a .n) (a .e) (a .calls .now) (a .spans .now) (s .pre .0 .calls-ready) (s .pre .0 .spanned) (c .before .before .before .before .before .wide2 .result) (c .before .before .before .before .before .before .before .before .wide .result) (c .before .before .before .before .before .wide2 .ensures) (c .before .before .before .before .before .before .before .before .wide .ensures) in omega (arith, h .0, h .1)
 
 slice-reshare-prefix-join-region : tie.Need-slice-reshare-prefix-join-region
 slice-reshare-prefix-join-region c = search needs
 
 slice-aggregate-join-region : tie.Need-slice-aggregate-join-region
-slice-aggregate-join-region c = sym (length-take-le _ _ (c .before .before .before .list-row .ensures .0))
+slice-aggregate-join-region c = sym (length-take-le _ _ (c .before .before .before .before .list-row .ensures .0))
 
 join-region-requires : tie.Need-join-region-requires
-join-region-requires c κs = search needs
+join-region-requires c κs =
+    let s = c .before .before .before .before .before .before .before .before .before .before .before .before .before .before .before .before .before .before .before .before in
+    let a = s .args in
+    (entry-calls (a .stmts .now) (a .falls .now) (a .links .now) (a .n) (a .e) (a .calls .now) (a .spans .now) (s .pre .0 .calls-ready) (s .pre .0 .spanned) (c .before .before .before .before .before .before .before .before .wide2 .result) (c .before .before .before .before .before .before .before .before .before .before .before .wide .result) (c .before .before .before .before .before .before .before .before .wide2 .ensures) (c .before .before .before .before .before .before .before .before .before .before .before .wide .ensures), omega (arith, s .pre .1, s .pre .0 .calls-ready .few), s .pre .0 .in-rows)
 
 same-length : tie.Need-same-length
 same-length c = search needs
@@ -38,15 +74,26 @@ same-length-2 : tie.Need-same-length-2
 same-length-2 c = search needs
 
 returns-2 : tie.Need-returns-2
-returns-2 c = λ W s o. c .before .before .join-region .ensures W s (c .before .before .before .before .before .before .before .list-row .ensures .1 (skipSteps W) o)
+returns-2 c = λ W s t. c .before .before .join-region .ensures W s (c .before .before .before .before .before .before .before .before .list-row .ensures .1 (skipSteps W) t)
 
 pub join-spread-spec : {M : Type 1} → statement M
 join-spread-spec =
     tie.close
     (tie.spec
-    element-copy-out-if1
+    mul-at
+    add-wide
+    mul-wide
+    shared-slice-read-wide
+    wide-requires
     returns
+    mul-wide-2
+    shared-slice-read-wide-2
+    wide-requires-2
     list-row-requires
+    mul-join-region
+    sub-join-region
+    part-join-region-start
+    part-join-region-end
     slice-reshare-prefix-join-region
     slice-aggregate-join-region
     join-region-requires

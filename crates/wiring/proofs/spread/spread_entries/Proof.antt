@@ -11,19 +11,19 @@ use Rattle.wiring.proofs.spread.spread_entries.Statement.{statement}
 use Rattle.wiring.proofs.spread.spread_entries.Tie as tie
 
 abbrev Inv-loop : tie.InvT-loop
-Inv-loop stmts falls links n calls called work₀ rows₀ e₀ work rows e = (e ≤ n) × (length work ≡ length work₀) × (length rows ≡ length rows₀) × EntriesSpread stmts falls links n e rows₀ rows
+Inv-loop stmts falls links n calls spans work₀ rows₀ e₀ work rows e = (e ≤ n) × (length work ≡ length work₀) × (length rows ≡ length rows₀) × EntriesSpread stmts falls links n e rows₀ rows
 
 abbrev μ-loop : tie.MeasureT-loop
-μ-loop stmts falls links n calls called work₀ rows₀ e₀ work rows e = n - e
+μ-loop stmts falls links n calls spans work₀ rows₀ e₀ work rows e = n - e
 
 loop-holds : tie.Need-loop-holds Inv-loop μ-loop
 loop-holds c =
-    let a = c .before .before .before .before .before .before .args in
+    let a = c .before .before .before .before .before .before .before .args in
     (omega arith, refl, refl, λ W s o. regions-none W (a .stmts .now) (a .n) (a .rows .now))
 
 join-spread-requires : tie.Need-join-spread-requires Inv-loop μ-loop
 join-spread-requires c κs =
-    let s = c .before .before .before .before .before .before .before .before .before .before in
+    let s = c .before .before .before .before .before .before .before .before .before .before .before in
     let l = c .before .before .before .loop in
     (spread-again _ (l .inv .2) (s .pre .0), c .before .before .loop-test .taken, omega (arith, l .inv .1, s .pre .1))
 
@@ -35,7 +35,7 @@ loop-less c = search needs
 
 loop-again : tie.Need-loop-again Inv-loop μ-loop
 loop-again c =
-    let s = c .before .before .before .before .before .before .before .before .before .before .before .before .before .before .before in
+    let s = c .before .before .before .before .before .before .before .before .before .before .before .before .before .before .before .before in
     let a = s .args in
     let l = c .before .before .before .before .before .before .before .before .loop in
     (omega arith, search needs, search needs, entries-more (a .stmts .now) (a .falls .now) (a .links .now) (a .n) (l .e) (a .rows .now) (l .rows) _ (s .pre .0 .in-rows) (l .inv .3) (c .before .before .before .before .join-spread .ensures))
@@ -49,7 +49,7 @@ same-length-2 c = search needs
 returns : tie.Need-returns Inv-loop μ-loop
 returns c =
     let l = c .before .loop in
-    let q : l .e ≡ c .before .before .before .before .before .before .before .before .args .n = omega arith in
+    let q : l .e ≡ c .before .before .before .before .before .before .before .before .before .args .n = omega arith in
     rw q at (l .inv .3)
 
 pub spread-entries-spec : {M : Type 1} → statement M
