@@ -1,3 +1,1 @@
-pub mod BuildTold
-pub mod QuestionTold
 pub mod Zero

@@ -18,8 +18,8 @@ use Rattle.questions.specs.ListsAt.{listAt, successorsAt, predecessorsAt}
 use Rattle.questions.specs.EntryAt.{nodeIn, entryAt}
 use Rattle.questions.specs.StatementAt.{ifRows, stmtAt, pathStatement, unlessRefused, nodeStatement}
 use Rattle.questions.specs.FrameAt.{frameOutside, frameRead, frameIn, frameAt}
-use Rattle.flowgraph.specs.BuildTold.{numberOf}
-use Rattle.flowgraph.specs.QuestionTold.{codeOf}
+use Rattle.telling.specs.BuildTold.{numberOf}
+use Rattle.telling.specs.QuestionTold.{codeOf}
 
 -- ---- a refusal's number is above 0
 

@@ -1,24 +1,9 @@
 // The graph of a listing.
-use wiring::build::Built;
+use telling::build::tell_built;
 use wiring::build::build;
 ghost use Rattle.graph.specs.Build.{build as builtBy};
 ghost use Rattle.wiring.specs.GraphTables.{sizesOf, capacity};
-ghost use Rattle.flowgraph.specs.BuildTold.{BuiltTold, BuildTold};
-
-fn tell_built(built: Built, place: &mut [usize; 1]) -> u8
-    ensures { λ r. ⌜ BuiltTold built r (now (place .exit)) ⌝ }
-{
-    match built {
-        Built::Graph => {
-            *place = [0];
-            0
-        }
-        Built::Refused { number, place: at } => {
-            *place = [at];
-            number
-        }
-    }
-}
+ghost use Rattle.telling.specs.BuildTold.{BuildTold};
 
 #[no_mangle]
 pub extern "C" fn flow_build(

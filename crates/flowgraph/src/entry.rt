@@ -1,27 +1,8 @@
 // A line's entry, by the line's number: a node and 1, or 0 and 0 where there is none.
-use questions::entry::Entered;
 use questions::entry::ask_entry;
+use telling::entry::tell_entered;
 ghost use Rattle.questions.specs.EntryAt.{entryAt};
-ghost use Rattle.flowgraph.specs.QuestionTold.{entryWords, Told, EnteredTold};
-
-fn tell_entered(entered: Entered, answer: &mut [usize; 2]) -> u8
-    ensures { λ r. ⌜ EnteredTold entered r (now (answer .exit)) ⌝ }
-{
-    match entered {
-        Entered::Node { id } => {
-            *answer = [id, 1];
-            0
-        }
-        Entered::Nowhere => {
-            *answer = [0, 0];
-            0
-        }
-        Entered::Refused { number, place } => {
-            *answer = [place, 0];
-            number
-        }
-    }
-}
+ghost use Rattle.telling.specs.QuestionTold.{entryWords, Told};
 
 #[no_mangle]
 pub extern "C" fn flow_entry(

@@ -1,24 +1,9 @@
 // The frame list: its length; the list itself stands in `out`.
-use questions::frame::Framed;
 use questions::frame::ask_frame;
+use telling::frame::tell_framed;
 ghost use lib.ListN.{length, getD};
 ghost use Rattle.questions.specs.FrameAt.{frameAt};
-ghost use Rattle.flowgraph.specs.QuestionTold.{FramedTold, ListTold};
-
-fn tell_framed(framed: Framed, answer: &mut [usize; 2]) -> u8
-    ensures { λ r. ⌜ FramedTold framed r (now (answer .exit)) ⌝ }
-{
-    match framed {
-        Framed::Listed { len } => {
-            *answer = [len, 0];
-            0
-        }
-        Framed::Refused { number, place } => {
-            *answer = [place, 0];
-            number
-        }
-    }
-}
+ghost use Rattle.telling.specs.QuestionTold.{ListTold};
 
 #[no_mangle]
 pub extern "C" fn flow_frame(

@@ -1,24 +1,9 @@
 // A node's statement and the statement at a path: its node and the number of its opening word.
-use questions::statement::Stated;
 use questions::statement::ask_path;
 use questions::statement::ask_statement;
+use telling::statement::tell_stated;
 ghost use Rattle.questions.specs.StatementAt.{nodeStatement, pathStatement};
-ghost use Rattle.flowgraph.specs.QuestionTold.{pairWords, Told, StatedTold};
-
-fn tell_stated(stated: Stated, answer: &mut [usize; 2]) -> u8
-    ensures { λ r. ⌜ StatedTold stated r (now (answer .exit)) ⌝ }
-{
-    match stated {
-        Stated::Stmt { node, word } => {
-            *answer = [node, word];
-            0
-        }
-        Stated::Refused { number, place } => {
-            *answer = [place, 0];
-            number
-        }
-    }
-}
+ghost use Rattle.telling.specs.QuestionTold.{pairWords, Told};
 
 #[no_mangle]
 pub extern "C" fn flow_statement(

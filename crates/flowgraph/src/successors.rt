@@ -1,25 +1,10 @@
 // A node's successors and predecessors: where they stand in the caller's edge table.
-use questions::successors::Asked;
 use questions::successors::ask_predecessors;
 use questions::successors::ask_successors;
+use telling::successors::tell_asked;
 ghost use lib.ListN.{length};
 ghost use Rattle.questions.specs.ListsAt.{successorsAt, predecessorsAt};
-ghost use Rattle.flowgraph.specs.QuestionTold.{pairWords, Told, AskedTold};
-
-fn tell_asked(asked: Asked, answer: &mut [usize; 2]) -> u8
-    ensures { λ r. ⌜ AskedTold asked r (now (answer .exit)) ⌝ }
-{
-    match asked {
-        Asked::Part { start, len } => {
-            *answer = [start, len];
-            0
-        }
-        Asked::Refused { number, place } => {
-            *answer = [place, 0];
-            number
-        }
-    }
-}
+ghost use Rattle.telling.specs.QuestionTold.{pairWords, Told};
 
 #[no_mangle]
 pub extern "C" fn flow_successors(

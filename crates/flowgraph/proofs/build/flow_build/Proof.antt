@@ -1,6 +1,6 @@
 -- `flow_build`: what `build` answers and leaves, then told by number and place. Assumes nothing.
 use borrow.Author.Needs.{needs}
-use Rattle.flowgraph.specs.BuildTold.{build-told}
+use Rattle.telling.specs.BuildTold.{build-told}
 use Rattle.flowgraph.proofs.build.flow_build.Statement.{statement}
 use Rattle.flowgraph.proofs.build.flow_build.Tie as tie
 

@@ -1,9 +1,9 @@
 -- `tell_built`: one of two cases. Assumes nothing.
 use mathlib.Core.Path.{sym, _∙_}
 use borrow.Author.Needs.{needs}
-use Rattle.flowgraph.specs.BuildTold.{graph-told, refusal-told}
-use Rattle.flowgraph.proofs.build.tell_built.Statement.{statement}
-use Rattle.flowgraph.proofs.build.tell_built.Tie as tie
+use Rattle.telling.specs.BuildTold.{graph-told, refusal-told}
+use Rattle.telling.proofs.build.tell_built.Statement.{statement}
+use Rattle.telling.proofs.build.tell_built.Tie as tie
 
 enum-told : tie.Need-enum-told
 enum-told c = search needs

@@ -1,9 +1,9 @@
 -- `tell_framed`: one of two cases. Assumes nothing.
 use mathlib.Core.Path.{sym, _∙_}
 use borrow.Author.Needs.{needs}
-use Rattle.flowgraph.specs.QuestionTold.{listed-told, framed-refused}
-use Rattle.flowgraph.proofs.frame.tell_framed.Statement.{statement}
-use Rattle.flowgraph.proofs.frame.tell_framed.Tie as tie
+use Rattle.telling.specs.QuestionTold.{listed-told, framed-refused}
+use Rattle.telling.proofs.frame.tell_framed.Statement.{statement}
+use Rattle.telling.proofs.frame.tell_framed.Tie as tie
 
 enum-known-framed : tie.Need-enum-known-framed
 enum-known-framed c = search needs

@@ -1,9 +1,9 @@
 -- `tell_entered`: one of three cases. Assumes nothing.
 use mathlib.Core.Path.{sym, _∙_}
 use borrow.Author.Needs.{needs}
-use Rattle.flowgraph.specs.QuestionTold.{node-told, nowhere-told, entered-refused}
-use Rattle.flowgraph.proofs.entry.tell_entered.Statement.{statement}
-use Rattle.flowgraph.proofs.entry.tell_entered.Tie as tie
+use Rattle.telling.specs.QuestionTold.{node-told, nowhere-told, entered-refused}
+use Rattle.telling.proofs.entry.tell_entered.Statement.{statement}
+use Rattle.telling.proofs.entry.tell_entered.Tie as tie
 
 enum-known-entered : tie.Need-enum-known-entered
 enum-known-entered c = search needs

@@ -1,9 +1,9 @@
 -- `tell_stated`: one of two cases. Assumes nothing.
 use mathlib.Core.Path.{sym, _∙_}
 use borrow.Author.Needs.{needs}
-use Rattle.flowgraph.specs.QuestionTold.{stmt-told, stated-refused}
-use Rattle.flowgraph.proofs.statement.tell_stated.Statement.{statement}
-use Rattle.flowgraph.proofs.statement.tell_stated.Tie as tie
+use Rattle.telling.specs.QuestionTold.{stmt-told, stated-refused}
+use Rattle.telling.proofs.statement.tell_stated.Statement.{statement}
+use Rattle.telling.proofs.statement.tell_stated.Tie as tie
 
 enum-known-stated : tie.Need-enum-known-stated
 enum-known-stated c = search needs

@@ -1,9 +1,9 @@
 -- `tell_asked`: one of two cases. Assumes nothing.
 use mathlib.Core.Path.{sym, _∙_}
 use borrow.Author.Needs.{needs}
-use Rattle.flowgraph.specs.QuestionTold.{part-told, asked-refused}
-use Rattle.flowgraph.proofs.successors.tell_asked.Statement.{statement}
-use Rattle.flowgraph.proofs.successors.tell_asked.Tie as tie
+use Rattle.telling.specs.QuestionTold.{part-told, asked-refused}
+use Rattle.telling.proofs.successors.tell_asked.Statement.{statement}
+use Rattle.telling.proofs.successors.tell_asked.Tie as tie
 
 enum-known-asked : tie.Need-enum-known-asked
 enum-known-asked c = search needs

@@ -1,0 +1,2 @@
+pub mod BuildTold
+pub mod QuestionTold
