@@ -1,8 +1,7 @@
 -- What `flow_build` returns and writes. Assumes nothing.
 use Prim.Native.Nat.{ℕ}
-use mathlib.Core.Path.{_≡_, refl, sym, subst, _∙_}
+use mathlib.Core.Path.{_≡_, _∙_, ap, subst}
 use mathlib.Core.List.{List, [], _∷_}
-use native.Mathlib.Omega.{arith}
 use Rattle.graph.specs.Build.{Built, graph, refused}
 use Rattle.wiring.specs.GraphTables.{Sizes, Answered, answerOf}
 use Rattle.wiring.specs.declared.build.Built.{Built as BuiltAnswer}
@@ -23,26 +22,26 @@ pub record BuildTold (b : Built) (s : Sizes) (c l t a e f k m d i r u p : List �
   pub place-is : place ≡ placeOf b ∷ []
   pub tables : Answered b s c l t a e f k m d i r u p (answerOf b)
 
--- number and place for the routine's answer, whatever was built
-abbrev pub BuiltTold : BuiltAnswer → ℕ → List ℕ → Type 0
-BuiltTold x number place = (b : Built) → x ≡ answerOf b → (number ≡ numberOf b) × (place ≡ placeOf b ∷ [])
+-- the same for each case of the routine's answer
+abbrev pub builtNumber : BuiltAnswer → ℕ
+builtNumber answer.Graph = 0
+builtNumber (answer.Refused n p) = n
 
--- ---- proofs
+abbrev pub builtPlace : BuiltAnswer → List ℕ
+builtPlace answer.Graph = 0 ∷ []
+builtPlace (answer.Refused n p) = p ∷ []
 
-pub graph-told : (b : Built) → answer.Graph ≡ answerOf b → (0 ≡ numberOf b) × (0 ∷ [] ≡ placeOf b ∷ [])
+-- ---- built, then told
+
+pub built-told : (b : Built) {x : BuiltAnswer} {number : ℕ} {place : List ℕ} → x ≡ answerOf b → (number ≡ builtNumber x) × (place ≡ builtPlace x) → (number ≡ numberOf b) × (place ≡ placeOf b ∷ [])
 unfolding numberOf placeOf answerOf
-graph-told (graph L) h = (refl, refl)
-graph-told (refused n p) h = let z : _≡_ {A = ℕ} 0 1 = cc in absurd (omega arith)
-
-pub refusal-told : (b : Built) (j y : ℕ) → answer.Refused j y ≡ answerOf b → (j ≡ numberOf b) × (y ∷ [] ≡ placeOf b ∷ [])
-unfolding numberOf placeOf answerOf
-refusal-told (graph L) j y h = let z : _≡_ {A = ℕ} 0 1 = cc in absurd (omega arith)
-refusal-told (refused n p) j y h = (cc, cc)
+built-told (graph L) h g = (g .0 ∙ ap builtNumber h, g .1 ∙ ap builtPlace h)
+built-told (refused n p) h g = (g .0 ∙ ap builtNumber h, g .1 ∙ ap builtPlace h)
 
 pub build-told : {b : Built} {s : Sizes} {c l t a e f k m d i r u p : List ℕ} {x : BuiltAnswer} {number : ℕ} {place : List ℕ} → Answered b s c l t a e f k m d i r u p x
-    → BuiltTold x number place → BuildTold b s c l t a e f k m d i r u p number place
+    → (number ≡ builtNumber x) × (place ≡ builtPlace x) → BuildTold b s c l t a e f k m d i r u p number place
 build-told {b} {s} {c} {l} {t} {a} {e} {f} {k} {m} {d} {i} {r} {u} {p} w g =
-    let z = g b (w .answer) in
+    let z = built-told b (w .answer) g in
     record {
       number-is = z .0;
       place-is = z .1;

@@ -1,9 +1,8 @@
 -- What the C functions over the questions return and write. Assumes nothing.
 use Prim.Native.Nat.{ℕ}
-use mathlib.Core.Path.{_≡_, refl}
+use mathlib.Core.Path.{_≡_, _∙_, ap}
 use mathlib.Core.List.{List, [], _∷_}
 use mathlib.Core.Option.{Option, none, some}
-use native.Mathlib.Omega.{arith}
 use lib.ListN.{length}
 use Rattle.graph.specs.Questions.{Reply, answer, refused}
 use Rattle.questions.specs.ListsAt.{askedOf}
@@ -51,66 +50,61 @@ pub record ListTold (q : Reply (List ℕ)) (out out′ : List ℕ) (number : ℕ
   pub told : Told lengthWords q number words
   pub slice : out′ ≡ sliceAfter q out
 
--- ---- for each routine's answer, whatever was asked
+-- ---- the same for each case of a routine's answer
 
-abbrev pub AskedTold : Asked → ℕ → List ℕ → Type 0
-AskedTold x r words = (q : Reply (ℕ × ℕ)) → x ≡ askedOf q → Told pairWords q r words
+abbrev pub askedCode : Asked → ℕ
+askedCode (asked.Part s k) = 0
+askedCode (asked.Refused n p) = n
 
-abbrev pub StatedTold : Stated → ℕ → List ℕ → Type 0
-StatedTold x r words = (q : Reply (ℕ × ℕ)) → x ≡ statedOf q → Told pairWords q r words
+abbrev pub askedWords : Asked → List ℕ
+askedWords (asked.Part s k) = s ∷ k ∷ []
+askedWords (asked.Refused n p) = p ∷ 0 ∷ []
 
-abbrev pub EnteredTold : Entered → ℕ → List ℕ → Type 0
-EnteredTold x r words = (q : Reply (Option ℕ)) → x ≡ enteredOf q → Told entryWords q r words
+abbrev pub statedCode : Stated → ℕ
+statedCode (stated.Stmt i w) = 0
+statedCode (stated.Refused n p) = n
 
-abbrev pub FramedTold : Framed → ℕ → List ℕ → Type 0
-FramedTold x r words = (q : Reply (List ℕ)) → x ≡ framedOf q → Told lengthWords q r words
+abbrev pub statedWords : Stated → List ℕ
+statedWords (stated.Stmt i w) = i ∷ w ∷ []
+statedWords (stated.Refused n p) = p ∷ 0 ∷ []
 
--- ---- proofs
+abbrev pub enteredCode : Entered → ℕ
+enteredCode (entered.Node i) = 0
+enteredCode entered.Nowhere = 0
+enteredCode (entered.Refused n p) = n
 
-pub part-told : (q : Reply (ℕ × ℕ)) (s k : ℕ) → asked.Part s k ≡ askedOf q → Told pairWords q 0 (s ∷ k ∷ [])
+abbrev pub enteredWords : Entered → List ℕ
+enteredWords (entered.Node i) = i ∷ 1 ∷ []
+enteredWords entered.Nowhere = 0 ∷ 0 ∷ []
+enteredWords (entered.Refused n p) = p ∷ 0 ∷ []
+
+abbrev pub framedCode : Framed → ℕ
+framedCode (framed.Listed k) = 0
+framedCode (framed.Refused n p) = n
+
+abbrev pub framedWords : Framed → List ℕ
+framedWords (framed.Listed k) = k ∷ 0 ∷ []
+framedWords (framed.Refused n p) = p ∷ 0 ∷ []
+
+-- ---- the answer to a question, then told
+
+pub asked-told : (q : Reply (ℕ × ℕ)) {x : Asked} {r : ℕ} {l : List ℕ} → x ≡ askedOf q → (r ≡ askedCode x) × (l ≡ askedWords x) → Told pairWords q r l
 unfolding askedOf codeOf wordsOf pairWords
-part-told (answer d) s k h = record { number-is = refl; words-are = cc }
-part-told (refused n p) s k h = let z : _≡_ {A = ℕ} 0 1 = cc in absurd (omega arith)
+asked-told (answer d) h g = record { number-is = g .0 ∙ ap askedCode h; words-are = g .1 ∙ ap askedWords h }
+asked-told (refused n p) h g = record { number-is = g .0 ∙ ap askedCode h; words-are = g .1 ∙ ap askedWords h }
 
-pub asked-refused : (q : Reply (ℕ × ℕ)) (j y : ℕ) → asked.Refused j y ≡ askedOf q → Told pairWords q j (y ∷ 0 ∷ [])
-unfolding askedOf codeOf wordsOf
-asked-refused (answer d) j y h = let z : _≡_ {A = ℕ} 0 1 = cc in absurd (omega arith)
-asked-refused (refused n p) j y h = record { number-is = cc; words-are = cc }
-
-pub stmt-told : (q : Reply (ℕ × ℕ)) (i w : ℕ) → stated.Stmt i w ≡ statedOf q → Told pairWords q 0 (i ∷ w ∷ [])
+pub stated-told : (q : Reply (ℕ × ℕ)) {x : Stated} {r : ℕ} {l : List ℕ} → x ≡ statedOf q → (r ≡ statedCode x) × (l ≡ statedWords x) → Told pairWords q r l
 unfolding statedOf codeOf wordsOf pairWords
-stmt-told (answer d) i w h = record { number-is = refl; words-are = cc }
-stmt-told (refused n p) i w h = let z : _≡_ {A = ℕ} 0 1 = cc in absurd (omega arith)
+stated-told (answer d) h g = record { number-is = g .0 ∙ ap statedCode h; words-are = g .1 ∙ ap statedWords h }
+stated-told (refused n p) h g = record { number-is = g .0 ∙ ap statedCode h; words-are = g .1 ∙ ap statedWords h }
 
-pub stated-refused : (q : Reply (ℕ × ℕ)) (j y : ℕ) → stated.Refused j y ≡ statedOf q → Told pairWords q j (y ∷ 0 ∷ [])
-unfolding statedOf codeOf wordsOf
-stated-refused (answer d) j y h = let z : _≡_ {A = ℕ} 0 1 = cc in absurd (omega arith)
-stated-refused (refused n p) j y h = record { number-is = cc; words-are = cc }
-
-pub node-told : (q : Reply (Option ℕ)) (i : ℕ) → entered.Node i ≡ enteredOf q → Told entryWords q 0 (i ∷ 1 ∷ [])
+pub entered-told : (q : Reply (Option ℕ)) {x : Entered} {r : ℕ} {l : List ℕ} → x ≡ enteredOf q → (r ≡ enteredCode x) × (l ≡ enteredWords x) → Told entryWords q r l
 unfolding enteredOf codeOf wordsOf entryWords
-node-told (answer none) i h = let z : _≡_ {A = ℕ} 0 1 = cc in absurd (omega arith)
-node-told (answer (some d)) i h = record { number-is = refl; words-are = cc }
-node-told (refused n p) i h = let z : _≡_ {A = ℕ} 0 1 = cc in absurd (omega arith)
+entered-told (answer none) h g = record { number-is = g .0 ∙ ap enteredCode h; words-are = g .1 ∙ ap enteredWords h }
+entered-told (answer (some i)) h g = record { number-is = g .0 ∙ ap enteredCode h; words-are = g .1 ∙ ap enteredWords h }
+entered-told (refused n p) h g = record { number-is = g .0 ∙ ap enteredCode h; words-are = g .1 ∙ ap enteredWords h }
 
-pub nowhere-told : (q : Reply (Option ℕ)) → entered.Nowhere ≡ enteredOf q → Told entryWords q 0 (0 ∷ 0 ∷ [])
-unfolding enteredOf codeOf wordsOf entryWords
-nowhere-told (answer none) h = record { number-is = refl; words-are = refl }
-nowhere-told (answer (some d)) h = let z : _≡_ {A = ℕ} 0 1 = cc in absurd (omega arith)
-nowhere-told (refused n p) h = let z : _≡_ {A = ℕ} 0 1 = cc in absurd (omega arith)
-
-pub entered-refused : (q : Reply (Option ℕ)) (j y : ℕ) → entered.Refused j y ≡ enteredOf q → Told entryWords q j (y ∷ 0 ∷ [])
-unfolding enteredOf codeOf wordsOf
-entered-refused (answer none) j y h = let z : _≡_ {A = ℕ} 0 1 = cc in absurd (omega arith)
-entered-refused (answer (some d)) j y h = let z : _≡_ {A = ℕ} 0 1 = cc in absurd (omega arith)
-entered-refused (refused n p) j y h = record { number-is = cc; words-are = cc }
-
-pub listed-told : (q : Reply (List ℕ)) (k : ℕ) → framed.Listed k ≡ framedOf q → Told lengthWords q 0 (k ∷ 0 ∷ [])
+pub framed-told : (q : Reply (List ℕ)) {x : Framed} {r : ℕ} {l : List ℕ} → x ≡ framedOf q → (r ≡ framedCode x) × (l ≡ framedWords x) → Told lengthWords q r l
 unfolding framedOf codeOf wordsOf lengthWords
-listed-told (answer l) k h = record { number-is = refl; words-are = cc }
-listed-told (refused n p) k h = let z : _≡_ {A = ℕ} 0 1 = cc in absurd (omega arith)
-
-pub framed-refused : (q : Reply (List ℕ)) (j y : ℕ) → framed.Refused j y ≡ framedOf q → Told lengthWords q j (y ∷ 0 ∷ [])
-unfolding framedOf codeOf wordsOf
-framed-refused (answer l) j y h = let z : _≡_ {A = ℕ} 0 1 = cc in absurd (omega arith)
-framed-refused (refused n p) j y h = record { number-is = cc; words-are = cc }
+framed-told (answer d) h g = record { number-is = g .0 ∙ ap framedCode h; words-are = g .1 ∙ ap framedWords h }
+framed-told (refused n p) h g = record { number-is = g .0 ∙ ap framedCode h; words-are = g .1 ∙ ap framedWords h }

@@ -1,9 +1,10 @@
 // The answer of a build.
 use wiring::build::Built;
-ghost use Rattle.telling.specs.BuildTold.{BuiltTold};
+ghost use mathlib.Core.Path.{_≡_};
+ghost use Rattle.telling.specs.BuildTold.{builtNumber, builtPlace};
 
 pub fn tell_built(built: Built, place: &mut [usize; 1]) -> u8
-    ensures { λ r. ⌜ BuiltTold built r (now (place .exit)) ⌝ }
+    ensures { λ r. ⌜ (r ≡ builtNumber built) × (now (place .exit) ≡ builtPlace built) ⌝ }
 {
     match built {
         Built::Graph => {

@@ -1,9 +1,10 @@
 // A line's entry: a node and 1, or 0 and 0 where there is none.
 use questions::entry::Entered;
-ghost use Rattle.telling.specs.QuestionTold.{EnteredTold};
+ghost use mathlib.Core.Path.{_≡_};
+ghost use Rattle.telling.specs.QuestionTold.{enteredCode, enteredWords};
 
 pub fn tell_entered(entered: Entered, answer: &mut [usize; 2]) -> u8
-    ensures { λ r. ⌜ EnteredTold entered r (now (answer .exit)) ⌝ }
+    ensures { λ r. ⌜ (r ≡ enteredCode entered) × (now (answer .exit) ≡ enteredWords entered) ⌝ }
 {
     match entered {
         Entered::Node { id } => {

@@ -1,9 +1,10 @@
 // The frame list: its length.
 use questions::frame::Framed;
-ghost use Rattle.telling.specs.QuestionTold.{FramedTold};
+ghost use mathlib.Core.Path.{_≡_};
+ghost use Rattle.telling.specs.QuestionTold.{framedCode, framedWords};
 
 pub fn tell_framed(framed: Framed, answer: &mut [usize; 2]) -> u8
-    ensures { λ r. ⌜ FramedTold framed r (now (answer .exit)) ⌝ }
+    ensures { λ r. ⌜ (r ≡ framedCode framed) × (now (answer .exit) ≡ framedWords framed) ⌝ }
 {
     match framed {
         Framed::Listed { len } => {

@@ -1,9 +1,10 @@
 // A statement: its node and the number of its opening word.
 use questions::statement::Stated;
-ghost use Rattle.telling.specs.QuestionTold.{StatedTold};
+ghost use mathlib.Core.Path.{_≡_};
+ghost use Rattle.telling.specs.QuestionTold.{statedCode, statedWords};
 
 pub fn tell_stated(stated: Stated, answer: &mut [usize; 2]) -> u8
-    ensures { λ r. ⌜ StatedTold stated r (now (answer .exit)) ⌝ }
+    ensures { λ r. ⌜ (r ≡ statedCode stated) × (now (answer .exit) ≡ statedWords stated) ⌝ }
 {
     match stated {
         Stated::Stmt { node, word } => {

@@ -1,9 +1,10 @@
 // Where a node's list stands in the caller's edge table: start and length.
 use questions::successors::Asked;
-ghost use Rattle.telling.specs.QuestionTold.{AskedTold};
+ghost use mathlib.Core.Path.{_≡_};
+ghost use Rattle.telling.specs.QuestionTold.{askedCode, askedWords};
 
 pub fn tell_asked(asked: Asked, answer: &mut [usize; 2]) -> u8
-    ensures { λ r. ⌜ AskedTold asked r (now (answer .exit)) ⌝ }
+    ensures { λ r. ⌜ (r ≡ askedCode asked) × (now (answer .exit) ≡ askedWords asked) ⌝ }
 {
     match asked {
         Asked::Part { start, len } => {

@@ -1,5 +1,6 @@
 -- `flow_entry`: the question, then told. Assumes nothing.
 use borrow.Author.Needs.{needs}
+use Rattle.telling.specs.QuestionTold.{entered-told}
 use Rattle.flowgraph.proofs.entry.flow_entry.Statement.{statement}
 use Rattle.flowgraph.proofs.entry.flow_entry.Tie as tie
 
@@ -10,7 +11,7 @@ tell-entered-requires : tie.Need-tell-entered-requires
 tell-entered-requires c κs = search needs
 
 returns : tie.Need-returns
-returns c = c .tell-entered .ensures _ (c .before .before .ask-entry .ensures)
+returns c = entered-told _ (c .before .before .ask-entry .ensures) (c .tell-entered .ensures)
 
 pub flow-entry-spec : {M : Type 1} → statement M
 flow-entry-spec = tie.close (tie.spec ask-entry-requires tell-entered-requires returns)

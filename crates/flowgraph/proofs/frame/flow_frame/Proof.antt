@@ -1,5 +1,6 @@
 -- `flow_frame`: the question, then told; `out` is as the question left it. Assumes nothing.
 use borrow.Author.Needs.{needs}
+use Rattle.telling.specs.QuestionTold.{framed-told}
 use Rattle.flowgraph.proofs.frame.flow_frame.Statement.{statement}
 use Rattle.flowgraph.proofs.frame.flow_frame.Tie as tie
 
@@ -13,7 +14,7 @@ same-length : tie.Need-same-length
 same-length c = search needs
 
 returns : tie.Need-returns
-returns c = record { told = c .tell-framed .ensures _ (c .before .before .before .before .ask-frame .ensures .told); slice = c .before .before .before .before .ask-frame .ensures .slice }
+returns c = record { told = framed-told _ (c .before .before .before .before .ask-frame .ensures .told) (c .tell-framed .ensures); slice = c .before .before .before .before .ask-frame .ensures .slice }
 
 pub flow-frame-spec : {M : Type 1} → statement M
 flow-frame-spec = tie.close (tie.spec ask-frame-requires tell-framed-requires same-length returns)

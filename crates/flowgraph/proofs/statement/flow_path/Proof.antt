@@ -1,5 +1,6 @@
 -- `flow_path`: the question, then told. Assumes nothing.
 use borrow.Author.Needs.{needs}
+use Rattle.telling.specs.QuestionTold.{stated-told}
 use Rattle.flowgraph.proofs.statement.flow_path.Statement.{statement}
 use Rattle.flowgraph.proofs.statement.flow_path.Tie as tie
 
@@ -10,7 +11,7 @@ tell-stated-requires : tie.Need-tell-stated-requires
 tell-stated-requires c κs = search needs
 
 returns : tie.Need-returns
-returns c = c .tell-stated .ensures _ (c .before .before .ask-path .ensures)
+returns c = stated-told _ (c .before .before .ask-path .ensures) (c .tell-stated .ensures)
 
 pub flow-path-spec : {M : Type 1} → statement M
 flow-path-spec = tie.close (tie.spec ask-path-requires tell-stated-requires returns)

@@ -1,7 +1,7 @@
 -- `tell_built`: one of two cases. Assumes nothing.
-use mathlib.Core.Path.{sym, _∙_}
+use mathlib.Core.Path.{sym, ap}
 use borrow.Author.Needs.{needs}
-use Rattle.telling.specs.BuildTold.{graph-told, refusal-told}
+use Rattle.telling.specs.BuildTold.{builtNumber, builtPlace}
 use Rattle.telling.proofs.build.tell_built.Statement.{statement}
 use Rattle.telling.proofs.build.tell_built.Tie as tie
 
@@ -12,10 +12,14 @@ enum-known-built : tie.Need-enum-known-built
 enum-known-built c = search needs
 
 returns : tie.Need-returns
-returns c b h = graph-told b (sym (c .before .enum-told .given .1) ∙ h)
+returns c =
+    let e = sym (c .before .enum-told .given .1) in
+    (ap builtNumber e, ap builtPlace e)
 
 returns-2 : tie.Need-returns-2
-returns-2 c b h = refusal-told b _ _ (sym (c .before .before .built .given .1) ∙ h)
+returns-2 c =
+    let e = sym (c .before .before .built .given .1) in
+    (ap builtNumber e, ap builtPlace e)
 
 pub tell-built-spec : {M : Type 1} → statement M
 tell-built-spec = tie.close (tie.spec enum-told enum-known-built returns returns-2)

@@ -1,7 +1,7 @@
 -- `tell_entered`: one of three cases. Assumes nothing.
-use mathlib.Core.Path.{sym, _∙_}
+use mathlib.Core.Path.{sym, ap}
 use borrow.Author.Needs.{needs}
-use Rattle.telling.specs.QuestionTold.{node-told, nowhere-told, entered-refused}
+use Rattle.telling.specs.QuestionTold.{enteredCode, enteredWords}
 use Rattle.telling.proofs.entry.tell_entered.Statement.{statement}
 use Rattle.telling.proofs.entry.tell_entered.Tie as tie
 
@@ -15,13 +15,19 @@ enum-known-entered-2 : tie.Need-enum-known-entered-2
 enum-known-entered-2 c = search needs
 
 returns : tie.Need-returns
-returns c q h = node-told q _ (sym (c .before .before .entered .given .1) ∙ h)
+returns c =
+    let e = sym (c .before .before .entered .given .1) in
+    (ap enteredCode e, ap enteredWords e)
 
 returns-2 : tie.Need-returns-2
-returns-2 c q h = nowhere-told q (sym (c .before .enum-told .given .1) ∙ h)
+returns-2 c =
+    let e = sym (c .before .enum-told .given .1) in
+    (ap enteredCode e, ap enteredWords e)
 
 returns-3 : tie.Need-returns-3
-returns-3 c q h = entered-refused q _ _ (sym (c .before .before .entered2 .given .1) ∙ h)
+returns-3 c =
+    let e = sym (c .before .before .entered2 .given .1) in
+    (ap enteredCode e, ap enteredWords e)
 
 pub tell-entered-spec : {M : Type 1} → statement M
 tell-entered-spec =

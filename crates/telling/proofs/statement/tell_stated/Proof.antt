@@ -1,7 +1,7 @@
 -- `tell_stated`: one of two cases. Assumes nothing.
-use mathlib.Core.Path.{sym, _∙_}
+use mathlib.Core.Path.{sym, ap}
 use borrow.Author.Needs.{needs}
-use Rattle.telling.specs.QuestionTold.{stmt-told, stated-refused}
+use Rattle.telling.specs.QuestionTold.{statedCode, statedWords}
 use Rattle.telling.proofs.statement.tell_stated.Statement.{statement}
 use Rattle.telling.proofs.statement.tell_stated.Tie as tie
 
@@ -12,10 +12,14 @@ enum-known-stated-2 : tie.Need-enum-known-stated-2
 enum-known-stated-2 c = search needs
 
 returns : tie.Need-returns
-returns c q h = stmt-told q _ _ (sym (c .before .before .stated .given .1) ∙ h)
+returns c =
+    let e = sym (c .before .before .stated .given .1) in
+    (ap statedCode e, ap statedWords e)
 
 returns-2 : tie.Need-returns-2
-returns-2 c q h = stated-refused q _ _ (sym (c .before .before .stated2 .given .1) ∙ h)
+returns-2 c =
+    let e = sym (c .before .before .stated2 .given .1) in
+    (ap statedCode e, ap statedWords e)
 
 pub tell-stated-spec : {M : Type 1} → statement M
 tell-stated-spec = tie.close (tie.spec enum-known-stated enum-known-stated-2 returns returns-2)
