@@ -1,17 +1,20 @@
 -- The words after a form's opening word, as the code judges them: the worst of them, and how many. Assumes nothing.
-use Prim.Native.Nat.{ℕ, zero, suc, _+_, _-_, _<_}
+use Prim.Native.Nat.{ℕ, zero, suc, _+_, _-_, _≤_, _<_}
 use mathlib.Core.Path.{_≡_, refl, sym, ap, _∙_}
 use mathlib.Core.List.{List, [], _∷_}
 use mathlib.Core.Option.{none, some}
-use mathlib.Core.Bool.{Bool, true, false, _||_, not}
+use mathlib.Core.Logic.{_⊎_, inl, inr}
+use mathlib.Core.Bool.{Bool, true, false, _&&_, _||_, not}
 use native.Mathlib.Omega.{arith}
 use native.Mathlib.Nat.{not-suc-le-zero}
+use native.Mathlib.Numerals.{add-one}
 use lib.Dec.{eqb, ltb}
-use lib.ListN.{length, take, drop, length-drop}
-use borrow.Author.Tests.{ne-eqb, ltb-true, ltb-false, lt-ltb, le-ltb}
+use lib.ListN.{length, getD, take, drop, length-drop, drop-of-length-le}
+use lib.Seq.{drop-cons}
+use borrow.Author.Tests.{ne-eqb, eqb-true, ltb-true, ltb-false, lt-ltb, le-ltb}
 use Rattle.reader.specs.Bytes.{same, pick}
 use Rattle.reader.specs.Listing.{for}
-use Rattle.reader.specs.Rows.{split, all, isWord, areWords, Parse, malformed, invalid, parsed, mapParse, withParse, parseNumber, parseNumbers, parseName, parseSlot, parseSlots, parseTier, parseMark, single, forStmt}
+use Rattle.reader.specs.Rows.{split, onFirst, all, isWord, areWords, Parse, malformed, invalid, parsed, mapParse, withParse, parseNumber, parseNumbers, parseName, parseSlot, parseSlots, parseTier, parseMark, single, forStmt}
 use Rattle.reader.specs.Scan.{indexOf, same-sym, split-last, split-more, split-some, rest-all, after, split-alone, split-first}
 use Rattle.reader.specs.Numbers.{asNumber}
 use Rattle.reader.specs.declared.numbers.ParsedNumber.{ParsedNumber}
@@ -102,32 +105,56 @@ worst-next f g w ws = worst-assoc g (f w) (worstOf f ws)
 abbrev pub noBracket : ℕ → Bool
 noBracket c = not (eqb c 40 || eqb c 41)
 
-pub word-none : (w : List ℕ) → length w ≡ 0 → isWord w ≡ false
-unfolding isWord
-word-none [] h = refl
-word-none (b ∷ l) h = absurd (omega arith)
+-- whether the pieces from here on are words; fresh: nothing of the first was seen before
+unfoldable pub wordsFrom : Bool → List ℕ → Bool
+wordsFrom fresh [] = not fresh
+wordsFrom fresh (b ∷ l) = noBracket b && pick (eqb b 32) (not fresh && wordsFrom true l) (wordsFrom false l)
 
-pub word-some : (w : List ℕ) → 0 < length w → isWord w ≡ all noBracket w
-unfolding isWord
-word-some [] h = absurd (not-suc-le-zero h)
-word-some (b ∷ l) h = refl
+-- pieces of which the first goes on with something that was seen
+restWords : List (List ℕ) → Bool
+restWords [] = true
+restWords (w ∷ ws) = all noBracket w && areWords ws
 
-pub bracket-open : (b : ℕ) → b ≡ 40 → noBracket b ≡ false
-bracket-open b h = rw h
+and-assoc : (a b c : Bool) → (a && b) && c ≡ a && (b && c)
+and-assoc true b c = refl
+and-assoc false b c = refl
 
-pub bracket-close : (b : ℕ) → b ≡ 41 → noBracket b ≡ false
-bracket-close b h = rw h
+first-byte : (b : ℕ) (r : List (List ℕ)) → 0 < length r → (noBracket b && restWords r ≡ areWords (onFirst b r)) × (noBracket b && restWords r ≡ restWords (onFirst b r))
+unfolding restWords areWords isWord all onFirst
+first-byte b [] h = absurd (not-suc-le-zero h)
+first-byte b (w ∷ ws) h = let e = sym (and-assoc (noBracket b) (all noBracket w) (areWords ws)) in (e, e)
 
-pub no-bracket : (b : ℕ) → (b ≡ 40 → ⊥) → (b ≡ 41 → ⊥) → noBracket b ≡ true
-no-bracket b h k = rw (ne-eqb b 40 h, ne-eqb b 41 k)
+words-both : (l : List ℕ) → (wordsFrom true l ≡ areWords (split 32 l)) × (wordsFrom false l ≡ restWords (split 32 l))
+unfolding wordsFrom restWords areWords isWord all split
+words-both [] = (refl, refl)
+words-both (b ∷ l) = go (eqb b 32) refl (words-both l)
+  where
+    go : (t : Bool) → eqb b 32 ≡ t → (wordsFrom true l ≡ areWords (split 32 l)) × (wordsFrom false l ≡ restWords (split 32 l))
+        → (noBracket b && pick t false (wordsFrom false l) ≡ areWords (pick t ([] ∷ split 32 l) (onFirst b (split 32 l))))
+        × (noBracket b && pick t (wordsFrom true l) (wordsFrom false l) ≡ restWords (pick t ([] ∷ split 32 l) (onFirst b (split 32 l))))
+    go true e h = let q = eqb-true b 32 e in (rw q, rw q (h .0))
+    go false e h = let q = first-byte b (split 32 l) (split-some 32 l) in (rw (h .1) (q .0), rw (h .1) (q .1))
 
-pub words-stop : (w : List ℕ) (ws : List (List ℕ)) → isWord w ≡ false → areWords (w ∷ ws) ≡ false
-unfolding areWords
-words-stop w ws h = rw h
+pub words-from : (l : List ℕ) → wordsFrom true l ≡ areWords (split 32 l)
+words-from l = words-both l .0
 
-pub words-more : (w : List ℕ) (ws : List (List ℕ)) → isWord w ≡ true → areWords (w ∷ ws) ≡ areWords ws
-unfolding areWords
-words-more w ws h = rw h
+module _ (fresh : Bool) (s : List ℕ) (i : ℕ) (inside : i < length s) where
+  pub words-bracket : (getD s i 0 ≡ 40) ⊎ (getD s i 0 ≡ 41) → wordsFrom fresh (drop i s) ≡ false
+  unfolding wordsFrom
+  words-bracket (inl h) = rw (drop-cons s i 0 inside, h)
+  words-bracket (inr h) = rw (drop-cons s i 0 inside, h)
+
+  pub words-space : getD s i 0 ≡ 32 → wordsFrom fresh (drop i s) ≡ not fresh && wordsFrom true (drop (i + 1) s)
+  unfolding wordsFrom
+  words-space h = rw (add-one, drop-cons s i 0 inside, h)
+
+  pub words-other : (getD s i 0 ≡ 40 → ⊥) → (getD s i 0 ≡ 41 → ⊥) → (getD s i 0 ≡ 32 → ⊥) → wordsFrom fresh (drop i s) ≡ wordsFrom false (drop (i + 1) s)
+  unfolding wordsFrom
+  words-other h k m = rw (add-one, drop-cons s i 0 inside, ne-eqb (getD s i 0) 40 h, ne-eqb (getD s i 0) 41 k, ne-eqb (getD s i 0) 32 m)
+
+pub words-end : (fresh : Bool) (s : List ℕ) (i : ℕ) → length s ≤ i → wordsFrom fresh (drop i s) ≡ not fresh
+unfolding wordsFrom
+words-end fresh s i h = rw (drop-of-length-le s {i = i} h)
 
 -- ---- one word, a slot
 

@@ -141,13 +141,6 @@ module _ (b : ℕ) (s : List ℕ) (at e : ℕ) (fits : at ≤ length s) (found :
       let q : drop (suc (indexOf b (drop at s))) (drop at s) ≡ drop (at + e + 1) s = drop-drop (suc (indexOf b (drop at s))) at s ∙ ap (λ (z : ℕ). drop z s) n in
       (lt, rw (m, ← q) (split-more b (drop at s) (omega (arith, found-is, length-drop at s))))
 
-  pub next-any : e ≤ length (take (length s - at) (drop at s)) → (ws : List (List ℕ)) × split b (drop at s) ≡ pieceAt s at e ∷ ws
-  next-any k = go (eqb (at + e) (length s)) refl
-    where
-      go : (t : Bool) → eqb (at + e) (length s) ≡ t → (ws : List (List ℕ)) × split b (drop at s) ≡ pieceAt s at e ∷ ws
-      go true q = ([], next-last (eqb-true (at + e) (length s) q))
-      go false q = (_, next-more (eqb-false (at + e) (length s) q) k .1)
-
 -- ---- the first piece and the rest
 
 front : (s : List ℕ) (e : ℕ) → take (e - 0) (drop 0 s) ≡ take e s

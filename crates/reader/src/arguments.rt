@@ -11,7 +11,7 @@ use super::words::NUMBERS;
 use super::words::RUN;
 ghost use mathlib.Core.Path.{_≡_};
 ghost use lib.ListN.{length};
-ghost use Rattle.reader.specs.Rows.{isWord, areWords, split, parseName, parseTier, parseMark, single};
+ghost use Rattle.reader.specs.Rows.{areWords, split, parseName, parseTier, parseMark, single};
 ghost use Rattle.reader.specs.Numbers.{asNumber};
 ghost use Rattle.reader.specs.Arguments.{severityOf, severityBy, numberSeverity, worst, worstOf, argCheck, checkFor, checkNext, checkKind};
 
@@ -21,43 +21,32 @@ pub struct ArgCheck {
     pub count: usize,
 }
 
-// Whether a piece of a row is a word: not empty, no bracket.
-fn is_word(w: &[u8]) -> bool
-    ensures { λ r. ⌜ r ≡ isWord (now (w .entry)) ⌝ }
+// Whether all pieces between spaces are words: not empty, no bracket.
+pub fn are_words(s: &[u8]) -> bool
+    ensures { λ r. ⌜ r ≡ areWords (split 32 (now (s .entry))) ⌝ }
 {
-    if w.len() == 0 {
-        return false;
-    }
+    // Nothing of the piece was passed yet.
+    let mut fresh = true;
     let mut i: usize = 0;
-    while i < w.len() {
-        let b = w[i];
+    while i < s.len() {
+        let b = s[i];
         if b == 40 {
             return false;
         }
         if b == 41 {
             return false;
         }
+        if b == 32 {
+            if fresh {
+                return false;
+            }
+            fresh = true;
+        } else {
+            fresh = false;
+        }
         i += 1;
     }
-    true
-}
-
-// Whether all pieces between spaces are words.
-pub fn are_words(s: &[u8]) -> bool
-    ensures { λ r. ⌜ r ≡ areWords (split 32 (now (s .entry))) ⌝ }
-{
-    let mut at: usize = 0;
-    loop {
-        let e = find(&s[at..], 32);
-        let to = at + e;
-        if !is_word(&s[at..to]) {
-            return false;
-        }
-        if to == s.len() {
-            return true;
-        }
-        at = to + 1;
-    }
+    !fresh
 }
 
 fn tier_severity(w: &[u8]) -> u8

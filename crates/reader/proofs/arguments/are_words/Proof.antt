@@ -1,94 +1,68 @@
--- `are_words`: the pieces before `at` are words, so those left decide. Assumes nothing.
+-- `are_words`: no byte before i breaks a word, so those from i on decide. Assumes nothing.
 use borrow.Author.Needs.{needs}
 use native.Mathlib.Omega.{arith}
 use mathlib.Core.Path.{_∙_, _≡_, ap, sym}
-use mathlib.Core.Bool.{true}
-use mathlib.Core.List.{[]}
-use Prim.Native.Nat.{_+_, _-_, _≤_, suc}
+use mathlib.Core.Bool.{Bool, true, not, _&&_}
+use mathlib.Core.Logic.{inl, inr, ⊎-elim}
+use Prim.Native.Nat.{_+_, _-_, _≤_}
 use lib.ListN.{drop, length}
-use borrow.Author.Tests.{not-false, not-true}
-use Rattle.reader.specs.Rows.{areWords, isWord, split}
-use Rattle.reader.specs.Scan.{next-any, next-last, next-more, pieceAt}
-use Rattle.reader.specs.Arguments.{words-more, words-stop}
+use Rattle.reader.specs.Rows.{areWords, split}
+use Rattle.reader.specs.Arguments.{wordsFrom, words-from, words-bracket, words-space, words-other, words-end}
 use Rattle.reader.proofs.arguments.are_words.Statement.{statement}
 use Rattle.reader.proofs.arguments.are_words.Tie as tie
 
 abbrev Inv-loop : tie.InvT-loop
-Inv-loop s at₀ at = (at ≤ length s) × (areWords (split 32 (drop at s)) ≡ areWords (split 32 s))
+Inv-loop s fresh₀ i₀ fresh i = (i ≤ length s) × (wordsFrom fresh (drop i s) ≡ areWords (split 32 s))
 
 abbrev μ-loop : tie.MeasureT-loop
-μ-loop s at₀ at = suc (length s) - at
+μ-loop s fresh₀ i₀ fresh i = length s - i
 
 loop-holds : tie.Need-loop-holds Inv-loop μ-loop
-loop-holds c = search needs
+loop-holds c = (search needs, words-from (c .args .s .now))
 
-sub-find : tie.Need-sub-find Inv-loop μ-loop
-sub-find c = search needs
-
-part-find-start : tie.Need-part-find-start Inv-loop μ-loop
-part-find-start c = search needs
-
-part-find-end : tie.Need-part-find-end Inv-loop μ-loop
-part-find-end c = search needs
-
-find-requires : tie.Need-find-requires Inv-loop μ-loop
-find-requires c κs = search needs
-
-add-to : tie.Need-add-to Inv-loop μ-loop
-add-to c = search needs
-
-sub-is-word : tie.Need-sub-is-word Inv-loop μ-loop
-sub-is-word c = search needs
-
-part-is-word-start : tie.Need-part-is-word-start Inv-loop μ-loop
-part-is-word-start c = search needs
-
-part-is-word-end : tie.Need-part-is-word-end Inv-loop μ-loop
-part-is-word-end c = search needs
-
-is-word-requires : tie.Need-is-word-requires Inv-loop μ-loop
-is-word-requires c κs = search needs
+shared-slice-read-b : tie.Need-shared-slice-read-b Inv-loop μ-loop
+shared-slice-read-b c = search needs
 
 returns : tie.Need-returns Inv-loop μ-loop
 returns c =
-    let at-find = c .before .before .before in
-    let at-loop = at-find .before .before in
-    let at-start = at-loop .before .before in
-    let s = at-start .args .s .now in
-    let at = at-loop .loop .at in
-    let e = at-find .find .result in
-    let p = next-any 32 s at e (omega arith) (at-find .find .ensures .0) (at-find .find .ensures .1) in
-    sym (ap areWords (p .1) ∙ words-stop (pieceAt s at e) (p .0) (sym (c .before .is-word .ensures) ∙ not-true _ (c .if1 .taken))) ∙ at-loop .loop .inv .1
+    let at-loop = c .before .before .before in
+    sym (words-bracket (at-loop .loop .fresh) (at-loop .before .args .s .now) (at-loop .loop .i) (omega arith) (inl (c .if1 .taken))) ∙ at-loop .loop .inv .1
 
 returns-2 : tie.Need-returns-2 Inv-loop μ-loop
-unfolding areWords
 returns-2 c =
-    let at-find = c .before .before .before .before in
-    let at-loop = at-find .before .before in
-    let at-start = at-loop .before .before in
-    let s = at-start .args .s .now in
-    let at = at-loop .loop .at in
-    let e = at-find .find .result in
-    let p = next-last 32 s at e (omega arith) (at-find .find .ensures .0) (c .if2 .taken) in
-    sym (ap areWords p ∙ words-more (pieceAt s at e) [] (sym (c .before .before .is-word .ensures) ∙ not-false _ (c .before .if1 .left))) ∙ at-loop .loop .inv .1
+    let at-loop = c .before .before .before .before in
+    sym (words-bracket (at-loop .loop .fresh) (at-loop .before .args .s .now) (at-loop .loop .i) (omega arith) (inr (c .if2 .taken))) ∙ at-loop .loop .inv .1
 
-add-at : tie.Need-add-at Inv-loop μ-loop
-add-at c = search needs
+returns-3 : tie.Need-returns-3 Inv-loop μ-loop
+returns-3 c =
+    let at-loop = c .before .before .before .before .before .before in
+    let fresh = at-loop .loop .fresh in
+    let s = at-loop .before .args .s .now in
+    let i = at-loop .loop .i in
+    sym (words-space fresh s i (omega arith) (c .before .if3 .taken) ∙ ap (λ (t : Bool). not t && wordsFrom true (drop (i + 1) s)) (c .if4 .taken)) ∙ at-loop .loop .inv .1
+
+add-i : tie.Need-add-i Inv-loop μ-loop
+add-i c = search needs
 
 loop-less : tie.Need-loop-less Inv-loop μ-loop
 loop-less c = search needs
 
 loop-again : tie.Need-loop-again Inv-loop μ-loop
 loop-again c =
-    let at-find = c .before .before .before .before in
-    let at-loop = at-find .before .before in
-    let at-start = at-loop .before .before in
-    let s = at-start .args .s .now in
-    let at = at-loop .loop .at in
-    let e = at-find .find .result in
-    let p = next-more 32 s at e (omega arith) (at-find .find .ensures .0) (c .if2 .left) (at-find .find .ensures .1) in
-    let word : isWord (pieceAt s at e) ≡ true = sym (c .before .before .is-word .ensures) ∙ not-false _ (c .before .if1 .left) in
-    (omega arith, sym (ap areWords (p .1) ∙ words-more (pieceAt s at e) (split 32 (drop (at + e + 1) s)) word) ∙ at-loop .loop .inv .1)
+    let at-loop = c .before .before .before .before .before in
+    let fresh = at-loop .loop .fresh in
+    let s = at-loop .before .args .s .now in
+    let i = at-loop .loop .i in
+    let law = at-loop .loop .inv .1 in (
+      search needs,
+      ⊎-elim
+          (λ w. ap (λ (t : Bool). wordsFrom t (drop (i + 1) s)) (w .2) ∙ sym (words-space fresh s i (omega arith) (w .0 .taken) ∙ ap (λ (t : Bool). not t && wordsFrom true (drop (i + 1) s)) (w .1 .left)) ∙ law)
+          (λ w. ap (λ (t : Bool). wordsFrom t (drop (i + 1) s)) (w .1) ∙ sym (words-other fresh s i (omega arith) (c .before .before .if1 .left) (c .before .if2 .left) (w .0 .left)) ∙ law)
+          (c .if3 .came),
+    )
+
+returns-4 : tie.Need-returns-4 Inv-loop μ-loop
+returns-4 c = sym (words-end (c .before .loop .fresh) (c .before .before .args .s .now) (c .before .loop .i) (omega arith)) ∙ c .before .loop .inv .1
 
 pub are-words-spec : {M : Type 1} → statement M
 are-words-spec =
@@ -97,17 +71,11 @@ are-words-spec =
     Inv-loop
     μ-loop
     loop-holds
-    sub-find
-    part-find-start
-    part-find-end
-    find-requires
-    add-to
-    sub-is-word
-    part-is-word-start
-    part-is-word-end
-    is-word-requires
+    shared-slice-read-b
     returns
     returns-2
-    add-at
+    returns-3
+    add-i
     loop-less
-    loop-again)
+    loop-again
+    returns-4)
