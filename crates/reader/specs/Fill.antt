@@ -8,7 +8,7 @@ use lib.ListN.{length, take, drop, set, getD}
 use Rattle.reader.specs.Bytes.{pick}
 use Rattle.reader.specs.Rows.{split}
 use Rattle.reader.specs.Tables.{appendRow}
-use Rattle.reader.specs.Operands.{rowEntries, rowDetail, inside}
+use Rattle.reader.specs.Operands.{openingWord, rowEntries, rowDetail, inside}
 use Rattle.reader.specs.declared.machine.State.{State}
 use Rattle.reader.specs.declared.rows.Row.{Row}
 use Rattle.reader.specs.declared.rows.Row.the-variants as row
@@ -153,8 +153,9 @@ pub record AddReady (t : List ℕ) (s : State) (w : Walk) (k : ℕ) : Type 0 whe
   pub index : w .index ≤ 4096
   pub word : k ≤ 28
 
-pub record RowReady (l a : List ℕ) (n : ℕ) : Type 0 where
+pub record RowReady (l a : List ℕ) (n k : ℕ) : Type 0 where
   pub long : 2 ≤ length l
+  pub word : k ≡ openingWord (split 32 (inside l))
   pub small : n < 4096
   pub fits : n * 64 + 64 ≤ length a
   pub short : length (entriesIn l) ≤ 64
@@ -169,7 +170,7 @@ Ready n t a s w l (row.Line m) = s .lines < length n
 Ready n t a s w l row.InvalidTo = Unit {0}
 Ready n t a s w l (row.To m) = ToReady t s w
 Ready n t a s w l row.InvalidSimple = Unit {0}
-Ready n t a s w l (row.Simple k m) = AddReady t s w k × RowReady l a (s .stmts)
+Ready n t a s w l (row.Simple k m) = AddReady t s w k × RowReady l a (s .stmts) k
 Ready n t a s w l (row.Cond k) = AddReady t s w (k + 2)
 
 pub walk-is : {w : Walk} {a b : ℕ} → w .holder ≡ a → w .index ≡ b → w ≡ record { holder = a; index = b }

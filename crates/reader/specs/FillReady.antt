@@ -1,5 +1,5 @@
 -- What the code needs at a row that is taken: places, numbers and room. Assumes nothing.
-use mathlib.Core.Path.{_≡_, refl, ap, _∙_, subst}
+use mathlib.Core.Path.{_≡_, refl, sym, ap, _∙_, subst}
 use mathlib.Core.Bool.{Bool, true, false}
 use mathlib.Core.List.{List, [], _∷_}
 use mathlib.Core.Option.{Option, none, some}
@@ -22,7 +22,7 @@ use Rattle.reader.specs.Tables.{rec-wide, padded-length, joined-length}
 use Rattle.reader.specs.Records.{recRow, argRow}
 use Rattle.reader.specs.Holds.{Holds}
 use Rattle.reader.specs.Fill.{EndReady, ToReady, AddReady, RowReady, Ready}
-use Rattle.reader.specs.FillLaws.{walkAt, Fits, cond-index}
+use Rattle.reader.specs.FillLaws.{word-number, walkAt, Fits, cond-index}
 use Rattle.reader.specs.declared.machine.State.{State}
 use Rattle.reader.specs.declared.rows.Row.{Row}
 use Rattle.reader.specs.declared.rows.Row.the-variants as row
@@ -143,11 +143,11 @@ module _ (r : Reading) (nl ns na : ℕ) (n t a : List ℕ) (now : Long nl ns na 
         word = h;
       }
 
-  row-ready : (l : List ℕ) (d : Counted) → contentOf (rowOf l) ≡ simpleRow (parsed d) → d .1 ≤ 64 → r .stmtCount < 4096 → suc (r .stmtCount) * 64 ≤ na → RowReady l a (r .stmtCount)
+  row-ready : (l : List ℕ) (d : Counted) → contentOf (rowOf l) ≡ simpleRow (parsed d) → d .1 ≤ 64 → r .stmtCount < 4096 → suc (r .stmtCount) * 64 ≤ na → RowReady l a (r .stmtCount) (wordNumber (d .0))
   row-ready l d c h b f =
       let k = stated l d c in
       let x = now .args in
-      record { long = k .long; small = b; fits = omega arith; short = let z = stated-short l d c h in omega (arith, ap length (k .entries)) }
+      record { long = k .long; word = sym (k .word ∙ word-number (d .0)); small = b; fits = omega arith; short = let z = stated-short l d c h in omega (arith, ap length (k .entries)) }
 
   cond-holder : (s : Stmts) (w : CondWord) (bs : Branches) (fs : List OpenCond) → Good r (inCond s w bs fs) → suc (firstNode (total (r .lines)) fs + size s) ≤ r .stmtCount
   unfolding positionSize

@@ -69,6 +69,11 @@ headMark (w ∷ ws) = markEntry w
 unfoldable pub detailsOf : ℕ → List (List ℕ) → ℕ
 detailsOf g ws = pick (eqb g 9) (tierEntry (join 32 (drop 1 ws))) (pick (eqb g 10) (headMark ws) 0)
 
+-- the number of a row's opening word
+unfoldable pub openingWord : List (List ℕ) → ℕ
+openingWord [] = 28
+openingWord (w ∷ ws) = wordIndex w
+
 unfoldable pub rowEntries : List (List ℕ) → List ℕ
 rowEntries [] = []
 rowEntries (w ∷ ws) = entriesOf (kindAt (wordIndex w)) ws
@@ -213,18 +218,22 @@ module _ (s : List ℕ) (e : ℕ) (found : e ≡ indexOf 32 s) where
       go false true = put-none t _ 0 refl
       go false false = put-none t _ 0 refl
 
-  module _ (t t′ : List ℕ) (r : Given) (k : ℕ) (more : e < length s) (is : k ≡ kindAt (wordIndex (take (e - 0) (drop 0 s)))) where
+  module _ (t t′ : List ℕ) (r : Given) (k : ℕ) (more : e < length s) (is : k ≡ kindAt (openingWord (split 32 s))) where
+    kind-first : k ≡ kindAt (wordIndex (take (e - 0) (drop 0 s)))
+    unfolding openingWord
+    kind-first = is ∙ ap (λ (ws : List (List ℕ)). kindAt (openingWord ws)) (split-first 32 s e found more)
+
     -- what a kind's words come to is what the row comes to
     pub row-words : Put (entriesOf k (split 32 (after s e))) (detailsOf k (split 32 (after s e))) t t′ r → Put (rowEntries (split 32 s)) (rowDetail (split 32 s)) t t′ r
     unfolding rowEntries rowDetail
     row-words g =
         subst (λ (ws : List (List ℕ)). Put (rowEntries ws) (rowDetail ws) t t′ r) (sym (split-first 32 s e found more))
-        (subst (λ (n : ℕ). Put (entriesOf n (split 32 (after s e))) (detailsOf n (split 32 (after s e))) t t′ r) is g)
+        (subst (λ (n : ℕ). Put (entriesOf n (split 32 (after s e))) (detailsOf n (split 32 (after s e))) t t′ r) kind-first g)
 
     pub row-room : (n : ℕ) → length (rowEntries (split 32 s)) ≤ n → length (entriesOf k (split 32 (after s e))) ≤ n
     unfolding rowEntries
     row-room n h =
-        let q : rowEntries (split 32 s) ≡ entriesOf k (split 32 (after s e)) = ap rowEntries (split-first 32 s e found more) ∙ ap (λ (g : ℕ). entriesOf g (split 32 (after s e))) (sym is) in
+        let q : rowEntries (split 32 s) ≡ entriesOf k (split 32 (after s e)) = ap rowEntries (split-first 32 s e found more) ∙ ap (λ (g : ℕ). entriesOf g (split 32 (after s e))) (sym kind-first) in
         omega (arith, ap length q)
 
 -- by the kind
@@ -420,11 +429,12 @@ closed-long w ws r e = omega (arith, ap length e, length-append w (spacedWords w
 -- what the code needs and gets of a statement's row
 pub record Stated (row : List ℕ) (o : Simple) : Type 0 where
   pub long : 2 ≤ length row
+  pub word : openingWord (split 32 (inside row)) ≡ wordIndex (simpleWord o)
   pub entries : rowEntries (split 32 (inside row)) ≡ argsOf o
   pub detail : rowDetail (split 32 (inside row)) ≡ detailOf o
 
 pub stated : (row : List ℕ) (d : Counted) → contentOf (rowOf row) ≡ simpleRow (parsed d) → Stated row (d .0)
-unfolding simpleText areTokens inWord
+unfolding simpleText areTokens inWord openingWord
 stated row d e =
     let o = d .0 in
     let q = row-simple row d e in
@@ -433,7 +443,7 @@ stated row d e =
     let s : split 32 (inside row) ≡ simpleWord o ∷ simpleArgs o =
     ap (λ (l : List ℕ). split 32 (inside l)) (q .0) ∙ ap (split 32) (inside-closed (simpleWord o) (simpleArgs o) ∙ sym (join-words (simpleWord o) (simpleArgs o)))
     ∙ split-join 32 (simpleWord o) (simpleArgs o) (token-lacks 32 refl (simpleWord o) (p .0)) (tokens-lack 32 refl (simpleArgs o) (p .1)) in
-    record { long = closed-long (simpleWord o) (simpleArgs o) row (q .0); entries = ap rowEntries s ∙ simple-entries o (q .1); detail = ap rowDetail s ∙ simple-detail o }
+    record { long = closed-long (simpleWord o) (simpleArgs o) row (q .0); word = ap openingWord s; entries = ap rowEntries s ∙ simple-entries o (q .1); detail = ap rowDetail s ∙ simple-detail o }
 
 -- "8 a 65th number or slot": what is accepted has room
 pub stated-short : (row : List ℕ) (d : Counted) → contentOf (rowOf row) ≡ simpleRow (parsed d) → d .1 ≤ 64 → length (argsOf (d .0)) ≤ 64

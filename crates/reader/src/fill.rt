@@ -120,13 +120,13 @@ fn to_row(t: &mut [u16], s: State, w: Walk, n: u16) -> Walk
 }
 
 // The arguments of statement n, whose row is given, into its own 64 entries.
-fn put_row_operands(row: &[u8], args: &mut [u64], n: usize) -> Given
-    requires { ⌜ RowReady (now row) (now args) n ⌝ }
+fn put_row_operands(word: usize, row: &[u8], args: &mut [u64], n: usize) -> Given
+    requires { ⌜ RowReady (now row) (now args) n word ⌝ }
     ensures { λ r. ⌜ OperandsPut (now (row .entry)) (now (args .entry)) n (now (args .exit)) r ⌝ }
 {
     let from = n * ARG_ENTRIES;
     let last = row.len() - 1;
-    put_operands(&row[1..last], &mut args[from..])
+    put_operands(word, &row[1..last], &mut args[from..])
 }
 
 fn entry_of(s: State, w: Walk, word: usize, end: usize, g: Given) -> Entry
@@ -152,10 +152,10 @@ fn add_simple(
     w: Walk,
     word: usize,
 ) -> Walk
-    requires { ⌜ AddReady (now stmts) s w word × RowReady (now row) (now args) (s .stmts) ⌝ }
+    requires { ⌜ AddReady (now stmts) s w word × RowReady (now row) (now args) (s .stmts) word ⌝ }
     ensures { λ r. ⌜ Added (now (stmts .entry)) (now (args .entry)) s w (now (row .entry)) word (now (stmts .exit)) (now (args .exit)) r ⌝ }
 {
-    let g = put_row_operands(row, args, s.stmts);
+    let g = put_row_operands(word, row, args, s.stmts);
     append(stmts, s.stmts, entry_of(s, w, word, s.stmts + 1, g));
     Walk {
         holder: w.holder,

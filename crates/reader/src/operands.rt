@@ -6,7 +6,7 @@ ghost use Prim.Native.Nat.{_≤_};
 ghost use lib.ListN.{length, take, drop};
 ghost use Rattle.reader.specs.Rows.{split};
 ghost use Rattle.reader.specs.RowForms.{join};
-ghost use Rattle.reader.specs.Operands.{numberAnswer, keyAnswer, entryBy, tierEntry, markEntry, headMark, rowEntries, rowDetail, Put};
+ghost use Rattle.reader.specs.Operands.{numberAnswer, keyAnswer, entryBy, tierEntry, markEntry, headMark, openingWord, rowEntries, rowDetail, Put};
 use super::names::NameKey;
 use super::names::key_of;
 use super::numbers::ParsedNumber;
@@ -16,7 +16,6 @@ use super::scan::find;
 use super::words::FOR;
 use super::words::NEXT;
 use super::words::kind_of;
-use super::words::word_of;
 
 // How many arguments a statement has, and FOR's tier or NEXT's mark.
 pub struct Given {
@@ -143,9 +142,9 @@ fn put_next(s: &[u8], part: &mut [u64]) -> Given
     }
 }
 
-// The arguments among the words of s, a row without its brackets.
-pub(crate) fn put_operands(s: &[u8], part: &mut [u64]) -> Given
-    requires { ⌜ length (rowEntries (split 32 (now s))) ≤ length (now part) ⌝ }
+// The arguments among the words of s, a row without its brackets; word: the number of its opening word.
+pub(crate) fn put_operands(word: usize, s: &[u8], part: &mut [u64]) -> Given
+    requires { ⌜ (word ≡ openingWord (split 32 (now s))) × (length (rowEntries (split 32 (now s))) ≤ length (now part)) ⌝ }
     ensures { λ r. ⌜ Put (rowEntries (split 32 (now (s .entry)))) (rowDetail (split 32 (now (s .entry)))) (now (part .entry)) (now (part .exit)) r ⌝ }
 {
     let e = find(s, 32);
@@ -155,7 +154,7 @@ pub(crate) fn put_operands(s: &[u8], part: &mut [u64]) -> Given
             detail: 0,
         };
     }
-    let k = kind_of(word_of(&s[0..e]));
+    let k = kind_of(word);
     let from = e + 1;
     if k == FOR {
         return put_for(&s[from..], part);

@@ -49,7 +49,7 @@ returns c =
     record {
       count = p .count;
       detail = p .detail;
-      table = whole (a .args .now) (c .before .before .put-operands .last .1 .0) es (a .n * 64) (length (a .args .now) - a .n * 64) (length es) (omega (arith, length-drop (a .n * 64) (a .args .now))) (p .table);
+      table = whole (a .args .now) (c .before .before .put-operands .last .1 .1 .0) es (a .n * 64) (length (a .args .now) - a .n * 64) (length es) (omega (arith, length-drop (a .n * 64) (a .args .now))) (p .table);
     }
 
 pub put-row-operands-spec : {M : Type 1} → statement M

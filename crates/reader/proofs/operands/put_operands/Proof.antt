@@ -21,18 +21,6 @@ returns c =
     let a = f .before .before .before in
     row-alone (a .args .s .now) (f .find .result) (f .find .ensures .0) (a .args .part .now) (c .if1 .taken)
 
-sub-word-of : tie.Need-sub-word-of
-sub-word-of c = search needs
-
-part-word-of-start : tie.Need-part-word-of-start
-part-word-of-start c = search needs
-
-part-word-of-end : tie.Need-part-word-of-end
-part-word-of-end c = search needs
-
-word-of-requires : tie.Need-word-of-requires
-word-of-requires c κs = search needs
-
 kind-of-requires : tie.Need-kind-of-requires
 kind-of-requires c κs = search needs
 
@@ -51,12 +39,12 @@ part-put-for-end c = search needs
 put-for-requires : tie.Need-put-for-requires
 put-for-requires c κs =
     let k = c .before .before .before in
-    let f = k .before .before .before .before in
+    let f = k .before .before in
     let a = f .before .before .before in
     let s = a .args .s .now in
     let e = f .find .result in
     for-room (after s e) (k .kind-of .result) (length (a .args .part .now)) (c .before .before .if2 .taken)
-    (row-room s e (f .find .ensures .0) [] [] (record { count = 0; detail = 0 }) (k .kind-of .result) (omega arith) (k .kind-of .ensures ∙ ap kindAt (k .before .word-of .ensures)) (length (a .args .part .now)) (a .pre))
+    (row-room s e (f .find .ensures .0) [] [] (record { count = 0; detail = 0 }) (k .kind-of .result) (omega arith) (k .kind-of .ensures ∙ ap kindAt (a .pre .0)) (length (a .args .part .now)) (a .pre .1))
 
 same-length : tie.Need-same-length
 same-length c = search needs
@@ -65,12 +53,12 @@ returns-2 : tie.Need-returns-2
 returns-2 c =
     let w = c .before .before in
     let k = w .before .before .before .before in
-    let f = k .before .before .before .before in
+    let f = k .before .before in
     let a = f .before .before .before in
     let s = a .args .s .now in
     let e = f .find .result in
     let q = entries-for (split 32 (after s e)) (k .kind-of .result) (w .before .before .before .if2 .taken) in
-    row-words s e (f .find .ensures .0) (a .args .part .now) (w .put-for .last .1 .0) (w .put-for .result) (k .kind-of .result) (omega arith) (k .kind-of .ensures ∙ ap kindAt (k .before .word-of .ensures))
+    row-words s e (f .find .ensures .0) (a .args .part .now) (w .put-for .last .1 .0) (w .put-for .result) (k .kind-of .result) (omega arith) (k .kind-of .ensures ∙ ap kindAt (a .pre .0))
     (put-by (a .args .part .now) (w .put-for .last .1 .0) (w .put-for .result) (q .0) (q .1) (w .put-for .ensures))
 
 sub-put-next : tie.Need-sub-put-next
@@ -85,12 +73,12 @@ part-put-next-end c = search needs
 put-next-requires : tie.Need-put-next-requires
 put-next-requires c κs =
     let k = c .before .before .before .before in
-    let f = k .before .before .before .before in
+    let f = k .before .before in
     let a = f .before .before .before in
     let s = a .args .s .now in
     let e = f .find .result in
     slots-room (after s e) (k .kind-of .result) (length (a .args .part .now)) (c .before .before .if3 .taken)
-    (row-room s e (f .find .ensures .0) [] [] (record { count = 0; detail = 0 }) (k .kind-of .result) (omega arith) (k .kind-of .ensures ∙ ap kindAt (k .before .word-of .ensures)) (length (a .args .part .now)) (a .pre))
+    (row-room s e (f .find .ensures .0) [] [] (record { count = 0; detail = 0 }) (k .kind-of .result) (omega arith) (k .kind-of .ensures ∙ ap kindAt (a .pre .0)) (length (a .args .part .now)) (a .pre .1))
 
 same-length-2 : tie.Need-same-length-2
 same-length-2 c = search needs
@@ -99,12 +87,12 @@ returns-3 : tie.Need-returns-3
 returns-3 c =
     let w = c .before .before in
     let k = w .before .before .before .before .before in
-    let f = k .before .before .before .before in
+    let f = k .before .before in
     let a = f .before .before .before in
     let s = a .args .s .now in
     let e = f .find .result in
     let q = entries-next (split 32 (after s e)) (k .kind-of .result) (w .before .before .before .if3 .taken) in
-    row-words s e (f .find .ensures .0) (a .args .part .now) (w .put-next .last .1 .0) (w .put-next .result) (k .kind-of .result) (omega arith) (k .kind-of .ensures ∙ ap kindAt (k .before .word-of .ensures))
+    row-words s e (f .find .ensures .0) (a .args .part .now) (w .put-next .last .1 .0) (w .put-next .result) (k .kind-of .result) (omega arith) (k .kind-of .ensures ∙ ap kindAt (a .pre .0))
     (put-by (a .args .part .now) (w .put-next .last .1 .0) (w .put-next .result) (q .0) (q .1) (w .put-next .ensures))
 
 sub-put-words : tie.Need-sub-put-words
@@ -119,12 +107,12 @@ part-put-words-end c = search needs
 put-words-requires : tie.Need-put-words-requires
 put-words-requires c κs =
     let k = c .before .before .before .before in
-    let f = k .before .before .before .before in
+    let f = k .before .before in
     let a = f .before .before .before in
     let s = a .args .s .now in
     let e = f .find .result in
     numbers-room (after s e) (k .kind-of .result) (length (a .args .part .now)) (c .before .before .before .if2 .left) (c .before .before .if3 .left)
-    (row-room s e (f .find .ensures .0) [] [] (record { count = 0; detail = 0 }) (k .kind-of .result) (omega arith) (k .kind-of .ensures ∙ ap kindAt (k .before .word-of .ensures)) (length (a .args .part .now)) (a .pre))
+    (row-room s e (f .find .ensures .0) [] [] (record { count = 0; detail = 0 }) (k .kind-of .result) (omega arith) (k .kind-of .ensures ∙ ap kindAt (a .pre .0)) (length (a .args .part .now)) (a .pre .1))
 
 same-length-3 : tie.Need-same-length-3
 same-length-3 c = search needs
@@ -133,12 +121,12 @@ returns-4 : tie.Need-returns-4
 returns-4 c =
     let w = c .before .before in
     let k = w .before .before .before .before .before in
-    let f = k .before .before .before .before in
+    let f = k .before .before in
     let a = f .before .before .before in
     let s = a .args .s .now in
     let e = f .find .result in
     let q = entries-numbers (split 32 (after s e)) (k .kind-of .result) (w .before .before .before .before .if2 .left) (w .before .before .before .if3 .left) in
-    row-words s e (f .find .ensures .0) (a .args .part .now) (w .put-words .last .1 .1 .0) (w .put-words .result) (k .kind-of .result) (omega arith) (k .kind-of .ensures ∙ ap kindAt (k .before .word-of .ensures))
+    row-words s e (f .find .ensures .0) (a .args .part .now) (w .put-words .last .1 .1 .0) (w .put-words .result) (k .kind-of .result) (omega arith) (k .kind-of .ensures ∙ ap kindAt (a .pre .0))
     (put-by (a .args .part .now) (w .put-words .last .1 .1 .0) (w .put-words .result) (q .0) (q .1) (w .put-words .ensures))
 
 pub put-operands-spec : {M : Type 1} → statement M
@@ -147,10 +135,6 @@ put-operands-spec =
     (tie.spec
     find-requires
     returns
-    sub-word-of
-    part-word-of-start
-    part-word-of-end
-    word-of-requires
     kind-of-requires
     add-from
     sub-put-for
