@@ -8,6 +8,7 @@ use lib.ListN.{length, take, drop, set, getD}
 use Rattle.reader.specs.Bytes.{pick}
 use Rattle.reader.specs.Rows.{split}
 use Rattle.reader.specs.Tables.{appendRow}
+use Rattle.reader.specs.AcceptedRows.{uncounted}
 use Rattle.reader.specs.Operands.{openingWord, rowEntries, rowDetail, inside}
 use Rattle.reader.specs.declared.machine.State.{State}
 use Rattle.reader.specs.declared.rows.Row.{Row}
@@ -182,3 +183,32 @@ given-is {g} {a} {b} p q = ap {B = Given} (λ (x : ℕ). record { count = x; det
 -- by which row it is
 pub wrote-as : {n t a : List ℕ} {s : State} {w : Walk} {l : List ℕ} {d e : Row} {n′ t′ a′ : List ℕ} {r : Walk} → d ≡ e → Wrote n t a s w l e n′ t′ a′ r → Wrote n t a s w l d n′ t′ a′ r
 wrote-as {n} {t} {a} {s} {w} {l} {d} {e} {n′} {t′} {a′} {r} p = subst (λ (x : Row). Wrote n t a s w l x n′ t′ a′ r) (sym p)
+
+-- ---- a statement's count is nothing to the tables
+
+module _ (n t a : List ℕ) (s : State) (w : Walk) (l : List ℕ) where
+  pub ready-uncounted : (d : Row) → Ready n t a s w l d → Ready n t a s w l (uncounted d)
+  ready-uncounted row.NoForm h = h
+  ready-uncounted row.End h = h
+  ready-uncounted row.Stmts h = h
+  ready-uncounted (row.Module b) h = h
+  ready-uncounted row.InvalidLine h = h
+  ready-uncounted (row.Line m) h = h
+  ready-uncounted row.InvalidTo h = h
+  ready-uncounted (row.To m) h = h
+  ready-uncounted row.InvalidSimple h = h
+  ready-uncounted (row.Simple k m) h = h
+  ready-uncounted (row.Cond k) h = h
+
+  pub wrote-counted : (d : Row) (n′ t′ a′ : List ℕ) (r : Walk) → Wrote n t a s w l (uncounted d) n′ t′ a′ r → Wrote n t a s w l d n′ t′ a′ r
+  wrote-counted row.NoForm n′ t′ a′ r h = h
+  wrote-counted row.End n′ t′ a′ r h = h
+  wrote-counted row.Stmts n′ t′ a′ r h = h
+  wrote-counted (row.Module b) n′ t′ a′ r h = h
+  wrote-counted row.InvalidLine n′ t′ a′ r h = h
+  wrote-counted (row.Line m) n′ t′ a′ r h = h
+  wrote-counted row.InvalidTo n′ t′ a′ r h = h
+  wrote-counted (row.To m) n′ t′ a′ r h = h
+  wrote-counted row.InvalidSimple n′ t′ a′ r h = h
+  wrote-counted (row.Simple k m) n′ t′ a′ r h = record { walk = h .walk; lines = h .lines; stmts = h .stmts; args = h .args }
+  wrote-counted (row.Cond k) n′ t′ a′ r h = h

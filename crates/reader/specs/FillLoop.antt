@@ -21,7 +21,8 @@ use Rattle.reader.specs.Records.{joined, lineRecs, lineNumbers}
 use Rattle.reader.specs.ReadingRecords.{positionRecs, recsOf, openNumbers, numbersOf}
 use Rattle.reader.specs.Tables.{padded-nil}
 use Rattle.reader.specs.Every.{all[]}
-use Rattle.reader.specs.Fill.{Wrote, Ready, outsideWalk}
+use Rattle.reader.specs.AcceptedRows.{WellFormed, uncounted, taken-formed, taken-uncounted}
+use Rattle.reader.specs.Fill.{Wrote, Ready, outsideWalk, ready-uncounted, wrote-counted}
 use Rattle.reader.specs.Holds.{Holds, holds-as}
 use Rattle.reader.specs.FillLaws.{walkAt, Fits, fill-law}
 use Rattle.reader.specs.FillReady.{Long, holds-long, ready-law}
@@ -212,13 +213,9 @@ module _ (text : List ℕ) (nl ns na : ℕ) (g : Accepts text nl ns na) (s : Sta
         let q = finished r (f .row) (r .position) (pieceAt text at e) (g .tree) (f .good) p in
         holds-as nl ns na n t a (q .1) (q .0) (f .holds)
 
-    module _ (more : at + e ≡ length text → ⊥) (le : e ≤ length (take (length text - at) (drop at text))) (x : Step) (steps : x ≡ stepRow s (asRow (contentOf (rowOf (pieceAt text at e))))) where
+    module _ (more : at + e ≡ length text → ⊥) (le : e ≤ length (take (length text - at) (drop at text))) where
       outcome : Outcome Reading
       outcome = readRow (f .reading) (f .reading .position) (contentOf (rowOf (pieceAt text at e)))
-
-      stepped : asStep outcome ≡ x
-      unfolding outcome
-      stepped = sym (steps ∙ ap (λ (z : State). stepRow z (asRow (contentOf (rowOf (pieceAt text at e))))) (f .state) ∙ step-law (f .reading) (contentOf (rowOf (pieceAt text at e))))
 
       -- a row of an accepted text is taken, and the rest leads to its listing
       went : (q : Reading) × (outcome ≡ taken q) × (readRows q (suc (f .row)) (split 10 (drop (at + e + 1) text)) ≡ listing (g .tree))
@@ -232,9 +229,14 @@ module _ (text : List ℕ) (nl ns na : ℕ) (g : Accepts text nl ns na) (s : Sta
               absurd (not-listing (subst (λ (z : Outcome Reading). elim z [ refused n ↦ refusal n (f .row) | taken q ↦ readRows q (suc (f .row)) (v ∷ vs) ] ≡ listing (g .tree)) p y))
           go (taken q) p (v ∷ vs) h y = (q, p, subst (λ (z : Outcome Reading). elim z [ refused n ↦ refusal n (f .row) | taken q ↦ readRows q (suc (f .row)) (v ∷ vs) ] ≡ listing (g .tree)) p y)
 
-      pub fills-refused : (m : ℕ) → x ≡ Refused m → ⊥
-      unfolding asStep
-      fills-refused m h = let z = sym (ap asStep (went .1)) ∙ stepped ∙ h in let y : _≡_ {A = ℕ} 0 1 = cc in omega arith
+      steps-on : stepRow s (asRow (contentOf (rowOf (pieceAt text at e)))) ≡ Taken (asState (went .0))
+      unfolding outcome asStep
+      steps-on =
+          let d = contentOf (rowOf (pieceAt text at e)) in
+          ap (λ (z : State). stepRow z (asRow d)) (f .state) ∙ step-law (f .reading) d ∙ ap asStep (went .1)
+
+      pub fills-formed : WellFormed (asRow (contentOf (rowOf (pieceAt text at e))))
+      fills-formed = taken-formed s (asState (went .0)) (asRow (contentOf (rowOf (pieceAt text at e)))) steps-on
 
       good-after : Good (went .0) (went .0 .position)
       unfolding outcome
@@ -243,42 +245,50 @@ module _ (text : List ℕ) (nl ns na : ℕ) (g : Accepts text nl ns na) (s : Sta
       fits-after : Fits nl ns na (went .0)
       fits-after = fits (went .0) (suc (f .row)) (split 10 (drop (at + e + 1) text)) good-after (went .2)
 
-      pub fills-ready : (d : Row) → d ≡ asRow (contentOf (rowOf (pieceAt text at e))) → Ready n t a s w (pieceAt text at e) d
+      pub fills-ready : (d : Row) → d ≡ uncounted (asRow (contentOf (rowOf (pieceAt text at e)))) → Ready n t a s w (pieceAt text at e) d
       unfolding outcome asState
       fills-ready d p =
           let r = f .reading in
           let l = pieceAt text at e in
           let k = asRow (contentOf (rowOf l)) in
           let y = ready-law r (went .0) nl ns na n t a l (f .good) (f .holds) (went .1) fits-now fits-after in
-          subst (Ready n t a s w l) (sym p) (subst (λ (z : Walk). Ready n t a s z l k) (sym (f .walk)) (subst (λ (z : State). Ready n t a z (walkAt r (r .position)) l k) (sym (f .state)) y))
+          let x = subst (λ (z : Walk). Ready n t a s z l k) (sym (f .walk)) (subst (λ (z : State). Ready n t a z (walkAt r (r .position)) l k) (sym (f .state)) y) in
+          subst (Ready n t a s w l) (sym p) (ready-uncounted n t a s w l k x)
 
-      pub fills-taken : (v : State) → x ≡ Taken v → (d : Row) → d ≡ asRow (contentOf (rowOf (pieceAt text at e))) → (w′ : Walk) (n′ t′ a′ : List ℕ) → Wrote n t a s w (pieceAt text at e) d n′ t′ a′ w′
-          → Fills text nl ns na (g .tree) v w′ n′ t′ a′ (at + e + 1)
-      unfolding outcome asState asStep
-      fills-taken v h d p w′ n′ t′ a′ o =
-          let r = f .reading in
-          let l = pieceAt text at e in
-          let k = asRow (contentOf (rowOf l)) in
-          let u = walkAt r (r .position) in
-          let y = fill-law r (went .0) nl ns na n t a l (f .good) (f .holds) (went .1) fits-after in
-          let b = subst (λ (z : Row). Wrote n t a s w l z n′ t′ a′ w′) p o in
-          let c = subst (λ (z : Walk). Wrote n t a s z l k n′ t′ a′ w′) (f .walk) b in
-          let m = subst (λ (z : State). Wrote n t a z u l k n′ t′ a′ w′) (f .state) c in
-          let j = sym (ap asStep (went .1)) ∙ stepped ∙ h in
-          record {
-            reading = went .0;
-            row = suc (f .row);
-            state = let z : v ≡ asState (went .0) = cc in z;
-            walk = m .walk ∙ y .1;
-            good = good-after;
-            ahead = went .2;
-            holds = record {
-              lines = m .lines ∙ y .0 .lines;
-              stmts = m .stmts ∙ y .0 .stmts;
-              args = m .args ∙ y .0 .args;
-              wide = y .0 .wide;
-            };
-          }
+      module _ (x : Step) (steps : x ≡ stepRow s (uncounted (asRow (contentOf (rowOf (pieceAt text at e)))))) where
+        stepped : x ≡ Taken (asState (went .0))
+        stepped = steps ∙ taken-uncounted s (asState (went .0)) (asRow (contentOf (rowOf (pieceAt text at e)))) steps-on
+
+        pub fills-refused : (m : ℕ) → x ≡ Refused m → ⊥
+        fills-refused m h = let z = sym stepped ∙ h in let y : _≡_ {A = ℕ} 0 1 = cc in omega arith
+
+        pub fills-taken : (v : State) → x ≡ Taken v → (d : Row) → d ≡ uncounted (asRow (contentOf (rowOf (pieceAt text at e)))) → (w′ : Walk) (n′ t′ a′ : List ℕ)
+            → Wrote n t a s w (pieceAt text at e) d n′ t′ a′ w′ → Fills text nl ns na (g .tree) v w′ n′ t′ a′ (at + e + 1)
+        unfolding outcome asState
+        fills-taken v h d p w′ n′ t′ a′ o =
+            let r = f .reading in
+            let l = pieceAt text at e in
+            let k = asRow (contentOf (rowOf l)) in
+            let u = walkAt r (r .position) in
+            let y = fill-law r (went .0) nl ns na n t a l (f .good) (f .holds) (went .1) fits-after in
+            let b = wrote-counted n t a s w l k n′ t′ a′ w′ (subst (λ (z : Row). Wrote n t a s w l z n′ t′ a′ w′) p o) in
+            let c = subst (λ (z : Walk). Wrote n t a s z l k n′ t′ a′ w′) (f .walk) b in
+            let m = subst (λ (z : State). Wrote n t a z u l k n′ t′ a′ w′) (f .state) c in
+            let j = sym stepped ∙ h in
+            record {
+              reading = went .0;
+              row = suc (f .row);
+              state = let z : v ≡ asState (went .0) = cc in z;
+              walk = m .walk ∙ y .1;
+              good = good-after;
+              ahead = went .2;
+              holds = record {
+                lines = m .lines ∙ y .0 .lines;
+                stmts = m .stmts ∙ y .0 .stmts;
+                args = m .args ∙ y .0 .args;
+                wide = y .0 .wide;
+              };
+            }
 
 -- ---- the routine
 

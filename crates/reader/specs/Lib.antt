@@ -26,6 +26,7 @@ pub mod Arguments
 pub mod CodedRows
 pub mod Machine
 pub mod MachineLaws
+pub mod AcceptedRows
 pub mod Judge
 pub mod Fill
 pub mod Holds

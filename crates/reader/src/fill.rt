@@ -8,7 +8,7 @@ use super::machine::step_row;
 use super::operands::Given;
 use super::operands::put_operands;
 use super::rows::Row;
-use super::rows::row_of;
+use super::rows::accepted_row;
 use super::scan::find;
 use super::tables::ARG_ENTRIES;
 use super::tables::END;
@@ -238,7 +238,7 @@ pub(crate) fn fill(text: &[u8], lines: &mut [u16], stmts: &mut [u16], args: &mut
         if to == text.len() {
             return;
         }
-        let row = row_of(&text[at..to]);
+        let row = accepted_row(&text[at..to]);
         match step_row(s, row) {
             Step::Refused(_) => {
                 return;

@@ -21,6 +21,7 @@ ghost use Prim.Native.Nat.{_-_};
 ghost use Rattle.reader.specs.Rows.{split, moduleContent, formRow, rowOf, contentOf};
 ghost use Rattle.reader.specs.WordTable.{kindAt};
 ghost use Rattle.reader.specs.CodedRows.{asRow, simpleBy, toByNumber, lineByNumber, argsRow, bareRow};
+ghost use Rattle.reader.specs.AcceptedRows.{WellFormed, uncounted};
 
 // NoForm is refused by 2 wherever it stands, the invalid ones by 3 where such a row is due.
 // word: the number of the opening word; count: how many numbers or slots. Cond: 0 IF, 1 IFELSE, 2 RCOMP.
@@ -179,4 +180,46 @@ pub fn row_of(s: &[u8]) -> Row
         return form_row(&s[1..last], true);
     }
     form_row(&s[1..n], false)
+}
+
+// A row of an accepted text is in form: its words are not judged again, nor counted.
+fn accepted_args(k: usize, closed: bool, s: &[u8]) -> Row
+    requires { ⌜ WellFormed (argsRow (kindAt k) k closed (split 32 (now s))) ⌝ }
+    ensures { λ r. ⌜ r ≡ uncounted (argsRow (kindAt k) k closed (split 32 (now (s .entry)))) ⌝ }
+{
+    if closed {
+        if kind_of(k) == TO {
+            return args_row(k, true, s);
+        }
+        return Row::Simple { word: k, count: 0 };
+    }
+    args_row(k, false, s)
+}
+
+fn accepted_form(s: &[u8], closed: bool) -> Row
+    requires { ⌜ WellFormed (asRow (contentOf (formRow closed (split 32 (now s))))) ⌝ }
+    ensures { λ r. ⌜ r ≡ uncounted (asRow (contentOf (formRow closed (split 32 (now (s .entry)))))) ⌝ }
+{
+    let e = find(s, 32);
+    let k = word_of(&s[0..e]);
+    if e == s.len() {
+        return bare_row(k, closed);
+    }
+    let from = e + 1;
+    accepted_args(k, closed, &s[from..])
+}
+
+pub(crate) fn accepted_row(s: &[u8]) -> Row
+    requires { ⌜ WellFormed (asRow (contentOf (rowOf (now s)))) ⌝ }
+    ensures { λ r. ⌜ r ≡ uncounted (asRow (contentOf (rowOf (now (s .entry))))) ⌝ }
+{
+    if s[0] != 40 {
+        return Row::End;
+    }
+    let n = s.len();
+    let last = n - 1;
+    if s[last] == 41 {
+        return accepted_form(&s[1..last], true);
+    }
+    accepted_form(&s[1..n], false)
 }

@@ -6,7 +6,7 @@ use Prim.Native.Nat.{suc, _-_, _≤_}
 use lib.ListN.{length}
 use Rattle.reader.specs.Scan.{next-more}
 use Rattle.reader.specs.Machine.{stepRow}
-use Rattle.reader.specs.FillLoop.{Accepts, Fills, zeroed-start, fills-bounded, fills-long, fills-last, fills-refused, fills-ready, fills-taken, filled}
+use Rattle.reader.specs.FillLoop.{Accepts, Fills, zeroed-start, fills-bounded, fills-long, fills-last, fills-formed, fills-refused, fills-ready, fills-taken, filled}
 use Rattle.reader.proofs.fill.fill.Statement.{statement}
 use Rattle.reader.proofs.fill.fill.Tie as tie
 
@@ -81,17 +81,25 @@ returns c =
     filled x (length (b .lines .now)) (length (b .stmts .now)) (length (b .args .now)) (v .lines) (v .stmts) (v .args) g
     (fills-last x (length (b .lines .now)) (length (b .stmts .now)) (length (b .args .now)) g (v .s) (v .w) (v .lines) (v .stmts) (v .args) (v .at) f (c .before .find .result) (omega arith) (c .before .find .ensures .0) (c .if1 .taken))
 
-sub-row-of : tie.Need-sub-row-of Inv-loop μ-loop
-sub-row-of c = search needs
+sub-accepted-row : tie.Need-sub-accepted-row Inv-loop μ-loop
+sub-accepted-row c = search needs
 
-part-row-of-start : tie.Need-part-row-of-start Inv-loop μ-loop
-part-row-of-start c = search needs
+part-accepted-row-start : tie.Need-part-accepted-row-start Inv-loop μ-loop
+part-accepted-row-start c = search needs
 
-part-row-of-end : tie.Need-part-row-of-end Inv-loop μ-loop
-part-row-of-end c = search needs
+part-accepted-row-end : tie.Need-part-accepted-row-end Inv-loop μ-loop
+part-accepted-row-end c = search needs
 
-row-of-requires : tie.Need-row-of-requires Inv-loop μ-loop
-row-of-requires c κs = search needs
+accepted-row-requires : tie.Need-accepted-row-requires Inv-loop μ-loop
+accepted-row-requires c κs =
+    let o = c .before .before .before .before in
+    let b = o .before .before .before .before .before .before .args in
+    let x = b .text .now in
+    let v = o .loop in
+    let g = v .inv .1 in
+    let f = v .inv .2 in
+    let e = c .before .before .find in
+    fills-formed x (length (b .lines .now)) (length (b .stmts .now)) (length (b .args .now)) g (v .s) (v .w) (v .lines) (v .stmts) (v .args) (v .at) f (e .result) (omega arith) (e .ensures .0) (c .before .if1 .left) (e .ensures .1)
 
 step-row-requires : tie.Need-step-row-requires Inv-loop μ-loop
 step-row-requires c κs = let b = fills-bounded (c .before .before .before .before .before .loop .inv .2) in (b .openConds, b .word, b .branches, b .depth)
@@ -137,7 +145,7 @@ returns-2 c =
     let v = o .loop in
     let g = v .inv .1 in
     let f = v .inv .2 in
-    absurd (fills-refused x (length (b .lines .now)) (length (b .stmts .now)) (length (b .args .now)) g (v .s) (v .w) (v .lines) (v .stmts) (v .args) (v .at) f (c .before .before .before .before .before .before .find .result) (omega arith) (c .before .before .before .before .before .before .find .ensures .0) (c .before .before .before .before .before .if1 .left) (c .before .before .before .before .before .before .find .ensures .1) (c .before .before .step-row .result) (c .before .before .step-row .ensures ∙ ap (stepRow (v .s)) (c .before .before .before .row-of .ensures)) (c .enum-told .given .0 .0) (c .enum-told .given .1))
+    absurd (fills-refused x (length (b .lines .now)) (length (b .stmts .now)) (length (b .args .now)) g (v .s) (v .w) (v .lines) (v .stmts) (v .args) (v .at) f (c .before .before .before .before .before .before .find .result) (omega arith) (c .before .before .before .before .before .before .find .ensures .0) (c .before .before .before .before .before .if1 .left) (c .before .before .before .before .before .before .find .ensures .1) (c .before .before .step-row .result) (c .before .before .step-row .ensures ∙ ap (stepRow (v .s)) (c .before .before .before .accepted-row .ensures)) (c .enum-told .given .0 .0) (c .enum-told .given .1))
 
 enum-known-n : tie.Need-enum-known-n Inv-loop μ-loop
 enum-known-n c = search needs
@@ -159,7 +167,7 @@ write-row-requires c κs =
     let v = o .loop in
     let g = v .inv .1 in
     let f = v .inv .2 in
-    fills-ready x (length (b .lines .now)) (length (b .stmts .now)) (length (b .args .now)) g (v .s) (v .w) (v .lines) (v .stmts) (v .args) (v .at) f (c .before .before .before .before .before .before .before .before .before .before .before .find .result) (omega arith) (c .before .before .before .before .before .before .before .before .before .before .before .find .ensures .0) (c .before .before .before .before .before .before .before .before .before .before .if1 .left) (c .before .before .before .before .before .before .before .before .before .before .before .find .ensures .1) (c .before .before .before .before .before .before .before .step-row .result) (c .before .before .before .before .before .before .before .step-row .ensures ∙ ap (stepRow (v .s)) (c .before .before .before .before .before .before .before .before .row-of .ensures)) (c .before .before .before .before .before .before .before .before .row-of .result) (c .before .before .before .before .before .before .before .before .row-of .ensures)
+    fills-ready x (length (b .lines .now)) (length (b .stmts .now)) (length (b .args .now)) g (v .s) (v .w) (v .lines) (v .stmts) (v .args) (v .at) f (c .before .before .before .before .before .before .before .before .before .before .before .find .result) (omega arith) (c .before .before .before .before .before .before .before .before .before .before .before .find .ensures .0) (c .before .before .before .before .before .before .before .before .before .before .if1 .left) (c .before .before .before .before .before .before .before .before .before .before .before .find .ensures .1) (c .before .before .before .before .before .before .before .before .accepted-row .result) (c .before .before .before .before .before .before .before .before .accepted-row .ensures)
 
 add-at : tie.Need-add-at Inv-loop μ-loop
 add-at c = search needs
@@ -178,7 +186,7 @@ loop-again c =
     let r = c .before .before .before .before .before .before .write-row in (
       let z = next-more 10 x (v .at) (c .before .before .before .before .before .before .before .before .before .before .before .before .before .before .before .before .before .before .find .result) (v .inv .0) (c .before .before .before .before .before .before .before .before .before .before .before .before .before .before .before .before .before .before .find .ensures .0) (c .before .before .before .before .before .before .before .before .before .before .before .before .before .before .before .before .before .if1 .left) (c .before .before .before .before .before .before .before .before .before .before .before .before .before .before .before .before .before .before .find .ensures .1) .0 in omega arith,
       g,
-      fills-taken x (length (b .lines .now)) (length (b .stmts .now)) (length (b .args .now)) g (v .s) (v .w) (v .lines) (v .stmts) (v .args) (v .at) f (c .before .before .before .before .before .before .before .before .before .before .before .before .before .before .before .before .before .before .find .result) (omega arith) (c .before .before .before .before .before .before .before .before .before .before .before .before .before .before .before .before .before .before .find .ensures .0) (c .before .before .before .before .before .before .before .before .before .before .before .before .before .before .before .before .before .if1 .left) (c .before .before .before .before .before .before .before .before .before .before .before .before .before .before .before .before .before .before .find .ensures .1) (c .before .before .before .before .before .before .before .before .before .before .before .before .before .before .step-row .result) (c .before .before .before .before .before .before .before .before .before .before .before .before .before .before .step-row .ensures ∙ ap (stepRow (v .s)) (c .before .before .before .before .before .before .before .before .before .before .before .before .before .before .before .row-of .ensures)) (c .before .before .before .before .before .before .before .before .before .before .before .before .n .given .0 .0) (c .before .before .before .before .before .before .before .before .before .before .before .before .n .given .1) (c .before .before .before .before .before .before .before .before .before .before .before .before .before .before .before .row-of .result) (c .before .before .before .before .before .before .before .before .before .before .before .before .before .before .before .row-of .ensures)
+      fills-taken x (length (b .lines .now)) (length (b .stmts .now)) (length (b .args .now)) g (v .s) (v .w) (v .lines) (v .stmts) (v .args) (v .at) f (c .before .before .before .before .before .before .before .before .before .before .before .before .before .before .before .before .before .before .find .result) (omega arith) (c .before .before .before .before .before .before .before .before .before .before .before .before .before .before .before .before .before .before .find .ensures .0) (c .before .before .before .before .before .before .before .before .before .before .before .before .before .before .before .before .before .if1 .left) (c .before .before .before .before .before .before .before .before .before .before .before .before .before .before .before .before .before .before .find .ensures .1) (c .before .before .before .before .before .before .before .before .before .before .before .before .before .before .step-row .result) (c .before .before .before .before .before .before .before .before .before .before .before .before .before .before .step-row .ensures ∙ ap (stepRow (v .s)) (c .before .before .before .before .before .before .before .before .before .before .before .before .before .before .before .accepted-row .ensures)) (c .before .before .before .before .before .before .before .before .before .before .before .before .n .given .0 .0) (c .before .before .before .before .before .before .before .before .before .before .before .before .n .given .1) (c .before .before .before .before .before .before .before .before .before .before .before .before .before .before .before .accepted-row .result) (c .before .before .before .before .before .before .before .before .before .before .before .before .before .before .before .accepted-row .ensures)
           (r .result) (r .last .1 .0) (r .last .1 .1 .0) (r .last .1 .1 .1 .0) (r .ensures),
     )
 
@@ -199,10 +207,10 @@ fill-spec =
     same-length-2
     same-length-3
     returns
-    sub-row-of
-    part-row-of-start
-    part-row-of-end
-    row-of-requires
+    sub-accepted-row
+    part-accepted-row-start
+    part-accepted-row-end
+    accepted-row-requires
     step-row-requires
     enum-told
     same-length-4

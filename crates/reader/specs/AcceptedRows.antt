@@ -1,0 +1,196 @@
+-- The rows of an accepted text: each is in form, so that less has to be judged when it is read again. Assumes nothing.
+use Prim.Native.Nat.{ℕ, _-_, _<_}
+use mathlib.Core.Path.{_≡_, refl, sym, ap, _∙_, subst}
+use mathlib.Core.List.{List, [], _∷_}
+use mathlib.Core.Option.{Option, none, some}
+use mathlib.Core.Bool.{Bool, true, false}
+use native.Mathlib.Omega.{arith}
+use lib.Dec.{eqb, ltb, leb}
+use lib.ListN.{length, getD, take, drop}
+use borrow.Author.Tests.{ne-eqb, eqb-true, eqb-false}
+use Rattle.reader.specs.Bytes.{same, pick}
+use Rattle.reader.specs.Rows.{split, areWords, formRow, rowOf, lookup, Parse, malformed, invalid, parsed, single, handlerFacts, moduleBy, moduleContent, contentOf}
+use Rattle.reader.specs.WordTable.{wordIndex, kindAt}
+use Rattle.reader.specs.Scan.{indexOf, after}
+use Rattle.reader.specs.Arguments.{checkKind}
+use Rattle.reader.specs.CodedRows.{asLine, asTo, asRow, simpleBy, argsRow, bareRow, form-false, form-one, form-more, row-empty, row-end, row-bad}
+use Rattle.reader.specs.Machine.{mayBranch, oneMore, stepSimple, stepRow}
+use Rattle.reader.specs.declared.arguments.ArgCheck.{ArgCheck}
+use Rattle.reader.specs.declared.machine.State.{State}
+use Rattle.reader.specs.declared.machine.Step.the-variants.{Taken, Refused}
+use Rattle.reader.specs.declared.rows.Row.{Row}
+use Rattle.reader.specs.declared.rows.Row.the-variants as row
+
+-- a form, with no bad number or name
+abbrev pub WellFormed : Row → Type 0
+WellFormed row.NoForm = ⊥
+WellFormed row.End = Unit {0}
+WellFormed row.Stmts = Unit {0}
+WellFormed (row.Module h) = Unit {0}
+WellFormed row.InvalidLine = ⊥
+WellFormed (row.Line n) = Unit {0}
+WellFormed row.InvalidTo = ⊥
+WellFormed (row.To n) = Unit {0}
+WellFormed row.InvalidSimple = ⊥
+WellFormed (row.Simple k n) = Unit {0}
+WellFormed (row.Cond k) = Unit {0}
+
+-- a statement without how many numbers or slots it lists
+abbrev pub uncounted : Row → Row
+uncounted row.NoForm = row.NoForm
+uncounted row.End = row.End
+uncounted row.Stmts = row.Stmts
+uncounted (row.Module h) = row.Module h
+uncounted row.InvalidLine = row.InvalidLine
+uncounted (row.Line n) = row.Line n
+uncounted row.InvalidTo = row.InvalidTo
+uncounted (row.To n) = row.To n
+uncounted row.InvalidSimple = row.InvalidSimple
+uncounted (row.Simple k n) = row.Simple k 0
+uncounted (row.Cond k) = row.Cond k
+
+-- ---- what is taken is in form, and is taken without its count
+
+not-taken : (a b : Bool) (v : State) → pick a (pick b (Refused 3) (Refused 2)) (Refused 2) ≡ Taken v → ⊥
+not-taken true true v e = let z : _≡_ {A = ℕ} 0 1 = cc in omega arith
+not-taken true false v e = let z : _≡_ {A = ℕ} 0 1 = cc in omega arith
+not-taken false b v e = let z : _≡_ {A = ℕ} 0 1 = cc in omega arith
+
+pub taken-formed : (s v : State) (d : Row) → stepRow s d ≡ Taken v → WellFormed d
+taken-formed s v row.NoForm e = let z : _≡_ {A = ℕ} 0 1 = cc in absurd (omega arith)
+taken-formed s v row.End e = tt
+taken-formed s v row.Stmts e = tt
+taken-formed s v (row.Module h) e = tt
+taken-formed s v row.InvalidLine e = not-taken (eqb (s .position) 1) true v e
+taken-formed s v (row.Line n) e = tt
+taken-formed s v row.InvalidTo e = not-taken (eqb (s .position) 4) (mayBranch (s .word) (s .branches)) v e
+taken-formed s v (row.To n) e = tt
+taken-formed s v row.InvalidSimple e = not-taken (eqb (s .position) 3) true v e
+taken-formed s v (row.Simple k n) e = tt
+taken-formed s v (row.Cond k) e = tt
+
+simple-uncounted : (s v : State) (n : ℕ) → stepSimple s n ≡ Taken v → stepSimple s 0 ≡ Taken v
+simple-uncounted s v n = go (eqb (s .position) 3) (ltb (s .stmts) 4096) (leb (s .depth) 16) (leb n 64)
+  where
+    go : (a b c d : Bool)
+        → pick a (pick b (pick c (pick d (Taken (oneMore s 3 0)) (Refused 8)) (Refused 7)) (Refused 6)) (Refused 2) ≡ Taken v
+        → pick a (pick b (pick c (Taken (oneMore s 3 0)) (Refused 7)) (Refused 6)) (Refused 2) ≡ Taken v
+    go false b c d e = e
+    go true false c d e = e
+    go true true false d e = e
+    go true true true true e = e
+    go true true true false e = let z : _≡_ {A = ℕ} 0 1 = cc in absurd (omega arith)
+
+pub taken-uncounted : (s v : State) (d : Row) → stepRow s d ≡ Taken v → stepRow s (uncounted d) ≡ Taken v
+taken-uncounted s v row.NoForm e = e
+taken-uncounted s v row.End e = e
+taken-uncounted s v row.Stmts e = e
+taken-uncounted s v (row.Module h) e = e
+taken-uncounted s v row.InvalidLine e = e
+taken-uncounted s v (row.Line n) e = e
+taken-uncounted s v row.InvalidTo e = e
+taken-uncounted s v (row.To n) e = e
+taken-uncounted s v row.InvalidSimple e = e
+taken-uncounted s v (row.Simple k n) e = simple-uncounted s v n e
+taken-uncounted s v (row.Cond k) e = e
+
+-- ---- the words after an opening word
+
+to-same : (g : Parse ℕ) → asTo g ≡ uncounted (asTo g)
+to-same malformed = refl
+to-same invalid = refl
+to-same (parsed n) = refl
+
+line-same : (g : Parse ℕ) → asLine g ≡ uncounted (asLine g)
+line-same malformed = refl
+line-same invalid = refl
+line-same (parsed n) = refl
+
+module-same : (ws : List (List ℕ)) → asRow (moduleContent ws) ≡ uncounted (asRow (moduleContent ws))
+unfolding moduleContent moduleBy
+module-same [] = refl
+module-same (w ∷ []) = go (lookup handlerFacts w)
+  where
+    go : (o : Option Bool) → asRow (moduleBy o) ≡ uncounted (asRow (moduleBy o))
+    go none = refl
+    go (some h) = refl
+module-same (w ∷ v ∷ ws) = refl
+
+pub open-same : (g k : ℕ) (ws : List (List ℕ)) → argsRow g k false ws ≡ uncounted (argsRow g k false ws)
+unfolding argsRow
+open-same g k ws = go (eqb g 0) (eqb g 1)
+  where
+    go : (a b : Bool) → pick a (asRow (moduleContent ws)) (pick b (asLine (single ws)) row.NoForm) ≡ uncounted (pick a (asRow (moduleContent ws)) (pick b (asLine (single ws)) row.NoForm))
+    go true b = module-same ws
+    go false true = line-same (single ws)
+    go false false = refl
+
+pub closed-to : (g k : ℕ) (ws : List (List ℕ)) → g ≡ 2 → argsRow g k true ws ≡ uncounted (argsRow g k true ws)
+unfolding argsRow
+closed-to g k ws h = rw h (to-same (single ws))
+
+simple-formed : (k : ℕ) (t : ArgCheck) → WellFormed (simpleBy k t) → row.Simple k 0 ≡ uncounted (simpleBy k t)
+simple-formed k t = go (eqb (t .severity) 0) (eqb (t .severity) 1)
+  where
+    go : (a b : Bool) → WellFormed (pick a (row.Simple k (t .count)) (pick b row.InvalidSimple row.NoForm)) → row.Simple k 0 ≡ uncounted (pick a (row.Simple k (t .count)) (pick b row.InvalidSimple row.NoForm))
+    go true b h = refl
+    go false true h = absurd h
+    go false false h = absurd h
+
+pub closed-simple : (g k : ℕ) (ws : List (List ℕ)) → (g ≡ 2 → ⊥) → WellFormed (argsRow g k true ws) → row.Simple k 0 ≡ uncounted (argsRow g k true ws)
+unfolding argsRow
+closed-simple g k ws h f =
+    let q = ne-eqb g 2 h in
+    rw q (simple-formed k (checkKind g ws) (rw q at f))
+
+pub bare-same : (g k : ℕ) (c : Bool) → bareRow g k c ≡ uncounted (bareRow g k c)
+unfolding bareRow
+bare-same g k true = go (eqb g 5) (eqb g 7) (eqb g 8)
+  where
+    go : (a b c : Bool) → pick a (row.Simple k 0) (pick b (row.Simple k 0) (pick c (row.Simple k 0) row.NoForm)) ≡ uncounted (pick a (row.Simple k 0) (pick b (row.Simple k 0) (pick c (row.Simple k 0) row.NoForm)))
+    go true b c = refl
+    go false true c = refl
+    go false false true = refl
+    go false false false = refl
+bare-same g k false = go (eqb g 3) (eqb g 4)
+  where
+    go : (a b : Bool) → pick a row.Stmts (pick b (row.Cond (k - 2)) row.NoForm) ≡ uncounted (pick a row.Stmts (pick b (row.Cond (k - 2)) row.NoForm))
+    go true b = refl
+    go false true = refl
+    go false false = refl
+
+-- ---- a form, a row
+
+formed-words : (c : Bool) (ws : List (List ℕ)) → WellFormed (asRow (contentOf (formRow c ws))) → areWords ws ≡ true
+formed-words c ws f = go (areWords ws) refl
+  where
+    go : (t : Bool) → areWords ws ≡ t → t ≡ true
+    go true e = refl
+    go false e = absurd (subst WellFormed (ap asRow (form-false c ws e)) f)
+
+module _ (c : Bool) (s : List ℕ) (e : ℕ) (found : e ≡ indexOf 32 s) (formed : WellFormed (asRow (contentOf (formRow c (split 32 s))))) where
+  pub formed-one : (k : ℕ) → k ≡ wordIndex (take (e - 0) (drop 0 s)) → e ≡ length s → bareRow (kindAt k) k c ≡ uncounted (asRow (contentOf (formRow c (split 32 s))))
+  formed-one k q h =
+      let p = ap (λ (n : ℕ). bareRow (kindAt n) n c) q ∙ sym (form-one c s e found (formed-words c (split 32 s) formed) h) in
+      bare-same (kindAt k) k c ∙ ap uncounted p
+
+  pub formed-args : (k : ℕ) → k ≡ wordIndex (take (e - 0) (drop 0 s)) → e < length s → argsRow (kindAt k) k c (split 32 (after s e)) ≡ asRow (contentOf (formRow c (split 32 s)))
+  formed-args k q h = ap (λ (n : ℕ). argsRow (kindAt n) n c (split 32 (after s e))) q ∙ sym (form-more c s e found (formed-words c (split 32 s) formed) h)
+
+  pub formed-more : (k : ℕ) → k ≡ wordIndex (take (e - 0) (drop 0 s)) → e < length s → WellFormed (argsRow (kindAt k) k c (split 32 (after s e)))
+  formed-more k q h = subst WellFormed (sym (formed-args k q h)) formed
+
+module _ (s : List ℕ) (formed : WellFormed (asRow (contentOf (rowOf s)))) where
+  pub formed-some : 0 < length s
+  formed-some = go (eqb (length s) 0) refl
+    where
+      go : (t : Bool) → eqb (length s) 0 ≡ t → 0 < length s
+      go true e = absurd (subst WellFormed (row-empty s (eqb-true (length s) 0 e)) formed)
+      go false e = omega (arith, eqb-false (length s) 0 e)
+
+  pub formed-end : (getD s 0 0 ≡ 40 → ⊥) → row.End ≡ uncounted (asRow (contentOf (rowOf s)))
+  formed-end k = go (same s (41 ∷ [])) refl
+    where
+      go : (t : Bool) → same s (41 ∷ []) ≡ t → row.End ≡ uncounted (asRow (contentOf (rowOf s)))
+      go true e = ap uncounted (sym (row-end s formed-some k e))
+      go false e = absurd (subst WellFormed (row-bad s formed-some k e) formed)
