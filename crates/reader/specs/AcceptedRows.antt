@@ -1,18 +1,20 @@
 -- The rows of an accepted text: each is in form, so that less has to be judged when it is read again. Assumes nothing.
-use Prim.Native.Nat.{ℕ, _-_, _<_}
+use Prim.Native.Nat.{ℕ, _-_, _≤_, _<_}
 use mathlib.Core.Path.{_≡_, refl, sym, ap, _∙_, subst}
 use mathlib.Core.List.{List, [], _∷_}
 use mathlib.Core.Option.{Option, none, some}
 use mathlib.Core.Bool.{Bool, true, false}
 use native.Mathlib.Omega.{arith}
+use native.Mathlib.Decide.{decLt}
 use lib.Dec.{eqb, ltb, leb}
 use lib.ListN.{length, getD, take, drop}
 use borrow.Author.Tests.{ne-eqb, eqb-true, eqb-false}
 use Rattle.reader.specs.Bytes.{same, pick}
-use Rattle.reader.specs.Rows.{split, areWords, formRow, rowOf, lookup, Parse, malformed, invalid, parsed, single, handlerFacts, moduleBy, moduleContent, contentOf}
-use Rattle.reader.specs.WordTable.{wordIndex, kindAt}
+use Rattle.reader.specs.Rows.{split, areWords, formRow, rowOf, openingWords, lookup, Parse, malformed, invalid, parsed, single, handlerFacts, moduleBy, moduleContent, contentOf}
+use Rattle.reader.specs.WordTable.{forms, wordIndex, kindAt, kind-none}
+use Rattle.reader.specs.WordSlots.{candidateOf, own-candidate}
 use Rattle.reader.specs.Scan.{indexOf, after}
-use Rattle.reader.specs.Arguments.{checkKind}
+use Rattle.reader.specs.Arguments.{argCheck, checkKind}
 use Rattle.reader.specs.CodedRows.{asLine, asTo, asRow, simpleBy, argsRow, bareRow, form-false, form-one, form-more, row-empty, row-end, row-bad}
 use Rattle.reader.specs.Machine.{mayBranch, oneMore, stepSimple, stepRow}
 use Rattle.reader.specs.declared.arguments.ArgCheck.{ArgCheck}
@@ -159,6 +161,22 @@ bare-same g k false = go (eqb g 3) (eqb g 4)
     go false true = refl
     go false false = refl
 
+-- ---- no opening word, no form
+
+no-kind : (k : ℕ) → 28 ≤ k → kindAt k ≡ 11
+unfolding kindAt forms openingWords
+no-kind k h = kind-none forms k h
+
+bare-none : (k : ℕ) (c : Bool) → WellFormed (bareRow 11 k c) → ⊥
+unfolding bareRow
+bare-none k true f = f
+bare-none k false f = f
+
+args-none : (k : ℕ) (c : Bool) (ws : List (List ℕ)) → WellFormed (argsRow 11 k c ws) → ⊥
+unfolding argsRow checkKind argCheck
+args-none k true ws f = f
+args-none k false ws f = f
+
 -- ---- a form, a row
 
 formed-words : (c : Bool) (ws : List (List ℕ)) → WellFormed (asRow (contentOf (formRow c ws))) → areWords ws ≡ true
@@ -169,6 +187,24 @@ formed-words c ws f = go (areWords ws) refl
     go false e = absurd (subst WellFormed (ap asRow (form-false c ws e)) f)
 
 module _ (c : Bool) (s : List ℕ) (e : ℕ) (found : e ≡ indexOf 32 s) (formed : WellFormed (asRow (contentOf (formRow c (split 32 s))))) where
+  formed-opening : e ≤ length s → wordIndex (take (e - 0) (drop 0 s)) < 28
+  formed-opening le = elim (decLt k 28) [ yes h ↦ h | no h ↦ absurd (go (no-kind k (omega (arith, h))) (eqb e (length s)) refl) ]
+    where
+      k : ℕ
+      k = wordIndex (take (e - 0) (drop 0 s))
+
+      words : areWords (split 32 s) ≡ true
+      words = formed-words c (split 32 s) formed
+
+      go : kindAt k ≡ 11 → (t : Bool) → eqb e (length s) ≡ t → ⊥
+      go q true h = bare-none k c (subst (λ (n : ℕ). WellFormed (bareRow n k c)) q (subst WellFormed (form-one c s e found words (eqb-true e (length s) h)) formed))
+      go q false h =
+          let lt : e < length s = omega (arith, eqb-false e (length s) h) in
+          args-none k c (split 32 (after s e)) (subst (λ (n : ℕ). WellFormed (argsRow n k c (split 32 (after s e)))) q (subst WellFormed (form-more c s e found words lt) formed))
+
+  pub formed-candidate : (k : ℕ) → k ≡ candidateOf (take (e - 0) (drop 0 s)) → e ≤ length s → k ≡ wordIndex (take (e - 0) (drop 0 s))
+  formed-candidate k q le = q ∙ own-candidate (take (e - 0) (drop 0 s)) (formed-opening le)
+
   pub formed-one : (k : ℕ) → k ≡ wordIndex (take (e - 0) (drop 0 s)) → e ≡ length s → bareRow (kindAt k) k c ≡ uncounted (asRow (contentOf (formRow c (split 32 s))))
   formed-one k q h =
       let p = ap (λ (n : ℕ). bareRow (kindAt n) n c) q ∙ sym (form-one c s e found (formed-words c (split 32 s) formed) h) in

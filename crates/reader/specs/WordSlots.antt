@@ -99,12 +99,15 @@ unfolding words openingWords
 shorter w h = h
 
 -- an opening word is its candidate
+pub own-candidate : (w : List ℕ) → wordIndex w < 28 → candidateOf w ≡ wordIndex w
+unfolding wordIndex
+own-candidate w h =
+    let q = same-equal (getD words (first words w) []) w (first-same words w (shorter w h)) in
+    ap candidateOf (sym q) ∙ own-slot (first words w) h
+
 is-candidate : (w : List ℕ) → first words w < 28 → same (getD words (candidateOf w) []) w ≡ true
-is-candidate w h =
-    let s = first-same words w (shorter w h) in
-    let q = same-equal (getD words (first words w) []) w s in
-    let c : candidateOf w ≡ first words w = ap candidateOf (sym q) ∙ own-slot (first words w) h in
-    subst (λ (k : ℕ). same (getD words k []) w ≡ true) (sym c) s
+unfolding wordIndex
+is-candidate w h = subst (λ (k : ℕ). same (getD words k []) w ≡ true) (sym (own-candidate w h)) (first-same words w (shorter w h))
 
 clash : {b : Bool} → b ≡ true → b ≡ false → ⊥
 clash p q = let z : _≡_ {A = ℕ} 0 1 = cc in omega arith

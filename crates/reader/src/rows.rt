@@ -14,6 +14,7 @@ use super::words::NUMBERS;
 use super::words::RUN;
 use super::words::STMTS;
 use super::words::TO;
+use super::words::candidate;
 use super::words::kind_of;
 use super::words::word_of;
 ghost use mathlib.Core.Path.{_≡_};
@@ -196,12 +197,13 @@ fn accepted_args(k: usize, closed: bool, s: &[u8]) -> Row
     args_row(k, false, s)
 }
 
+// Its opening word needs no comparing either: it is the one that it can be.
 fn accepted_form(s: &[u8], closed: bool) -> Row
     requires { ⌜ WellFormed (asRow (contentOf (formRow closed (split 32 (now s))))) ⌝ }
     ensures { λ r. ⌜ r ≡ uncounted (asRow (contentOf (formRow closed (split 32 (now (s .entry)))))) ⌝ }
 {
     let e = find(s, 32);
-    let k = word_of(&s[0..e]);
+    let k = candidate(&s[0..e]);
     if e == s.len() {
         return bare_row(k, closed);
     }

@@ -257,7 +257,7 @@ fn is_word(w: &[u8], i: usize) -> bool
 }
 
 // The only opening word that w can be, by its first and last letters and its length.
-fn candidate(w: &[u8]) -> usize
+pub(crate) fn candidate(w: &[u8]) -> usize
     ensures { λ r. ⌜ (r ≡ candidateOf (now (w .entry))) × (r < 28) ⌝ }
 {
     let n = w.len();
