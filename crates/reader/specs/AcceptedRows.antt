@@ -118,16 +118,21 @@ module-same (w ∷ []) = go (lookup handlerFacts w)
     go (some h) = refl
 module-same (w ∷ v ∷ ws) = refl
 
-pub open-same : (g k : ℕ) (ws : List (List ℕ)) → argsRow g k false ws ≡ uncounted (argsRow g k false ws)
+pub open-module : (g k : ℕ) (ws : List (List ℕ)) → g ≡ 0 → asRow (moduleContent ws) ≡ uncounted (argsRow g k false ws)
 unfolding argsRow
-open-same g k ws = go (eqb g 0) (eqb g 1)
-  where
-    go : (a b : Bool) → pick a (asRow (moduleContent ws)) (pick b (asLine (single ws)) row.NoForm) ≡ uncounted (pick a (asRow (moduleContent ws)) (pick b (asLine (single ws)) row.NoForm))
-    go true b = module-same ws
-    go false true = line-same (single ws)
-    go false false = refl
+open-module g k ws h = rw h (module-same ws)
 
-pub closed-to : (g k : ℕ) (ws : List (List ℕ)) → g ≡ 2 → argsRow g k true ws ≡ uncounted (argsRow g k true ws)
+pub open-line : (g k : ℕ) (ws : List (List ℕ)) → (g ≡ 0 → ⊥) → WellFormed (argsRow g k false ws) → asLine (single ws) ≡ uncounted (argsRow g k false ws)
+unfolding argsRow
+open-line g k ws h f =
+    let q = ne-eqb g 0 h in
+    rw q (go (eqb g 1) (rw q at f))
+  where
+    go : (b : Bool) → WellFormed (pick b (asLine (single ws)) row.NoForm) → asLine (single ws) ≡ uncounted (pick b (asLine (single ws)) row.NoForm)
+    go true f = line-same (single ws)
+    go false f = absurd f
+
+pub closed-to : (g k : ℕ) (ws : List (List ℕ)) → g ≡ 2 → asTo (single ws) ≡ uncounted (argsRow g k true ws)
 unfolding argsRow
 closed-to g k ws h = rw h (to-same (single ws))
 

@@ -188,13 +188,17 @@ fn accepted_args(k: usize, closed: bool, s: &[u8]) -> Row
     requires { ⌜ WellFormed (argsRow (kindAt k) k closed (split 32 (now s))) ⌝ }
     ensures { λ r. ⌜ r ≡ uncounted (argsRow (kindAt k) k closed (split 32 (now (s .entry)))) ⌝ }
 {
+    let kind = kind_of(k);
     if closed {
-        if kind_of(k) == TO {
-            return args_row(k, true, s);
+        if kind == TO {
+            return to_row(single_number(s));
         }
         return Row::Simple { word: k, count: 0 };
     }
-    args_row(k, false, s)
+    if kind == MODULE {
+        return module_row(s);
+    }
+    line_row(single_number(s))
 }
 
 // Its opening word needs no comparing either: it is the one that it can be.
