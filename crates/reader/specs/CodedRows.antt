@@ -9,7 +9,7 @@ use native.Mathlib.Nat.{not-suc-le-zero}
 use lib.Dec.{eqb}
 use lib.ListN.{length, getD, take, drop, getElem?}
 use lib.Seq.{take-all}
-use borrow.Author.Tests.{eq-eqb, ne-eqb}
+use borrow.Author.Tests.{eq-eqb, ne-eqb, eqb-true, eqb-false}
 use Rattle.reader.specs.Bytes.{bytes, same, pick}
 use Rattle.reader.specs.Listing.{Simple, goto, gosub, return, run, runto, ongoto, ongosub, for, next, repeat, loop, until, endloop, exit, exitif, doif, else, done, clr, stop, any, CondWord, if, ifelse, rcomp}
 use Rattle.reader.specs.Rows.{split, areWords, stripClose, Row as FormRow, close, bad, form, formRow, rowOf, Form, moduleForm, lineForm, toForm, stmtsForm, runForm, forForm, nextForm, condForm, bareForm, numberForm, numbersForm, openingWords, lookup, Parse, malformed, invalid, parsed, mapParse, withParse, parseNumbers, parseName, parseSlots, parseTier, parseMark, Counted, Content, noForm, endRow, stmtsRow, moduleRow, lineRow, toRow, simpleRow, condRow, bareStmt, single, runStmt, forStmt, nextStmt, ifNoWords, handlerFacts, moduleBy, moduleContent, formContent, wordContent, contentOf}
@@ -398,3 +398,18 @@ pub two-or-more : (s : List ℕ) (n : ℕ) → 0 < n → getD s 0 0 ≡ 40 → g
 two-or-more s zero h p q = absurd (not-suc-le-zero h)
 two-or-more s (suc zero) h p q = absurd (let z : _≡_ {A = ℕ} 40 41 = sym p ∙ q in omega arith)
 two-or-more s (suc (suc n)) h p q = omega arith
+
+-- where the words of a row of n bytes end
+abbrev pub wordsEnd : ℕ → Bool → ℕ
+wordsEnd n true = n - 1
+wordsEnd n false = n
+
+module _ (s : List ℕ) (some : 0 < length s) (opens : getD s 0 0 ≡ 40) where
+  pub row-form : (t : Bool) → eqb (getD s (length s - 1) 0) 41 ≡ t → (e : ℕ) → e ≡ wordsEnd (length s) t
+      → (1 ≤ e) × (e ≤ length s) × (asRow (contentOf (rowOf s)) ≡ asRow (contentOf (formRow t (split 32 (take (e - 1) (drop 1 s))))))
+  row-form true q e p =
+      let b = eqb-true (getD s (length s - 1) 0) 41 q in
+      let l = two-or-more s (length s) some opens b in
+      (omega arith, omega arith, row-closed s some opens b ∙ ap (λ (z : ℕ). asRow (contentOf (formRow true (split 32 (take (z - 1) (drop 1 s)))))) (sym p))
+  row-form false q e p =
+      (omega arith, omega arith, row-opened s some opens (eqb-false (getD s (length s - 1) 0) 41 q) ∙ ap (λ (z : ℕ). asRow (contentOf (formRow false (split 32 (take (z - 1) (drop 1 s)))))) (sym p))

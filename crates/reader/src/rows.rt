@@ -18,10 +18,10 @@ use super::words::candidate;
 use super::words::kind_of;
 use super::words::word_of;
 ghost use mathlib.Core.Path.{_≡_};
-ghost use Prim.Native.Nat.{_-_};
+ghost use Prim.Native.Nat.{_-_, _<_};
 ghost use Rattle.reader.specs.Rows.{split, moduleContent, formRow, rowOf, contentOf};
 ghost use Rattle.reader.specs.WordTable.{kindAt};
-ghost use Rattle.reader.specs.CodedRows.{asRow, simpleBy, toByNumber, lineByNumber, argsRow, bareRow};
+ghost use Rattle.reader.specs.CodedRows.{asRow, simpleBy, toByNumber, lineByNumber, argsRow, bareRow, wordsEnd};
 ghost use Rattle.reader.specs.AcceptedRows.{WellFormed, uncounted};
 
 // NoForm is refused by 2 wherever it stands, the invalid ones by 3 where such a row is due.
@@ -163,6 +163,17 @@ fn form_row(s: &[u8], closed: bool) -> Row
     args_row(k, closed, &s[from..])
 }
 
+// Where the words of a row of n bytes end.
+fn words_end(n: usize, closed: bool) -> usize
+    requires { ⌜ 0 < n ⌝ }
+    ensures { λ r. ⌜ r ≡ wordsEnd n closed ⌝ }
+{
+    if closed {
+        return n - 1;
+    }
+    n
+}
+
 pub fn row_of(s: &[u8]) -> Row
     ensures { λ r. ⌜ r ≡ asRow (contentOf (rowOf (now (s .entry)))) ⌝ }
 {
@@ -177,10 +188,9 @@ pub fn row_of(s: &[u8]) -> Row
         return Row::NoForm;
     }
     let last = n - 1;
-    if s[last] == 41 {
-        return form_row(&s[1..last], true);
-    }
-    form_row(&s[1..n], false)
+    let closed = s[last] == 41;
+    let end = words_end(n, closed);
+    form_row(&s[1..end], closed)
 }
 
 // A row of an accepted text is in form: its words are not judged again, nor counted.
@@ -224,8 +234,7 @@ pub(crate) fn accepted_row(s: &[u8]) -> Row
     }
     let n = s.len();
     let last = n - 1;
-    if s[last] == 41 {
-        return accepted_form(&s[1..last], true);
-    }
-    accepted_form(&s[1..n], false)
+    let closed = s[last] == 41;
+    let end = words_end(n, closed);
+    accepted_form(&s[1..end], closed)
 }
