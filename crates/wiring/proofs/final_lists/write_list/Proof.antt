@@ -28,13 +28,13 @@ append-list-requires : tie.Need-append-list-requires
 append-list-requires c κs = return-fits (c .before .before .before .before .before .before .before .before .before .before .before .before .before .before .before .before .before .before .before .before .before .pre) (c .before .before .before .before .before .before .before .if1 .taken) (c .before .before .before .before .before .return-list .ensures)
 
 same-length : tie.Need-same-length
-same-length c = search needs
+same-length c = c .before .before .before .lists .given
 
 same-length-2 : tie.Need-same-length-2
-same-length-2 c = search needs
+same-length-2 c = c .before .succ .given
 
 same-length-3 : tie.Need-same-length-3
-same-length-3 c = search needs
+same-length-3 c = c .before .before .before .before .before .before .before .before .before .buffer .given
 
 returns : tie.Need-returns
 returns c = return-done (c .before .before .before .before .before .before .before .before .before .before .before .before .before .before .before .before .before .before .before .before .before .before .before .before .before .before .pre) (c .before .before .before .before .before .before .before .before .before .before .before .before .if1 .taken) (c .before .before .before .before .before .before .before .before .before .before .return-list .ensures) (c .before .before .before .before .append-list .ensures)
@@ -55,13 +55,13 @@ append-list-requires-2 : tie.Need-append-list-requires-2
 append-list-requires-2 c κs = call-fits (c .before .before .before .before .before .before .before .before .before .before .before .before .before .before .before .before .before .before .before .before .before .before .before .pre) (c .before .before .before .before .before .before .before .before .before .if1 .left) (c .before .before .before .before .before .list-of .ensures)
 
 same-length-4 : tie.Need-same-length-4
-same-length-4 c = search needs
+same-length-4 c = c .before .before .before .lists2 .given
 
 same-length-5 : tie.Need-same-length-5
-same-length-5 c = search needs
+same-length-5 c = c .before .succ2 .given
 
 same-length-6 : tie.Need-same-length-6
-same-length-6 c = search needs
+same-length-6 c = c .before .before .before .before .before .before .before .before .before .buffer2 .given
 
 returns-2 : tie.Need-returns-2
 returns-2 c = call-done (c .before .before .before .before .before .before .before .before .before .before .before .before .before .before .before .before .before .before .before .before .before .before .before .before .before .before .before .before .pre) (c .before .before .before .before .before .before .before .before .before .before .before .before .before .before .if1 .left) (c .before .before .before .before .before .before .before .before .before .before .list-of .ensures) (c .before .before .before .before .append-list2 .ensures)
@@ -72,10 +72,10 @@ move-list-requires c κs =
     ((m .0, m .1), (m .2, m .3))
 
 same-length-7 : tie.Need-same-length-7
-same-length-7 c = search needs
+same-length-7 c = c .before .before .before .lists3 .given
 
 same-length-8 : tie.Need-same-length-8
-same-length-8 c = search needs
+same-length-8 c = c .before .succ3 .given
 
 returns-3 : tie.Need-returns-3
 returns-3 c = move-done (c .before .before .before .before .before .before .before .before .before .before .before .before .before .before .before .before .before .before .before .before .before .before .before .pre) (c .before .before .before .before .before .before .before .before .before .if1 .left) (sym (c .before .before .before .before .before .before .before .before .is-call .ensures) ∙ c .before .before .before .before .before .before .before .if2 .left) (c .before .before .before .before .move-list .ensures)

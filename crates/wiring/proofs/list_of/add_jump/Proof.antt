@@ -1,5 +1,6 @@
 -- `add_jump`: the targets, and then where an ON falls. Assumes nothing.
 use borrow.Author.Needs.{needs}
+use mathlib.Core.Path.{_∙_}
 use Rattle.wiring.specs.Growing.{grows-both}
 use Rattle.wiring.specs.AddRoom.{room-one, room-first, room-next, room-as, grows-as}
 use Rattle.wiring.specs.NodeListLaws.{jump-parts, jump-only, jump-falls}
@@ -54,7 +55,7 @@ shared-slice-read-if1 : tie.Need-shared-slice-read-if1
 shared-slice-read-if1 c = search needs
 
 same-length : tie.Need-same-length
-same-length c = search needs
+same-length c = c .before .before .before .part .given
 
 returns : tie.Need-returns
 returns c =
@@ -77,7 +78,7 @@ add-node-requires c κs =
     room-one _ _ _ (room-next _ _ _ _ w _ _ (c .before .before .before .before .before .before .add-targets .ensures))
 
 same-length-2 : tie.Need-same-length-2
-same-length-2 c = search needs
+same-length-2 c = c .before .part2 .given ∙ c .before .before .before .before .before .before .before .before .part .given
 
 returns-2 : tie.Need-returns-2
 returns-2 c =

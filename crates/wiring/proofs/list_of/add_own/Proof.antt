@@ -41,7 +41,7 @@ add-targets-requires : tie.Need-add-targets-requires
 add-targets-requires c κs = let s = c .before .before .before .before .before .before .before .before .before .before in room-as (own-branches (s .args .stmts .now) (s .args .entries .now) (s .args .falls .now) (s .args .links .now) (s .args .frames .now) (s .args .lines) (s .args .i) (c .before .before .if1 .taken)) (s .pre .room)
 
 same-length : tie.Need-same-length
-same-length c = search needs
+same-length c = c .before .part .given
 
 returns : tie.Need-returns
 returns c = let a = c .before .before .before .before .before .before .before .before .before .before .before .before .before .args in grows-as (own-branches (a .stmts .now) (a .entries .now) (a .falls .now) (a .links .now) (a .frames .now) (a .lines) (a .i) (c .before .before .before .before .before .if1 .taken)) (c .before .before .add-targets .ensures)
@@ -52,7 +52,7 @@ add-run-requires c κs =
     ((s .pre .stmts, s .pre .entries, s .pre .links, s .pre .few (c .before .before .if1 .left)), room-as (own-run (s .args .stmts .now) (s .args .entries .now) (s .args .falls .now) (s .args .links .now) (s .args .frames .now) (s .args .lines) (s .args .i) (c .before .before .if1 .left) (c .before .if2 .taken)) (s .pre .room))
 
 same-length-2 : tie.Need-same-length-2
-same-length-2 c = search needs
+same-length-2 c = c .before .part2 .given
 
 returns-2 : tie.Need-returns-2
 returns-2 c = let a = c .before .before .before .before .before .before .before .before .before .before .before .before .before .args in grows-as (own-run (a .stmts .now) (a .entries .now) (a .falls .now) (a .links .now) (a .frames .now) (a .lines) (a .i) (c .before .before .before .before .before .if1 .left) (c .before .before .before .before .if2 .taken)) (c .before .before .add-run .ensures)
@@ -63,7 +63,7 @@ add-jump-requires c κs =
     ((s .pre .stmts, s .pre .falls, s .pre .links, s .pre .few (c .before .before .before .if1 .left)), room-as (own-jump (s .args .stmts .now) (s .args .entries .now) (s .args .falls .now) (s .args .links .now) (s .args .frames .now) (s .args .lines) (s .args .i) (c .before .before .before .if1 .left) (c .before .before .if2 .left) (c .before .if3 .taken)) (s .pre .room))
 
 same-length-3 : tie.Need-same-length-3
-same-length-3 c = search needs
+same-length-3 c = c .before .part3 .given
 
 returns-3 : tie.Need-returns-3
 returns-3 c = let a = c .before .before .before .before .before .before .before .before .before .before .before .before .before .before .args in grows-as (own-jump (a .stmts .now) (a .entries .now) (a .falls .now) (a .links .now) (a .frames .now) (a .lines) (a .i) (c .before .before .before .before .before .before .if1 .left) (c .before .before .before .before .before .if2 .left) (c .before .before .before .before .if3 .taken)) (c .before .before .add-jump .ensures)
@@ -74,7 +74,7 @@ add-next-requires c κs =
     ((s .pre .stmts, s .pre .falls, s .pre .popped (c .before .if4 .taken)), room-as (own-next (s .args .stmts .now) (s .args .entries .now) (s .args .falls .now) (s .args .links .now) (s .args .frames .now) (s .args .lines) (s .args .i) (c .before .before .before .before .if1 .left) (c .before .before .before .if2 .left) (c .before .before .if3 .left) (c .before .if4 .taken)) (s .pre .room))
 
 same-length-4 : tie.Need-same-length-4
-same-length-4 c = search needs
+same-length-4 c = c .before .part4 .given
 
 returns-4 : tie.Need-returns-4
 returns-4 c = let a = c .before .before .before .before .before .before .before .before .before .before .before .before .before .before .before .args in grows-as (own-next (a .stmts .now) (a .entries .now) (a .falls .now) (a .links .now) (a .frames .now) (a .lines) (a .i) (c .before .before .before .before .before .before .before .if1 .left) (c .before .before .before .before .before .before .if2 .left) (c .before .before .before .before .before .if3 .left) (c .before .before .before .before .if4 .taken)) (c .before .before .add-next .ensures)
@@ -88,7 +88,7 @@ add-entries-requires c κs =
     (room-as (own-any (s .args .stmts .now) (s .args .entries .now) (s .args .falls .now) (s .args .links .now) (s .args .frames .now) (s .args .lines) (s .args .i) (c .before .before .before .before .before .before .if1 .left) (c .before .before .before .before .before .if2 .left) (c .before .before .before .before .if3 .left) (c .before .before .if5 .taken)) (s .pre .room), s .pre .rises)
 
 same-length-5 : tie.Need-same-length-5
-same-length-5 c = search needs
+same-length-5 c = c .before .part5 .given
 
 returns-5 : tie.Need-returns-5
 returns-5 c = let a = c .before .before .before .before .before .before .before .before .before .before .before .before .before .before .before .before .before .args in grows-as (own-any (a .stmts .now) (a .entries .now) (a .falls .now) (a .links .now) (a .frames .now) (a .lines) (a .i) (c .before .before .before .before .before .before .before .before .before .if1 .left) (c .before .before .before .before .before .before .before .before .if2 .left) (c .before .before .before .before .before .before .before .if3 .left) (c .before .before .before .before .before .if5 .taken)) (c .before .before .add-entries .ensures)
@@ -99,7 +99,7 @@ add-block-requires c κs =
     ((s .pre .falls, s .pre .frames, s .pre .opener), room-as (own-block (s .args .stmts .now) (s .args .entries .now) (s .args .falls .now) (s .args .links .now) (s .args .frames .now) (s .args .lines) (s .args .i) (c .before .before .before .before .before .if1 .left) (c .before .before .before .before .if2 .left) (c .before .before .before .if3 .left) (c .before .before .if4 .left) (c .before .if5 .left)) (s .pre .room))
 
 same-length-6 : tie.Need-same-length-6
-same-length-6 c = search needs
+same-length-6 c = c .before .part6 .given
 
 returns-6 : tie.Need-returns-6
 returns-6 c = let a = c .before .before .before .before .before .before .before .before .before .before .before .before .before .before .before .before .args in grows-as (own-block (a .stmts .now) (a .entries .now) (a .falls .now) (a .links .now) (a .frames .now) (a .lines) (a .i) (c .before .before .before .before .before .before .before .before .if1 .left) (c .before .before .before .before .before .before .before .if2 .left) (c .before .before .before .before .before .before .if3 .left) (c .before .before .before .before .before .if4 .left) (c .before .before .before .before .if5 .left)) (c .before .before .add-block .ensures)

@@ -68,10 +68,10 @@ join-region-requires c κs =
     (entry-calls (a .stmts .now) (a .falls .now) (a .links .now) (a .n) (a .e) (a .calls .now) (a .spans .now) (s .pre .0 .calls-ready) (s .pre .0 .spanned) (c .before .before .before .before .before .before .before .wide2 .result) (c .before .before .before .before .before .before .before .before .before .before .wide .result) (c .before .before .before .before .before .before .before .wide2 .ensures) (c .before .before .before .before .before .before .before .before .before .before .wide .ensures), omega (arith, s .pre .1, s .pre .0 .calls-ready .few), s .pre .0 .in-sets)
 
 same-length : tie.Need-same-length
-same-length c = search needs
+same-length c = c .before .before .before .before .before .before .before .work .given
 
 same-length-2 : tie.Need-same-length-2
-same-length-2 c = search needs
+same-length-2 c = c .before .sets .given
 
 returns-2 : tie.Need-returns-2
 returns-2 c = λ W s t. c .before .before .join-region .ensures W s (c .before .before .before .before .before .before .before .before .region .ensures .reached (skipSteps W) t)

@@ -1,6 +1,6 @@
 -- `count_graph`: own edges, return targets, the RETURNs' edges. Assumes nothing.
 use borrow.Author.Needs.{needs}
-use mathlib.Core.Path.{refl}
+use mathlib.Core.Path.{refl, _∙_}
 use native.Mathlib.Omega.{arith}
 use Rattle.wiring.specs.PreparedLaws.{prepared-roles}
 use Rattle.wiring.specs.CountGraph.{count-skips, count-targets, count-found, count-backs, count-fits, graph-counted}
@@ -27,19 +27,19 @@ add-t40 c =
     search (needs, f)
 
 same-length : tie.Need-same-length
-same-length c = search needs
+same-length c = c .before .before .before .before .before .args2 .given
 
 same-length-2 : tie.Need-same-length-2
-same-length-2 c = search needs
+same-length-2 c = c .before .before .before .before .before .before .before .before .before .before .before .before .before .before .before .before .before .before .before .before .lists .given
 
 same-length-3 : tie.Need-same-length-3
-same-length-3 c = search needs
+same-length-3 c = c .before .before .before .before .before .before .before .before .before .before .before .before .before .before .before .before .before .before .scratch .given
 
 same-length-4 : tie.Need-same-length-4
-same-length-4 c = search needs
+same-length-4 c = c .before .before .before .before .before .before .before .before .before .before .before .before .returns .given
 
 same-length-5 : tie.Need-same-length-5
-same-length-5 c = search needs
+same-length-5 c = c .before .before .before .buffer2 .given ∙ c .before .before .before .before .before .before .before .before .before .before .before .before .before .before .before .before .buffer .given
 
 returns : tie.Need-returns
 returns c = λ L h p. graph-counted (c .before .before .before .before .before .before .before .before .before .before .before .before .before .before .before .before .before .before .before .before .before .before .before .before .before .before .before .before .before .before .before .before .before .before .before .before .before .pre) (c .before .before .before .before .before .before .before .before .before .before .before .before .before .before .before .before .before .before .before .before .before .store-skip-lists .ensures) (c .before .before .before .before .before .before .before .before .before .before .before .before .before .list-return-targets .ensures) (c .before .before .before .before .before .before .find-returns .ensures) (c .count-returns .ensures) L h p

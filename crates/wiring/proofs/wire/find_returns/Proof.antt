@@ -12,10 +12,10 @@ spread-return-edges-requires : tie.Need-spread-return-edges-requires
 spread-return-edges-requires c κs = spread-ready (c .before .before .before .before .before .before .before .before .before .before .before .before .before .before .pre)
 
 same-length : tie.Need-same-length
-same-length c = search needs
+same-length c = c .before .before .before .args2 .given
 
 same-length-2 : tie.Need-same-length-2
-same-length-2 c = search needs
+same-length-2 c = c .before .buffer .given
 
 returns-2 : tie.Need-returns-2
 returns-2 c = spread-found (c .before .before .before .before .before .before .before .before .before .before .before .before .before .before .before .before .before .before .before .args .handlers) (λ q. omega (arith, c .before .before .before .before .before .before .before .if2 .taken)) (c .before .before .before .before .spread-return-edges .ensures)
@@ -24,7 +24,7 @@ region-return-edges-requires : tie.Need-region-return-edges-requires
 region-return-edges-requires c κs = regions-ready (omega (arith, c .before .if2 .left)) (c .before .before .before .before .before .before .before .before .before .before .before .before .before .pre)
 
 same-length-3 : tie.Need-same-length-3
-same-length-3 c = search needs
+same-length-3 c = c .before .args3 .given
 
 returns-3 : tie.Need-returns-3
 returns-3 c = regions-found (c .before .before .before .before .before .before .before .before .before .before .before .before .before .before .before .before .args .handlers) (omega (arith, c .before .before .before .before .if2 .left)) (c .before .before .region-return-edges .ensures)

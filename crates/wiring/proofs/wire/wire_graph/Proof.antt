@@ -1,6 +1,6 @@
 -- `wire_graph`: counted, then written where the edges fit. Assumes nothing.
 use borrow.Author.Needs.{needs}
-use mathlib.Core.Path.{refl, _∙_}
+use mathlib.Core.Path.{refl, sym, _∙_}
 use native.Mathlib.Omega.{arith}
 use Rattle.wiring.specs.WireLaws.{ready-count, write-ready, wired-yes, wired-no}
 use Rattle.wiring.proofs.wire.wire_graph.Statement.{statement}
@@ -13,33 +13,33 @@ sub-d : tie.Need-sub-d
 sub-d c = search needs
 
 no-scratch-requires : tie.Need-no-scratch-requires
-no-scratch-requires c κs = search needs
+no-scratch-requires c κs = tt
 
 no-work-requires : tie.Need-no-work-requires
-no-work-requires c κs = search needs
+no-work-requires c κs = tt
 
 slice-aggregate-count-graph : tie.Need-slice-aggregate-count-graph
-slice-aggregate-count-graph c = search needs
+slice-aggregate-count-graph c = sym (c .before .before .before .before .no-scratch .ensures)
 
 slice-aggregate-count-graph-2 : tie.Need-slice-aggregate-count-graph-2
-slice-aggregate-count-graph-2 c = search needs
+slice-aggregate-count-graph-2 c = sym (c .before .before .before .before .before .no-work .ensures)
 
 count-graph-requires : tie.Need-count-graph-requires
 count-graph-requires c κs = ready-count (c .before .before .before .before .before .before .before .before .before .before .before .before .before .before .before .before .before .before .before .pre .1) _ (c .before .before .before .before .before .before .no-scratch .ensures) _ (c .before .before .before .before .before .no-work .ensures)
 
 edges-fit-requires : tie.Need-edges-fit-requires
-edges-fit-requires c κs = search needs
+edges-fit-requires c κs = tt
 
 slice-aggregate-write-graph : tie.Need-slice-aggregate-write-graph
-slice-aggregate-write-graph c = search needs
+slice-aggregate-write-graph c = sym (c .before .before .before .before .before .before .before .before .before .scratch2 .given)
 
 slice-aggregate-write-graph-2 : tie.Need-slice-aggregate-write-graph-2
-slice-aggregate-write-graph-2 c = search needs
+slice-aggregate-write-graph-2 c = sym (c .before .before .before .before .before .before .before .before .before .before .buffer2 .given)
 
 write-graph-requires : tie.Need-write-graph-requires
 write-graph-requires c κs =
     let f = c .before .before .before .before .before .before .before .before .before .edges-fit in
-    write-ready (c .before .before .before .before .before .before .before .before .before .before .before .before .before .before .before .before .before .before .before .before .before .before .before .before .before .before .before .before .before .before .before .before .before .before .before .before .before .before .pre .1) (c .before .before .before .before .before .before .before .before .before .before .before .before .before .before .before .before .before .before .count-graph .ensures) (f .result) (f .ensures) (c .before .before .before .before .before .before .before .before .if2 .taken) (c .before .before .before .before .before .before .before .before .before .before .before .before .before .before .before .lists .given) _ (search needs)
+    write-ready (c .before .before .before .before .before .before .before .before .before .before .before .before .before .before .before .before .before .before .before .before .before .before .before .before .before .before .before .before .before .before .before .before .before .before .before .before .before .before .pre .1) (c .before .before .before .before .before .before .before .before .before .before .before .before .before .before .before .before .before .before .count-graph .ensures) (f .result) (f .ensures) (c .before .before .before .before .before .before .before .before .if2 .taken) (c .before .before .before .before .before .before .before .before .before .before .before .before .before .before .before .lists .given) _ (c .before .before .before .before .before .before .before .before .before .before .buffer2 .given)
 
 same-length : tie.Need-same-length
 same-length c = c .before .before .before .before .before .before .before .before .args3 .given ∙ c .before .before .before .before .before .before .before .before .before .before .before .before .before .before .before .before .before .before .before .before .before .before .before .before .before .before .before .args2 .given

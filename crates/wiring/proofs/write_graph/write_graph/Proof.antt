@@ -16,19 +16,19 @@ put-edge-counts-requires : tie.Need-put-edge-counts-requires
 put-edge-counts-requires c κs = counts-ready (c .before .before .before .before .before .before .before .before .before .before .before .before .before .before .before .before .before .before .before .before .before .before .before .before .before .before .before .before .before .before .before .before .pre .held) (c .before .before .before .before .before .before .before .before .before .before .before .before .before .write-edges .ensures)
 
 same-length : tie.Need-same-length
-same-length c = search needs
+same-length c = c .before .before .before .args2 .given
 
 same-length-2 : tie.Need-same-length-2
-same-length-2 c = search needs
+same-length-2 c = c .before .before .before .before .before .before .before .before .before .before .before .before .before .lists .given
 
 same-length-3 : tie.Need-same-length-3
-same-length-3 c = search needs
+same-length-3 c = c .before .before .before .before .before .before .before .before .before .before .before .succ .given
 
 same-length-4 : tie.Need-same-length-4
-same-length-4 c = search needs
+same-length-4 c = c .before .before .before .before .before .before .before .before .before .pred .given
 
 same-length-5 : tie.Need-same-length-5
-same-length-5 c = search needs
+same-length-5 c = c .before .before .before .before .before .before .before .buffer .given
 
 returns : tie.Need-returns
 returns c = λ L ks q. graph-written q (c .before .before .before .before .before .before .before .before .before .before .before .before .before .before .write-edges .ensures) (c .before .before .before .before .clear-sets .ensures) (c .put-edge-counts .ensures)
