@@ -1,5 +1,4 @@
 -- `find_returns`: with handlers nothing; else by regions, or by rows of bits. Assumes nothing.
-use borrow.Author.Needs.{needs}
 use native.Mathlib.Omega.{arith}
 use Rattle.wiring.specs.CountGraph.{returns-through, regions-ready, regions-found, spread-ready, spread-found}
 use Rattle.wiring.proofs.wire.find_returns.Statement.{statement}

@@ -1,5 +1,4 @@
 -- `write_edges`: the predecessors follow from the lists as they were just written. Assumes nothing.
-use borrow.Author.Needs.{needs}
 use mathlib.Core.Path.{_∙_}
 use Rattle.wiring.specs.WriteGraph.{lists-ready, preds-ready, edges-written}
 use Rattle.wiring.proofs.write_graph.write_edges.Statement.{statement}

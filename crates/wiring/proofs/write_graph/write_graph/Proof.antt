@@ -1,5 +1,4 @@
 -- `write_graph`: the lists, then the arguments as read, then the counts. Assumes nothing.
-use borrow.Author.Needs.{needs}
 use Rattle.wiring.specs.WriteGraph.{clear-ready, counts-ready, graph-written}
 use Rattle.wiring.proofs.write_graph.write_graph.Statement.{statement}
 use Rattle.wiring.proofs.write_graph.write_graph.Tie as tie
