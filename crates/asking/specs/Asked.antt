@@ -40,9 +40,9 @@ pub record QuestionsAnswered (text : List ℕ) (f : Question → List ℕ) (out 
   pub asks : (ws : List (List ℕ)) → parts (split 10 text) .1 ≡ some ws → Puts out 0 out′ n (answerRows f 0 ws)
 
 -- the tables are as `build` leaves them for the listing, and what the definition writes for the text stands in `out`, as far as that goes
-pub record TextAsked (text : List ℕ) (s : Sizes) (c l t a e f k m d i r u p out out′ : List ℕ) (n : ℕ) : Type 0 where
+pub record TextAsked (text : List ℕ) (s : Sizes) (c l t a e f k i r u p out out′ : List ℕ) (n : ℕ) : Type 0 where
   pub answer : BuiltAnswer
-  pub built : Answered (build (capacity s) (parts (split 10 text) .0)) s c l t a e f k m d i r u p answer
+  pub built : Answered (build (capacity s) (parts (split 10 text) .0)) s c l t a e f k i r u p answer
   pub asked : Puts out 0 out′ n (askText (capacity s) text)
 
 -- ---- a statement's word, by its number
@@ -137,8 +137,8 @@ module _ (text : List ℕ) (n : ℕ) (cut : CutAt text n) (f : Question → List
 
 -- ---- the whole
 
-module _ (text : List ℕ) (s : Sizes) (n : ℕ) (cut : CutAt text n) (c l t a e f k m d i r u p : List ℕ) (x : BuiltAnswer)
-    (w : Answered (build (capacity s) (take n text)) s c l t a e f k m d i r u p x) where
+module _ (text : List ℕ) (s : Sizes) (n : ℕ) (cut : CutAt text n) (c l t a e f k i r u p : List ℕ) (x : BuiltAnswer)
+    (w : Answered (build (capacity s) (take n text)) s c l t a e f k i r u p x) where
   abbrev T : Tables
   T =
       record {
@@ -149,29 +149,27 @@ module _ (text : List ℕ) (s : Sizes) (n : ℕ) (cut : CutAt text n) (c l t a e
         entries = e;
         falls = f;
         links = k;
-        frames = m;
-        dispatched = d;
         lists = i;
         returns = r;
         succ = u;
         pred = p;
       }
 
-  asked-as : (out out′ : List ℕ) (j : ℕ) → Puts out 0 out′ j (answers (build (capacity s) (take n text)) (parts (split 10 text) .1)) → TextAsked text s c l t a e f k m d i r u p out out′ j
+  asked-as : (out out′ : List ℕ) (j : ℕ) → Puts out 0 out′ j (answers (build (capacity s) (take n text)) (parts (split 10 text) .1)) → TextAsked text s c l t a e f k i r u p out out′ j
   unfolding askText
   asked-as out out′ j z =
       record {
         answer = x;
-        built = subst (λ (y : List ℕ). Answered (build (capacity s) y) s c l t a e f k m d i r u p x) (sym (cut .listing)) w;
+        built = subst (λ (y : List ℕ). Answered (build (capacity s) y) s c l t a e f k i r u p x) (sym (cut .listing)) w;
         asked = puts-is (ap (λ (y : List ℕ). answers (build (capacity s) y) (parts (split 10 text) .1)) (sym (cut .listing))) z;
       }
 
-  pub listing-refused : (out out′ : List ℕ) (j number place : ℕ) → x ≡ built.Refused number place → Puts out 0 out′ j (printedRefusal number place) → TextAsked text s c l t a e f k m d i r u p out out′ j
+  pub listing-refused : (out out′ : List ℕ) (j number place : ℕ) → x ≡ built.Refused number place → Puts out 0 out′ j (printedRefusal number place) → TextAsked text s c l t a e f k i r u p out out′ j
   unfolding answers
   listing-refused out out′ j number place q z =
       asked-as out out′ j (puts-is (sym (ap (λ (b : Built). answers b (parts (split 10 text) .1)) (demands (take n text) s T x w .first .refused-by number place q .1))) z)
 
-  pub questions-asked : (out out′ : List ℕ) (j : ℕ) → x ≡ built.Graph → QuestionsAnswered text (answerAt c l t a e f i u p) out out′ j → TextAsked text s c l t a e f k m d i r u p out out′ j
+  pub questions-asked : (out out′ : List ℕ) (j : ℕ) → x ≡ built.Graph → QuestionsAnswered text (answerAt c l t a e f i u p) out out′ j → TextAsked text s c l t a e f k i r u p out out′ j
   unfolding answers
   questions-asked out out′ j q z =
       let b = build-answers (take n text) s T x w q in

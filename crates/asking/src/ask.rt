@@ -130,15 +130,13 @@ pub fn ask_text(
     entries: &mut [u16],
     falls: &mut [u16],
     links: &mut [u16],
-    frames: &mut [u16],
-    dispatched: &mut [u16],
     lists: &mut [u16],
     returns: &mut [u16],
     succ: &mut [u16],
     pred: &mut [u16],
     out: &mut [u8],
 ) -> usize
-    ensures { λ r. ⌜ TextAsked (now (text .entry)) (sizesOf (now (lines .entry)) (now (stmts .entry)) (now (args .entry)) (now (entries .entry)) (now (falls .entry)) (now (links .entry)) (now (frames .entry)) (now (dispatched .entry)) (now (lists .entry)) (now (returns .entry)) (now (succ .entry)) (now (pred .entry))) (now (counts .exit)) (now (lines .exit)) (now (stmts .exit)) (now (args .exit)) (now (entries .exit)) (now (falls .exit)) (now (links .exit)) (now (frames .exit)) (now (dispatched .exit)) (now (lists .exit)) (now (returns .exit)) (now (succ .exit)) (now (pred .exit)) (now (out .entry)) (now (out .exit)) r ⌝ }
+    ensures { λ r. ⌜ TextAsked (now (text .entry)) (sizesOf (now (lines .entry)) (now (stmts .entry)) (now (args .entry)) (now (entries .entry)) (now (falls .entry)) (now (links .entry)) (now (lists .entry)) (now (returns .entry)) (now (succ .entry)) (now (pred .entry))) (now (counts .exit)) (now (lines .exit)) (now (stmts .exit)) (now (args .exit)) (now (entries .exit)) (now (falls .exit)) (now (links .exit)) (now (lists .exit)) (now (returns .exit)) (now (succ .exit)) (now (pred .exit)) (now (out .entry)) (now (out .exit)) r ⌝ }
 {
     let n = listing_length(text);
     let built = build(
@@ -150,8 +148,6 @@ pub fn ask_text(
         entries,
         falls,
         links,
-        frames,
-        dispatched,
         lists,
         returns,
         succ,

@@ -15,15 +15,13 @@ pub extern "C" fn flow_build(
     entries: &mut [u16],
     falls: &mut [u16],
     links: &mut [u16],
-    frames: &mut [u16],
-    dispatched: &mut [u16],
     lists: &mut [u16],
     returns: &mut [u16],
     succ: &mut [u16],
     pred: &mut [u16],
     place: &mut [usize; 1],
 ) -> u8
-    ensures { λ r. ⌜ BuildTold (builtBy (capacity (sizesOf (now (lines .entry)) (now (stmts .entry)) (now (args .entry)) (now (entries .entry)) (now (falls .entry)) (now (links .entry)) (now (frames .entry)) (now (dispatched .entry)) (now (lists .entry)) (now (returns .entry)) (now (succ .entry)) (now (pred .entry)))) (now (text .entry))) (sizesOf (now (lines .entry)) (now (stmts .entry)) (now (args .entry)) (now (entries .entry)) (now (falls .entry)) (now (links .entry)) (now (frames .entry)) (now (dispatched .entry)) (now (lists .entry)) (now (returns .entry)) (now (succ .entry)) (now (pred .entry))) (now (counts .exit)) (now (lines .exit)) (now (stmts .exit)) (now (args .exit)) (now (entries .exit)) (now (falls .exit)) (now (links .exit)) (now (frames .exit)) (now (dispatched .exit)) (now (lists .exit)) (now (returns .exit)) (now (succ .exit)) (now (pred .exit)) r (now (place .exit)) ⌝ }
+    ensures { λ r. ⌜ BuildTold (builtBy (capacity (sizesOf (now (lines .entry)) (now (stmts .entry)) (now (args .entry)) (now (entries .entry)) (now (falls .entry)) (now (links .entry)) (now (lists .entry)) (now (returns .entry)) (now (succ .entry)) (now (pred .entry)))) (now (text .entry))) (sizesOf (now (lines .entry)) (now (stmts .entry)) (now (args .entry)) (now (entries .entry)) (now (falls .entry)) (now (links .entry)) (now (lists .entry)) (now (returns .entry)) (now (succ .entry)) (now (pred .entry))) (now (counts .exit)) (now (lines .exit)) (now (stmts .exit)) (now (args .exit)) (now (entries .exit)) (now (falls .exit)) (now (links .exit)) (now (lists .exit)) (now (returns .exit)) (now (succ .exit)) (now (pred .exit)) r (now (place .exit)) ⌝ }
 {
     let built = build(
         text,
@@ -34,8 +32,6 @@ pub extern "C" fn flow_build(
         entries,
         falls,
         links,
-        frames,
-        dispatched,
         lists,
         returns,
         succ,

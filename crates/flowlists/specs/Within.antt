@@ -9,7 +9,7 @@ use Rattle.graph.specs.Build.{build, written}
 use Rattle.wiring.specs.GraphTables.{Sizes, capacity}
 use Rattle.printing.specs.ListGraph.{GraphListed}
 
-pub listed-within : {text : List ℕ} {s : Sizes} {c l t a e f k m d i r u p out out′ : List ℕ} {n : ℕ} → GraphListed text s c l t a e f k m d i r u p out out′ n → n ≤ length out′
+pub listed-within : {text : List ℕ} {s : Sizes} {c l t a e f k i r u p out out′ : List ℕ} {n : ℕ} → GraphListed text s c l t a e f k i r u p out out′ n → n ≤ length out′
 listed-within {text} {s} {out = out} {out′ = out′} g =
     let z : length out′ ≡ length out = ap length (g .listed .bytes) ∙ length-sets out 0 (written (build (capacity s) text)) in
     omega (arith, g .listed .next, z)

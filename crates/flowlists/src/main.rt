@@ -58,8 +58,6 @@ fn list_text(text: &[u8], out: &mut [u8]) -> usize
     let mut entries = [0u16; 1024];
     let mut falls = [0u16; 12288];
     let mut links = [0u16; 262144];
-    let mut frames = [0u16; 12288];
-    let mut dispatched = [0u16; 4096];
     let mut lists = [0u16; 16384];
     let mut returns = [0u16; 4096];
     let mut succ = [0u16; 32768];
@@ -73,8 +71,6 @@ fn list_text(text: &[u8], out: &mut [u8]) -> usize
         &mut entries,
         &mut falls,
         &mut links,
-        &mut frames,
-        &mut dispatched,
         &mut lists,
         &mut returns,
         &mut succ,

@@ -10,18 +10,18 @@ use Rattle.wiring.specs.Room.{stmtRoom}
 use Rattle.wiring.specs.GraphTables.{Sizes, capacity}
 use Rattle.wiring.specs.Printing.{Puts}
 
-numbers-at-limits : (l t a e f k m d i r u p : ℕ) → 1024 ≡ l → 49152 ≡ t → 262144 ≡ a → 1024 ≡ e → 12288 ≡ f → 262144 ≡ k → 12288 ≡ m → 4096 ≡ d → 16384 ≡ i → 4096 ≡ r
+numbers-at-limits : (l t a e f k i r u p : ℕ) → 1024 ≡ l → 49152 ≡ t → 262144 ≡ a → 1024 ≡ e → 12288 ≡ f → 262144 ≡ k → 16384 ≡ i → 4096 ≡ r
     → 32768 ≡ u → 32768 ≡ p
-    → capacity (record { lines = l; stmts = t; args = a; entries = e; falls = f; links = k; frames = m; dispatched = d; lists = i; returns = r; succ = u; pred = p }) ≡ limits
+    → capacity (record { lines = l; stmts = t; args = a; entries = e; falls = f; links = k; lists = i; returns = r; succ = u; pred = p }) ≡ limits
 unfolding capacity stmtRoom limits
-numbers-at-limits l t a e f k m d i r u p hl ht ha he hf hk hm hd hi hr hu hp =
-    rw (sym hl, sym ht, sym ha, sym he, sym hf, sym hk, sym hm, sym hd, sym hi, sym hr, sym hu, sym hp)
+numbers-at-limits l t a e f k i r u p hl ht ha he hf hk hi hr hu hp =
+    rw (sym hl, sym ht, sym ha, sym he, sym hf, sym hk, sym hi, sym hr, sym hu, sym hp)
 
 -- tables of these lengths: s
-pub at-limits : (s : Sizes) → 1024 ≡ s .lines → 49152 ≡ s .stmts → 262144 ≡ s .args → 1024 ≡ s .entries → 12288 ≡ s .falls → 262144 ≡ s .links → 12288 ≡ s .frames → 4096 ≡ s .dispatched
+pub at-limits : (s : Sizes) → 1024 ≡ s .lines → 49152 ≡ s .stmts → 262144 ≡ s .args → 1024 ≡ s .entries → 12288 ≡ s .falls → 262144 ≡ s .links
     → 16384 ≡ s .lists → 4096 ≡ s .returns → 32768 ≡ s .succ → 32768 ≡ s .pred → capacity s ≡ limits
-at-limits s hl ht ha he hf hk hm hd hi hr hu hp =
-    numbers-at-limits (s .lines) (s .stmts) (s .args) (s .entries) (s .falls) (s .links) (s .frames) (s .dispatched) (s .lists) (s .returns) (s .succ) (s .pred) hl ht ha he hf hk hm hd hi hr hu hp
+at-limits s hl ht ha he hf hk hi hr hu hp =
+    numbers-at-limits (s .lines) (s .stmts) (s .args) (s .entries) (s .falls) (s .links) (s .lists) (s .returns) (s .succ) (s .pred) hl ht ha he hf hk hi hr hu hp
 
 -- what was put is in `out`
 pub puts-inside : (out out′ l : List ℕ) (n : ℕ) → Puts out 0 out′ n l → n ≤ length out′

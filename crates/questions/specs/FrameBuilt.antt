@@ -170,7 +170,7 @@ module _ (L : Listing) (s : Sizes) (T : Tables) (ok : InForm L) (f : LongEnough 
   held : GraphHeld L (T .lines) (T .stmts) (T .entries) (T .falls) (T .lists) (T .returns) (T .succ) (T .pred) (count (L .lines)) (total (L .lines)) (length (returnTargets (wire L)))
   unfolding answerOf tableOf
   held =
-      graph-held L s _ _ _ _ _ _ _ _ _ _ _ _ _ built.Graph ok (f .lines) (f .nodes) (f .edges)
+      graph-held L s _ _ _ _ _ _ _ _ _ _ _ built.Graph ok (f .lines) (f .nodes) (f .edges)
       (record {
         answer = refl;
         counts = w .counts;
@@ -180,8 +180,6 @@ module _ (L : Listing) (s : Sizes) (T : Tables) (ok : InForm L) (f : LongEnough 
         entries = w .entries;
         falls = w .falls;
         links = w .links;
-        frames = w .frames;
-        dispatched = w .dispatched;
         lists = w .lists;
         returns = w .returns;
         succ = w .succ;

@@ -75,7 +75,7 @@ node-in n (some i) b = rw (lt-ltb i n b) refl
 -- ---- all of them
 
 module _ (L : Listing) (s : Sizes) (T : Tables) (ok : InForm L) (fits : LongEnough s L) (w : Written L s T) where
-  answered : Answered (graph L) s (T .counts) (T .lines) (T .stmts) (T .args) (T .entries) (T .falls) (T .links) (T .frames) (T .dispatched) (T .lists) (T .returns) (T .succ) (T .pred) built.Graph
+  answered : Answered (graph L) s (T .counts) (T .lines) (T .stmts) (T .args) (T .entries) (T .falls) (T .links) (T .lists) (T .returns) (T .succ) (T .pred) built.Graph
   unfolding answerOf tableOf
   answered =
       record {
@@ -87,8 +87,6 @@ module _ (L : Listing) (s : Sizes) (T : Tables) (ok : InForm L) (fits : LongEnou
         entries = w .entries;
         falls = w .falls;
         links = w .links;
-        frames = w .frames;
-        dispatched = w .dispatched;
         lists = w .lists;
         returns = w .returns;
         succ = w .succ;
@@ -96,7 +94,7 @@ module _ (L : Listing) (s : Sizes) (T : Tables) (ok : InForm L) (fits : LongEnou
       }
 
   held : GraphHeld L (T .lines) (T .stmts) (T .entries) (T .falls) (T .lists) (T .returns) (T .succ) (T .pred) (count (L .lines)) (total (L .lines)) (length (returnTargets (wire L)))
-  held = graph-held L s _ _ _ _ _ _ _ _ _ _ _ _ _ built.Graph ok (fits .lines) (fits .nodes) (fits .edges) answered
+  held = graph-held L s _ _ _ _ _ _ _ _ _ _ _ built.Graph ok (fits .lines) (fits .nodes) (fits .edges) answered
 
   lines-are : getD (T .counts) 0 0 ≡ count (L .lines)
   unfolding countTable padded

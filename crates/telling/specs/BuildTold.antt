@@ -17,10 +17,10 @@ placeOf (graph L) = 0
 placeOf (refused n p) = p
 
 -- the number returned, the place, and every table as `build` leaves it
-pub record BuildTold (b : Built) (s : Sizes) (c l t a e f k m d i r u p : List ℕ) (number : ℕ) (place : List ℕ) : Type 0 where
+pub record BuildTold (b : Built) (s : Sizes) (c l t a e f k i r u p : List ℕ) (number : ℕ) (place : List ℕ) : Type 0 where
   pub number-is : number ≡ numberOf b
   pub place-is : place ≡ placeOf b ∷ []
-  pub tables : Answered b s c l t a e f k m d i r u p (answerOf b)
+  pub tables : Answered b s c l t a e f k i r u p (answerOf b)
 
 -- the same for each case of the routine's answer
 abbrev pub builtNumber : BuiltAnswer → ℕ
@@ -38,12 +38,12 @@ unfolding numberOf placeOf answerOf
 built-told (graph L) h g = (g .0 ∙ ap builtNumber h, g .1 ∙ ap builtPlace h)
 built-told (refused n p) h g = (g .0 ∙ ap builtNumber h, g .1 ∙ ap builtPlace h)
 
-pub build-told : {b : Built} {s : Sizes} {c l t a e f k m d i r u p : List ℕ} {x : BuiltAnswer} {number : ℕ} {place : List ℕ} → Answered b s c l t a e f k m d i r u p x
-    → (number ≡ builtNumber x) × (place ≡ builtPlace x) → BuildTold b s c l t a e f k m d i r u p number place
-build-told {b} {s} {c} {l} {t} {a} {e} {f} {k} {m} {d} {i} {r} {u} {p} w g =
+pub build-told : {b : Built} {s : Sizes} {c l t a e f k i r u p : List ℕ} {x : BuiltAnswer} {number : ℕ} {place : List ℕ} → Answered b s c l t a e f k i r u p x
+    → (number ≡ builtNumber x) × (place ≡ builtPlace x) → BuildTold b s c l t a e f k i r u p number place
+build-told {b} {s} {c} {l} {t} {a} {e} {f} {k} {i} {r} {u} {p} w g =
     let z = built-told b (w .answer) g in
     record {
       number-is = z .0;
       place-is = z .1;
-      tables = subst (λ (y : BuiltAnswer). Answered b s c l t a e f k m d i r u p y) (w .answer) w;
+      tables = subst (λ (y : BuiltAnswer). Answered b s c l t a e f k i r u p y) (w .answer) w;
     }

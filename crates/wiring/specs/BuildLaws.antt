@@ -21,7 +21,7 @@ use Rattle.graph.specs.Build.{Capacity, Built, graph, refused, edgeCount, fitte
 use Rattle.wiring.specs.HoldsListing.{HoldsListing}
 use Rattle.wiring.specs.Reading.{readBy, FittingRead, Fits, read-fits}
 use Rattle.wiring.specs.Room.{stmtRoom, StmtsFit, room-fits}
-use Rattle.wiring.specs.GraphTables.{Sizes, sizesOf, capacity, answerOf, tableOf, Answered, edgesFitted, Zeroed, countTable, lineTable, stmtTable, argTable, entryTable, fallTable, linksTable, framesTable, dispatchedTable, listTable, returnTable, succTable, predTable}
+use Rattle.wiring.specs.GraphTables.{Sizes, sizesOf, capacity, answerOf, tableOf, Answered, edgesFitted, Zeroed, countTable, lineTable, stmtTable, argTable, entryTable, fallTable, linksTable, listTable, returnTable, succTable, predTable}
 use Rattle.wiring.specs.declared.build.Built.{Built as BuiltAnswer}
 use Rattle.wiring.specs.declared.build.Built.the-variants as answer
 
@@ -52,36 +52,34 @@ build-read c text = go (read text)
 -- ---- the graph, for a listing that was read and whose lines and statements fit
 
 -- the reader's tables hold some listing, all others are zero, and c lines and n statements fit
-pub record GraphReady (handlers : Bool) (c n : ℕ) (counts lines stmts args entries falls links frames dispatched lists returns succ pred : List ℕ) : Type 0 where
+pub record GraphReady (handlers : Bool) (c n : ℕ) (counts lines stmts args entries falls links lists returns succ pred : List ℕ) : Type 0 where
   pub listing : Listing
   pub holds : HoldsListing listing lines stmts args c n
   pub handlers-are : handlers ≡ listing .handlers
   pub counts-are : counts ≡ padded 5 (countsOf listing)
   pub entries-fit : c ≤ length entries
-  pub fit : StmtsFit n (length stmts) (length args) (length falls) (length links) (length frames) (length dispatched) (length lists) (length returns)
+  pub fit : StmtsFit n (length stmts) (length args) (length falls) (length links) (length lists) (length returns)
   pub zero-entries : entries ≡ replicate (length entries) 0
   pub zero-falls : falls ≡ replicate (length falls) 0
   pub zero-links : links ≡ replicate (length links) 0
-  pub zero-frames : frames ≡ replicate (length frames) 0
-  pub zero-dispatched : dispatched ≡ replicate (length dispatched) 0
   pub zero-lists : lists ≡ replicate (length lists) 0
   pub zero-returns : returns ≡ replicate (length returns) 0
   pub zero-succ : succ ≡ replicate (length succ) 0
   pub zero-pred : pred ≡ replicate (length pred) 0
 
 -- of every listing that the reader's tables hold
-abbrev pub GraphMade : (handlers : Bool) (c n : ℕ) (lines stmts args : List ℕ) → Sizes → (c′ l′ t′ a′ e′ f′ k′ m′ d′ i′ r′ u′ p′ : List ℕ) → BuiltAnswer → Type 0
-GraphMade h c n lines stmts args s c′ l′ t′ a′ e′ f′ k′ m′ d′ i′ r′ u′ p′ x =
-    (L : Listing) → HoldsListing L lines stmts args c n → h ≡ L .handlers → Answered (edgesFitted (min (s .succ) (s .pred)) L) s c′ l′ t′ a′ e′ f′ k′ m′ d′ i′ r′ u′ p′ x
+abbrev pub GraphMade : (handlers : Bool) (c n : ℕ) (lines stmts args : List ℕ) → Sizes → (c′ l′ t′ a′ e′ f′ k′ i′ r′ u′ p′ : List ℕ) → BuiltAnswer → Type 0
+GraphMade h c n lines stmts args s c′ l′ t′ a′ e′ f′ k′ i′ r′ u′ p′ x =
+    (L : Listing) → HoldsListing L lines stmts args c n → h ≡ L .handlers → Answered (edgesFitted (min (s .succ) (s .pred)) L) s c′ l′ t′ a′ e′ f′ k′ i′ r′ u′ p′ x
 
 -- ---- a refused graph
 
 -- the tables of before, and all zero
-pub all-zero : (n at : ℕ) (l t a e f k m d i r u p : List ℕ) (c′ l′ t′ a′ e′ f′ k′ m′ d′ i′ r′ u′ p′ : List ℕ)
-    → (c′ ≡ replicate 5 0) × Zeroed l l′ × Zeroed t t′ × Zeroed a a′ → Zeroed e e′ × Zeroed f f′ × Zeroed k k′ × Zeroed m m′ × Zeroed d d′ → Zeroed i i′ × Zeroed r r′ × Zeroed u u′ × Zeroed p p′
-    → Answered (refused n at) (sizesOf l t a e f k m d i r u p) c′ l′ t′ a′ e′ f′ k′ m′ d′ i′ r′ u′ p′ (answer.Refused n at)
+pub all-zero : (n at : ℕ) (l t a e f k i r u p : List ℕ) (c′ l′ t′ a′ e′ f′ k′ i′ r′ u′ p′ : List ℕ)
+    → (c′ ≡ replicate 5 0) × Zeroed l l′ × Zeroed t t′ × Zeroed a a′ → Zeroed e e′ × Zeroed f f′ × Zeroed k k′ → Zeroed i i′ × Zeroed r r′ × Zeroed u u′ × Zeroed p p′
+    → Answered (refused n at) (sizesOf l t a e f k i r u p) c′ l′ t′ a′ e′ f′ k′ i′ r′ u′ p′ (answer.Refused n at)
 unfolding tableOf answerOf
-all-zero n at l t a e f k m d i r u p c′ l′ t′ a′ e′ f′ k′ m′ d′ i′ r′ u′ p′ x y z =
+all-zero n at l t a e f k i r u p c′ l′ t′ a′ e′ f′ k′ i′ r′ u′ p′ x y z =
     record {
       answer = refl;
       counts = x .0;
@@ -91,8 +89,6 @@ all-zero n at l t a e f k m d i r u p c′ l′ t′ a′ e′ f′ k′ m′ d�
       entries = y .0;
       falls = y .1;
       links = y .2;
-      frames = y .3;
-      dispatched = y .4;
       lists = z .0;
       returns = z .1;
       succ = z .2;
@@ -101,15 +97,15 @@ all-zero n at l t a e f k m d i r u p c′ l′ t′ a′ e′ f′ k′ m′ d�
 
 -- ---- the whole, from tables of these lengths: line and statement tables are cut to what all hold
 
-module _ (text lines stmts args entries falls links frames dispatched lists returns succ pred : List ℕ) where
+module _ (text lines stmts args entries falls links lists returns succ pred : List ℕ) where
   abbrev S : Sizes
-  S = sizesOf lines stmts args entries falls links frames dispatched lists returns succ pred
+  S = sizesOf lines stmts args entries falls links lists returns succ pred
 
   abbrev K : ℕ
   K = min (length lines) (length entries)
 
   abbrev N : ℕ
-  N = stmtRoom (length stmts) (length args) (length falls) (length links) (length frames) (length dispatched) (length lists) (length returns)
+  N = stmtRoom (length stmts) (length args) (length falls) (length links) (length lists) (length returns)
 
   by-reading : (b : ReadAnswer) → readBy K N text ≡ b → build (capacity S) text ≡ afterReading (min (length succ) (length pred)) b
   unfolding capacity
@@ -117,13 +113,13 @@ module _ (text lines stmts args entries falls links frames dispatched lists retu
 
   pub rooms-fit : (K ≤ length lines) × (N * 12 ≤ length stmts) × (N * 64 ≤ length args)
   rooms-fit =
-      let f = room-fits N (length stmts) (length args) (length falls) (length links) (length frames) (length dispatched) (length lists) (length returns) (omega arith) in
+      let f = room-fits N (length stmts) (length args) (length falls) (length links) (length lists) (length returns) (omega arith) in
       (min-le-left (length lines) (length entries), f .in-stmts, f .in-args)
 
-  module _ (c l t a e f k m d i r u p : List ℕ) (ze : Zeroed entries e) (zf : Zeroed falls f) (zk : Zeroed links k) (zm : Zeroed frames m) (zd : Zeroed dispatched d)
+  module _ (c l t a e f k i r u p : List ℕ) (ze : Zeroed entries e) (zf : Zeroed falls f) (zk : Zeroed links k)
       (zi : Zeroed lists i) (zr : Zeroed returns r) (zu : Zeroed succ u) (zp : Zeroed pred p) where
     pub build-refused : (n at : ℕ) → FittingRead text K N (length lines) (length stmts) (length args) c l t a (listed.Refused n at)
-        → Answered (build (capacity S) text) S c l t a e f k m d i r u p (answer.Refused n at)
+        → Answered (build (capacity S) text) S c l t a e f k i r u p (answer.Refused n at)
     unfolding tableOf answerOf readTable
     build-refused n at w =
         let q = was-refused (readBy K N text) n at (w .answer) in
@@ -137,8 +133,6 @@ module _ (text lines stmts args entries falls links frames dispatched lists retu
           entries = ze;
           falls = zf;
           links = zk;
-          frames = zm;
-          dispatched = zd;
           lists = zi;
           returns = zr;
           succ = zu;
@@ -166,8 +160,8 @@ module _ (text lines stmts args entries falls links frames dispatched lists retu
       unfolding readTable
       c-is = w .counts ∙ ap (λ (z : ReadAnswer). readTable countsOf z 5) (found .0)
 
-      room : StmtsFit N (length stmts) (length args) (length falls) (length links) (length frames) (length dispatched) (length lists) (length returns)
-      room = room-fits N (length stmts) (length args) (length falls) (length links) (length frames) (length dispatched) (length lists) (length returns) (omega arith)
+      room : StmtsFit N (length stmts) (length args) (length falls) (length links) (length lists) (length returns)
+      room = room-fits N (length stmts) (length args) (length falls) (length links) (length lists) (length returns) (omega arith)
 
       l-long : length l ≡ length lines
       unfolding lineEntries
@@ -202,7 +196,7 @@ module _ (text lines stmts args entries falls links frames dispatched lists retu
             args-fit = omega (arith, found .3, b, a-long, room .in-args);
           }
 
-      ready : GraphReady h x n c l t a e f k m d i r u p
+      ready : GraphReady h x n c l t a e f k i r u p
       ready =
           let b = fits .stmts in
           let g = found .3 in
@@ -217,65 +211,61 @@ module _ (text lines stmts args entries falls links frames dispatched lists retu
               in-args = omega (arith, g, b, a-long, room .in-args);
               in-falls = omega (arith, g, b, zeros-long falls f zf, room .in-falls);
               in-links = omega (arith, g, b, zeros-long links k zk, room .in-links);
-              in-frames = omega (arith, g, b, zeros-long frames m zm, room .in-frames);
-              in-dispatched = omega (arith, g, b, zeros-long dispatched d zd, room .in-dispatched);
               in-lists = omega (arith, g, b, zeros-long lists i zi, room .in-lists);
               in-returns = omega (arith, g, b, zeros-long returns r zr, room .in-returns);
             };
             zero-entries = zeros-again entries e ze;
             zero-falls = zeros-again falls f zf;
             zero-links = zeros-again links k zk;
-            zero-frames = zeros-again frames m zm;
-            zero-dispatched = zeros-again dispatched d zd;
             zero-lists = zeros-again lists i zi;
             zero-returns = zeros-again returns r zr;
             zero-succ = zeros-again succ u zu;
             zero-pred = zeros-again pred p zp;
           }
 
-      same-sizes : sizesOf l t a e f k m d i r u p ≡ S
+      same-sizes : sizesOf l t a e f k i r u p ≡ S
       same-sizes =
-          rw (l-long, t-long, a-long, zeros-long entries e ze, zeros-long falls f zf, zeros-long links k zk, zeros-long frames m zm, zeros-long dispatched d zd, zeros-long lists i zi, zeros-long returns r zr, zeros-long succ u zu, zeros-long pred p zp)
+          rw (l-long, t-long, a-long, zeros-long entries e ze, zeros-long falls f zf, zeros-long links k zk, zeros-long lists i zi, zeros-long returns r zr, zeros-long succ u zu, zeros-long pred p zp)
 
-      made : (c′ l′ t′ a′ e′ f′ k′ m′ d′ i′ r′ u′ p′ : List ℕ) (y : BuiltAnswer) → GraphMade h x n l t a (sizesOf l t a e f k m d i r u p) c′ l′ t′ a′ e′ f′ k′ m′ d′ i′ r′ u′ p′ y
-          → Answered (build (capacity S) text) S c′ l′ t′ a′ e′ f′ k′ m′ d′ i′ r′ u′ p′ y
-      made c′ l′ t′ a′ e′ f′ k′ m′ d′ i′ r′ u′ p′ y g =
+      made : (c′ l′ t′ a′ e′ f′ k′ i′ r′ u′ p′ : List ℕ) (y : BuiltAnswer) → GraphMade h x n l t a (sizesOf l t a e f k i r u p) c′ l′ t′ a′ e′ f′ k′ i′ r′ u′ p′ y
+          → Answered (build (capacity S) text) S c′ l′ t′ a′ e′ f′ k′ i′ r′ u′ p′ y
+      made c′ l′ t′ a′ e′ f′ k′ i′ r′ u′ p′ y g =
           let b : build (capacity S) text ≡ edgesFitted (min (length succ) (length pred)) L₀ = by-reading (accepted L₀) (found .0) in
-          rw b (subst (λ (s : Sizes). Answered (edgesFitted (min (s .succ) (s .pred)) L₀) s c′ l′ t′ a′ e′ f′ k′ m′ d′ i′ r′ u′ p′ y) same-sizes (g L₀ holds (found .1)))
+          rw b (subst (λ (s : Sizes). Answered (edgesFitted (min (s .succ) (s .pred)) L₀) s c′ l′ t′ a′ e′ f′ k′ i′ r′ u′ p′ y) same-sizes (g L₀ holds (found .1)))
 
     module _ (h : Bool) (x n : ℕ) (w : FittingRead text K N (length lines) (length stmts) (length args) c l t a (listed.Accepted h x n)) where
-      pub build-ready : GraphReady h x n c l t a e f k m d i r u p
+      pub build-ready : GraphReady h x n c l t a e f k i r u p
       build-ready = let g = was-accepted (readBy K N text) h x n (w .answer) in ready h x n w (g .0) (g .1, g .2, g .3, g .4)
 
-      pub build-accepted : (c′ l′ t′ a′ e′ f′ k′ m′ d′ i′ r′ u′ p′ : List ℕ) (y : BuiltAnswer) → GraphMade h x n l t a (sizesOf l t a e f k m d i r u p) c′ l′ t′ a′ e′ f′ k′ m′ d′ i′ r′ u′ p′ y
-          → Answered (build (capacity S) text) S c′ l′ t′ a′ e′ f′ k′ m′ d′ i′ r′ u′ p′ y
+      pub build-accepted : (c′ l′ t′ a′ e′ f′ k′ i′ r′ u′ p′ : List ℕ) (y : BuiltAnswer) → GraphMade h x n l t a (sizesOf l t a e f k i r u p) c′ l′ t′ a′ e′ f′ k′ i′ r′ u′ p′ y
+          → Answered (build (capacity S) text) S c′ l′ t′ a′ e′ f′ k′ i′ r′ u′ p′ y
       build-accepted = let g = was-accepted (readBy K N text) h x n (w .answer) in made h x n w (g .0) (g .1, g .2, g .3, g .4)
 
 -- ---- with the rooms and the reader's answer as they come
 
-module _ (text lines stmts args entries falls links frames dispatched lists returns succ pred : List ℕ) (kl kn : ℕ) (ek : kl ≡ min (length lines) (length entries))
-    (en : kn ≡ stmtRoom (length stmts) (length args) (length falls) (length links) (length frames) (length dispatched) (length lists) (length returns)) where
+module _ (text lines stmts args entries falls links lists returns succ pred : List ℕ) (kl kn : ℕ) (ek : kl ≡ min (length lines) (length entries))
+    (en : kn ≡ stmtRoom (length stmts) (length args) (length falls) (length links) (length lists) (length returns)) where
   pub rooms : (kl ≤ length lines) × (kn * 12 ≤ length stmts) × (kn * 64 ≤ length args)
-  rooms = rw (ek, en) (rooms-fit text lines stmts args entries falls links frames dispatched lists returns succ pred)
+  rooms = rw (ek, en) (rooms-fit text lines stmts args entries falls links lists returns succ pred)
 
-  module _ {c l t a e f k m d i r u p : List ℕ} {v : Listed} (ze : Zeroed entries e × Zeroed falls f × Zeroed links k × Zeroed frames m × Zeroed dispatched d)
+  module _ {c l t a e f k i r u p : List ℕ} {v : Listed} (ze : Zeroed entries e × Zeroed falls f × Zeroed links k)
       (zi : Zeroed lists i × Zeroed returns r × Zeroed succ u × Zeroed pred p) (w : FittingRead text kl kn (length lines) (length stmts) (length args) c l t a v) where
     pub refused-build : (n at : ℕ) → v ≡ listed.Refused n at
-        → Answered (build (capacity (sizesOf lines stmts args entries falls links frames dispatched lists returns succ pred)) text) (sizesOf lines stmts args entries falls links frames dispatched lists returns succ pred)
-        c l t a e f k m d i r u p (answer.Refused n at)
+        → Answered (build (capacity (sizesOf lines stmts args entries falls links lists returns succ pred)) text) (sizesOf lines stmts args entries falls links lists returns succ pred)
+        c l t a e f k i r u p (answer.Refused n at)
     refused-build n at q =
-        build-refused text lines stmts args entries falls links frames dispatched lists returns succ pred c l t a e f k m d i r u p
-        (ze .0) (ze .1) (ze .2) (ze .3) (ze .4) (zi .0) (zi .1) (zi .2) (zi .3) n at (rw (ek, en, q) at w)
+        build-refused text lines stmts args entries falls links lists returns succ pred c l t a e f k i r u p
+        (ze .0) (ze .1) (ze .2) (zi .0) (zi .1) (zi .2) (zi .3) n at (rw (ek, en, q) at w)
 
     module _ (h : Bool) (x n : ℕ) (q : v ≡ listed.Accepted h x n) where
-      pub ready-build : GraphReady h x n c l t a e f k m d i r u p
+      pub ready-build : GraphReady h x n c l t a e f k i r u p
       ready-build =
-          build-ready text lines stmts args entries falls links frames dispatched lists returns succ pred c l t a e f k m d i r u p
-          (ze .0) (ze .1) (ze .2) (ze .3) (ze .4) (zi .0) (zi .1) (zi .2) (zi .3) h x n (rw (ek, en, q) at w)
+          build-ready text lines stmts args entries falls links lists returns succ pred c l t a e f k i r u p
+          (ze .0) (ze .1) (ze .2) (zi .0) (zi .1) (zi .2) (zi .3) h x n (rw (ek, en, q) at w)
 
-      pub accepted-build : {c′ l′ t′ a′ e′ f′ k′ m′ d′ i′ r′ u′ p′ : List ℕ} {y : BuiltAnswer} → GraphMade h x n l t a (sizesOf l t a e f k m d i r u p) c′ l′ t′ a′ e′ f′ k′ m′ d′ i′ r′ u′ p′ y
-          → Answered (build (capacity (sizesOf lines stmts args entries falls links frames dispatched lists returns succ pred)) text) (sizesOf lines stmts args entries falls links frames dispatched lists returns succ pred)
-          c′ l′ t′ a′ e′ f′ k′ m′ d′ i′ r′ u′ p′ y
-      accepted-build {c′} {l′} {t′} {a′} {e′} {f′} {k′} {m′} {d′} {i′} {r′} {u′} {p′} {y} g =
-          build-accepted text lines stmts args entries falls links frames dispatched lists returns succ pred c l t a e f k m d i r u p
-          (ze .0) (ze .1) (ze .2) (ze .3) (ze .4) (zi .0) (zi .1) (zi .2) (zi .3) h x n (rw (ek, en, q) at w) c′ l′ t′ a′ e′ f′ k′ m′ d′ i′ r′ u′ p′ y g
+      pub accepted-build : {c′ l′ t′ a′ e′ f′ k′ i′ r′ u′ p′ : List ℕ} {y : BuiltAnswer} → GraphMade h x n l t a (sizesOf l t a e f k i r u p) c′ l′ t′ a′ e′ f′ k′ i′ r′ u′ p′ y
+          → Answered (build (capacity (sizesOf lines stmts args entries falls links lists returns succ pred)) text) (sizesOf lines stmts args entries falls links lists returns succ pred)
+          c′ l′ t′ a′ e′ f′ k′ i′ r′ u′ p′ y
+      accepted-build {c′} {l′} {t′} {a′} {e′} {f′} {k′} {i′} {r′} {u′} {p′} {y} g =
+          build-accepted text lines stmts args entries falls links lists returns succ pred c l t a e f k i r u p
+          (ze .0) (ze .1) (ze .2) (zi .0) (zi .1) (zi .2) (zi .3) h x n (rw (ek, en, q) at w) c′ l′ t′ a′ e′ f′ k′ i′ r′ u′ p′ y g

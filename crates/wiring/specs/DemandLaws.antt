@@ -95,12 +95,12 @@ unfolding entryRows entries
 entry-count ls = numbers-length (entriesBefore none ls) ∙ entries-length none ls
 
 -- the tables that a printed graph is read from, after an accepted build
-pub graph-held : (L : Listing) (s : Sizes) (c l t a e f k m d i r u p : List ℕ) (x : BuiltAnswer) → InForm L
-    → (count (L .lines) ≤ s .lines) × (count (L .lines) ≤ s .entries) → StmtsFit (total (L .lines)) (s .stmts) (s .args) (s .falls) (s .links) (s .frames) (s .dispatched) (s .lists) (s .returns)
+pub graph-held : (L : Listing) (s : Sizes) (c l t a e f k i r u p : List ℕ) (x : BuiltAnswer) → InForm L
+    → (count (L .lines) ≤ s .lines) × (count (L .lines) ≤ s .entries) → StmtsFit (total (L .lines)) (s .stmts) (s .args) (s .falls) (s .links) (s .lists) (s .returns)
     → (edgeCount L ≤ s .succ) × (edgeCount L ≤ s .pred) × (edgeCount L ≤ 32768)
-    → Answered (graph L) s c l t a e f k m d i r u p x → GraphHeld L l t e f i r u p (count (L .lines)) (total (L .lines)) (length (returnTargets (wire L)))
+    → Answered (graph L) s c l t a e f k i r u p x → GraphHeld L l t e f i r u p (count (L .lines)) (total (L .lines)) (length (returnTargets (wire L)))
 unfolding tableOf lineTable stmtTable entryTable fallTable listTable returnTable succTable predTable listRows
-graph-held L s c l t a e f k m d i r u p x ok hl hn he w =
+graph-held L s c l t a e f k i r u p x ok hl hn he w =
     let n = nodes-total L in
     let ls = allSuccessors L in
     let ps = predsOf ls in

@@ -29,7 +29,7 @@ use Rattle.wiring.specs.Prepared.{wordOf}
 use Rattle.wiring.specs.Room.{StmtsFit, room-fits, fits-room}
 use Rattle.wiring.specs.ReturnTargets.{continuationEntry}
 use Rattle.wiring.specs.PrintedTables.{lineOf, pathIn, succPart, predPart}
-use Rattle.wiring.specs.GraphTables.{Sizes, capacity, Answered, answerOf, tableOf, countTable, lineTable, stmtTable, argTable, entryTable, fallTable, linksTable, framesTable, dispatchedTable, listTable, returnTable, succTable, predTable}
+use Rattle.wiring.specs.GraphTables.{Sizes, capacity, Answered, answerOf, tableOf, countTable, lineTable, stmtTable, argTable, entryTable, fallTable, linksTable, listTable, returnTable, succTable, predTable}
 use Rattle.wiring.specs.OpenerLaws.{in-range}
 use Rattle.wiring.specs.GraphHeld.{GraphHeld}
 use Rattle.wiring.specs.PrintLaws.{reads, returns-are}
@@ -48,8 +48,6 @@ pub record Tables : Type 0 where
   pub entries : List ℕ
   pub falls : List ℕ
   pub links : List ℕ
-  pub frames : List ℕ
-  pub dispatched : List ℕ
   pub lists : List ℕ
   pub returns : List ℕ
   pub succ : List ℕ
@@ -58,7 +56,7 @@ pub record Tables : Type 0 where
 -- answer and tables are those that b asks for; s: how many entries each table has
 abbrev pub Writes : Built → Sizes → Tables → BuiltAnswer → Type 0
 Writes b s T x =
-    Answered b s (T .counts) (T .lines) (T .stmts) (T .args) (T .entries) (T .falls) (T .links) (T .frames) (T .dispatched) (T .lists) (T .returns) (T .succ) (T .pred) x
+    Answered b s (T .counts) (T .lines) (T .stmts) (T .args) (T .entries) (T .falls) (T .links) (T .lists) (T .returns) (T .succ) (T .pred) x
 
 -- what `build` promises for a text and tables of these sizes
 abbrev pub BuildWrote : List ℕ → Sizes → Tables → BuiltAnswer → Type 0
@@ -75,9 +73,9 @@ pub record ListingOf (text : List ℕ) (L : Listing) : Type 0 where
 abbrev pub LinesFit : Sizes → Listing → Type 0
 LinesFit s L = (count (L .lines) ≤ s .lines) × (count (L .lines) ≤ s .entries)
 
--- a statement has 12 entries of stmts, 64 of args, 3 of falls, 64 of links, 3 of frames, 4 of lists, and 1 of dispatched and of returns
+-- a statement has 12 entries of stmts, 64 of args, 3 of falls, 64 of links, 4 of lists, and 1 of returns
 abbrev pub NodesFit : Sizes → Listing → Type 0
-NodesFit s L = StmtsFit (total (L .lines)) (s .stmts) (s .args) (s .falls) (s .links) (s .frames) (s .dispatched) (s .lists) (s .returns)
+NodesFit s L = StmtsFit (total (L .lines)) (s .stmts) (s .args) (s .falls) (s .links) (s .lists) (s .returns)
 
 -- with document 01's own limit
 abbrev pub EdgesFit : Sizes → Listing → Type 0
@@ -98,8 +96,6 @@ pub record Written (L : Listing) (s : Sizes) (T : Tables) : Type 0 where
   pub entries : T .entries ≡ entryTable L (s .entries)
   pub falls : T .falls ≡ fallTable L (s .falls)
   pub links : T .links ≡ linksTable L (s .links)
-  pub frames : T .frames ≡ framesTable L (s .frames)
-  pub dispatched : T .dispatched ≡ dispatchedTable L (s .dispatched)
   pub lists : T .lists ≡ listTable L (s .lists)
   pub returns : T .returns ≡ returnTable L (s .returns)
   pub succ : T .succ ≡ succTable L (s .succ)
@@ -114,8 +110,6 @@ pub record AllZero (s : Sizes) (T : Tables) : Type 0 where
   pub entries : T .entries ≡ replicate (s .entries) 0
   pub falls : T .falls ≡ replicate (s .falls) 0
   pub links : T .links ≡ replicate (s .links) 0
-  pub frames : T .frames ≡ replicate (s .frames) 0
-  pub dispatched : T .dispatched ≡ replicate (s .dispatched) 0
   pub lists : T .lists ≡ replicate (s .lists) 0
   pub returns : T .returns ≡ replicate (s .returns) 0
   pub succ : T .succ ≡ replicate (s .succ) 0
@@ -201,7 +195,7 @@ module _ (s : Sizes) (L : Listing) where
 
   nodes-fit : NodesFit s L ↔ (total (L .lines) ≤ capacity s .nodes)
   unfolding capacity
-  nodes-fit = (fits-room _ _ _ _ _ _ _ _ _, room-fits _ _ _ _ _ _ _ _ _)
+  nodes-fit = (fits-room _ _ _ _ _ _ _, room-fits _ _ _ _ _ _ _)
 
   edges-fit : EdgesFit s L ↔ ((edgeCount L ≤ capacity s .edges) × (edgeCount L ≤ 32768))
   unfolding capacity
@@ -274,8 +268,6 @@ module _ (s : Sizes) (T : Tables) (x : BuiltAnswer) where
       entries = w .entries;
       falls = w .falls;
       links = w .links;
-      frames = w .frames;
-      dispatched = w .dispatched;
       lists = w .lists;
       returns = w .returns;
       succ = w .succ;
@@ -295,8 +287,6 @@ module _ (s : Sizes) (T : Tables) (x : BuiltAnswer) where
       entries = w .entries;
       falls = w .falls;
       links = w .links;
-      frames = w .frames;
-      dispatched = w .dispatched;
       lists = w .lists;
       returns = w .returns;
       succ = w .succ;
@@ -310,7 +300,7 @@ module _ (s : Sizes) (T : Tables) (x : BuiltAnswer) where
 
   module _ (L : Listing) (ok : InForm L) (g : LongEnough s L) (w : Writes (graph L) s T x) where
     held : GraphHeld L (T .lines) (T .stmts) (T .entries) (T .falls) (T .lists) (T .returns) (T .succ) (T .pred) (count (L .lines)) (total (L .lines)) (length (returnTargets (wire L)))
-    held = graph-held L s _ _ _ _ _ _ _ _ _ _ _ _ _ x ok (g .lines) (g .nodes) (g .edges) w
+    held = graph-held L s _ _ _ _ _ _ _ _ _ _ _ x ok (g .lines) (g .nodes) (g .edges) w
 
     node-written : (i : ℕ) (n : Node) → getElem? (wire L .nodes) i ≡ some n → NodeWritten L T i n
     unfolding wordOf

@@ -1,32 +1,29 @@
 -- The graph of a listing that was read: prepared, wired, or refused for its edges. Assumes nothing.
-use Prim.Native.Nat.{ℕ, _-_, _≤_, _<_, min}
+use Prim.Native.Nat.{ℕ, min}
 use mathlib.Core.Path.{_≡_, refl, sym, ap, subst, _∙_}
 use mathlib.Core.Bool.{Bool, true, false, _&&_}
 use mathlib.Core.List.{List}
-use native.Mathlib.Omega.{arith}
 use lib.Dec.{leb}
 use lib.ListN.{length, replicate}
 use Rattle.reader.specs.Bytes.{pick}
 use Rattle.reader.specs.Listing.{Listing, count, total}
 use Rattle.reader.specs.Records.{padded, countsOf}
 use Rattle.graph.specs.Graph.{wire}
-use Rattle.graph.specs.PerNode.{noOpeners, facts}
 use Rattle.graph.specs.Build.{Built, graph, refused, edgeCount}
 use Rattle.wiring.specs.LineEntries.{entryRows}
 use Rattle.wiring.specs.Falls.{fallRows}
-use Rattle.wiring.specs.Frames.{frameTable}
-use Rattle.wiring.specs.Prepared.{Prepared, linkTable, dispatchedFrom}
+use Rattle.wiring.specs.Prepared.{linkTable}
 use Rattle.wiring.specs.HoldsListing.{HoldsListing}
 use Rattle.wiring.specs.Preparing.{PrepareReady, PreparedTo}
 use Rattle.wiring.specs.Wiring.{WireHeld, WireReady, WiredGraph, WiringDone, WiredTo}
-use Rattle.wiring.specs.GraphTables.{Zeroed, Sizes, sizesOf, answerOf, tableOf, Answered, edgesFitted, countTable, lineTable, stmtTable, argTable, entryTable, fallTable, linksTable, framesTable, dispatchedTable, listTable, returnTable, succTable, predTable}
+use Rattle.wiring.specs.GraphTables.{Zeroed, Sizes, sizesOf, answerOf, tableOf, Answered, edgesFitted, countTable, lineTable, stmtTable, argTable, entryTable, fallTable, linksTable, listTable, returnTable, succTable, predTable}
 use Rattle.wiring.specs.BuildLaws.{GraphReady, GraphMade, all-zero}
 use Rattle.wiring.specs.declared.build.Built.{Built as BuiltAnswer}
 use Rattle.wiring.specs.declared.build.Built.the-variants as answer
 
-module _ {h : Bool} {c n : ℕ} {counts lines stmts args entries falls links frames dispatched lists returns succ pred : List ℕ}
-    (r : GraphReady h c n counts lines stmts args entries falls links frames dispatched lists returns succ pred) where
-  pub ready-prepare : PrepareReady lines stmts args entries falls links frames dispatched c n
+module _ {h : Bool} {c n : ℕ} {counts lines stmts args entries falls links lists returns succ pred : List ℕ}
+    (r : GraphReady h c n counts lines stmts args entries falls links lists returns succ pred) where
+  pub ready-prepare : PrepareReady lines stmts args entries falls links c n
   ready-prepare =
       record {
         listing = r .listing;
@@ -34,19 +31,15 @@ module _ {h : Bool} {c n : ℕ} {counts lines stmts args entries falls links fra
         zero-entries = r .zero-entries;
         zero-falls = r .zero-falls;
         zero-links = r .zero-links;
-        zero-frames = r .zero-frames;
-        zero-dispatched = r .zero-dispatched;
         entries-fit = r .entries-fit;
         falls-fit = r .fit .in-falls;
         links-fit = r .fit .in-links;
-        frames-fit = r .fit .in-frames;
-        dispatched-fit = r .fit .in-dispatched;
       }
 
-  module _ {e f k m d : List ℕ} {x : ℕ} (p : PreparedTo lines stmts args e f k m d c n x) where
+  module _ {e f k : List ℕ} {x : Bool} (p : PreparedTo lines stmts args e f k c n x) where
     -- an inner statement is always found (27)
-    pub found-some : 1 ≤ x
-    found-some = omega (arith, p .answered)
+    pub found-all : x ≡ true
+    found-all = p .answered
 
     same-counts : (L : Listing) → HoldsListing L lines stmts args c n → h ≡ L .handlers → countsOf (r .listing) ≡ countsOf L
     unfolding countsOf
@@ -56,11 +49,11 @@ module _ {h : Bool} {c n : ℕ} {counts lines stmts args entries falls links fra
         let w : r .listing .handlers ≡ L .handlers = sym (r .handlers-are) ∙ g in
         rw (u, v, w)
 
-    held-by : (L : Listing) → HoldsListing L lines stmts args c n → h ≡ L .handlers → WireHeld L h c n (x - 1) counts stmts args e f k m d succ pred
+    held-by : (L : Listing) → HoldsListing L lines stmts args c n → h ≡ L .handlers → WireHeld L h c n counts stmts args e f k succ pred
     held-by L H g =
         record { handlers-are = g; prepared = p .prepared L H; counts-are = r .counts-are ∙ ap (padded 5) (same-counts L H g); zero-succ = r .zero-succ; zero-pred = r .zero-pred }
 
-    pub ready-wire : WireReady h c n (x - 1) counts stmts args e f k m d lists returns succ pred
+    pub ready-wire : WireReady h c n counts stmts args e f k lists returns succ pred
     ready-wire =
         record {
           listing = r .listing;
@@ -73,8 +66,8 @@ module _ {h : Bool} {c n : ℕ} {counts lines stmts args entries falls links fra
 
     -- the lengths that stay
     module _ {counts′ args′ lists′ returns′ succ′ pred′ : List ℕ} {written : Bool} {edges : ℕ}
-        (w : WiredTo h c n (x - 1) stmts args e f k m d counts succ pred counts′ args′ lists′ returns′ succ′ pred′ written edges)
-        (ee : length e ≡ length entries) (ef : length f ≡ length falls) (ek : length k ≡ length links) (em : length m ≡ length frames) (ed : length d ≡ length dispatched)
+        (w : WiredTo h c n stmts args e f k counts succ pred counts′ args′ lists′ returns′ succ′ pred′ written edges)
+        (ee : length e ≡ length entries) (ef : length f ≡ length falls) (ek : length k ≡ length links)
         (ei : length lists′ ≡ length lists) (er : length returns′ ≡ length returns) (eu : length succ′ ≡ length succ) (ep : length pred′ ≡ length pred) where
       done : (L : Listing) → HoldsListing L lines stmts args c n → h ≡ L .handlers → WiringDone L args counts′ args′ lists′ returns′ succ′ pred′ written edges
       done L H g = w L (held-by L H g)
@@ -84,8 +77,8 @@ module _ {h : Bool} {c n : ℕ} {counts lines stmts args entries falls links fra
       fitted-by L H g = let q = done L H g in rw (q .fits, q .counted, eu, ep) refl
 
       pub made-graph : written ≡ true
-          → GraphMade h c n lines stmts args (sizesOf lines stmts args entries falls links frames dispatched lists returns succ pred) counts′ lines stmts args′ e f k m d lists′ returns′ succ′ pred′ answer.Graph
-      unfolding answerOf tableOf lineTable stmtTable argTable entryTable fallTable linksTable framesTable dispatchedTable
+          → GraphMade h c n lines stmts args (sizesOf lines stmts args entries falls links lists returns succ pred) counts′ lines stmts args′ e f k lists′ returns′ succ′ pred′ answer.Graph
+      unfolding answerOf tableOf lineTable stmtTable argTable entryTable fallTable linksTable
       made-graph t L H g =
           let q = done L H g .graph t in
           let P = p .prepared L H in
@@ -99,8 +92,6 @@ module _ {h : Bool} {c n : ℕ} {counts lines stmts args entries falls links fra
             entries = P .entered ∙ ap (λ (z : ℕ). padded z (entryRows (L .lines))) ee;
             falls = P .falling ∙ ap (λ (z : ℕ). padded z (fallRows (wire L .entries) (wire L .nodes))) ef;
             links = P .linking ∙ ap (λ (z : ℕ). linkTable z (wire L)) ek;
-            frames = P .framed ∙ ap (λ (z : ℕ). frameTable z (facts 0 (wire L .nodes) noOpeners)) em;
-            dispatched = P .dispatching ∙ ap (λ (z : ℕ). padded z (dispatchedFrom 0 (wire L .nodes))) ed;
             lists = q .lists-are ∙ ap (listTable L) ei;
             returns = q .returns-are ∙ ap (returnTable L) er;
             succ = q .succ-are ∙ ap (succTable L) eu;
@@ -108,15 +99,15 @@ module _ {h : Bool} {c n : ℕ} {counts lines stmts args entries falls links fra
           })
 
       same-sizes : length args′ ≡ length args
-          → sizesOf lines stmts args′ e f k m d lists′ returns′ succ′ pred′ ≡ sizesOf lines stmts args entries falls links frames dispatched lists returns succ pred
-      same-sizes ea = rw (ea, ee, ef, ek, em, ed, ei, er, eu, ep)
+          → sizesOf lines stmts args′ e f k lists′ returns′ succ′ pred′ ≡ sizesOf lines stmts args entries falls links lists returns succ pred
+      same-sizes ea = rw (ea, ee, ef, ek, ei, er, eu, ep)
 
-      pub made-refused : {number : ℕ} {c″ l″ t″ a″ e″ f″ k″ m″ d″ i″ r″ u″ p″ : List ℕ} → written ≡ false → length args′ ≡ length args → number ≡ 23
-          → (c″ ≡ replicate 5 0) × Zeroed lines l″ × Zeroed stmts t″ × Zeroed args′ a″ → Zeroed e e″ × Zeroed f f″ × Zeroed k k″ × Zeroed m m″ × Zeroed d d″
+      pub made-refused : {number : ℕ} {c″ l″ t″ a″ e″ f″ k″ i″ r″ u″ p″ : List ℕ} → written ≡ false → length args′ ≡ length args → number ≡ 23
+          → (c″ ≡ replicate 5 0) × Zeroed lines l″ × Zeroed stmts t″ × Zeroed args′ a″ → Zeroed e e″ × Zeroed f f″ × Zeroed k k″
           → Zeroed lists′ i″ × Zeroed returns′ r″ × Zeroed succ′ u″ × Zeroed pred′ p″
-          → GraphMade h c n lines stmts args (sizesOf lines stmts args entries falls links frames dispatched lists returns succ pred) c″ l″ t″ a″ e″ f″ k″ m″ d″ i″ r″ u″ p″ (answer.Refused number edges)
-      made-refused {number} {c″} {l″} {t″} {a″} {e″} {f″} {k″} {m″} {d″} {i″} {r″} {u″} {p″} t ea en x y z L H g =
+          → GraphMade h c n lines stmts args (sizesOf lines stmts args entries falls links lists returns succ pred) c″ l″ t″ a″ e″ f″ k″ i″ r″ u″ p″ (answer.Refused number edges)
+      made-refused {number} {c″} {l″} {t″} {a″} {e″} {f″} {k″} {i″} {r″} {u″} {p″} t ea en x y z L H g =
           let b : edgesFitted (min (length succ) (length pred)) L ≡ refused number edges =
           fitted-by L H g ∙ ap (λ (z : Bool). pick z (graph L) (refused 23 edges)) t ∙ ap (λ (z : ℕ). refused z edges) (sym en) in
-          rw b (subst (λ (s : Sizes). Answered (refused number edges) s c″ l″ t″ a″ e″ f″ k″ m″ d″ i″ r″ u″ p″ (answer.Refused number edges)) (same-sizes ea)
-          (all-zero number edges lines stmts args′ e f k m d lists′ returns′ succ′ pred′ c″ l″ t″ a″ e″ f″ k″ m″ d″ i″ r″ u″ p″ x y z))
+          rw b (subst (λ (s : Sizes). Answered (refused number edges) s c″ l″ t″ a″ e″ f″ k″ i″ r″ u″ p″ (answer.Refused number edges)) (same-sizes ea)
+          (all-zero number edges lines stmts args′ e f k lists′ returns′ succ′ pred′ c″ l″ t″ a″ e″ f″ k″ i″ r″ u″ p″ x y z))

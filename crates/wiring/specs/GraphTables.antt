@@ -11,13 +11,11 @@ use Rattle.reader.specs.Records.{lineRecs, lineNumbers, recRows, argRows, handl
 use Rattle.graph.specs.Graph.{wire, allSuccessors, returnTargets}
 use Rattle.graph.specs.GraphLaws.{nodeCount}
 use Rattle.graph.specs.Build.{Capacity, Built, graph, refused, edgeCount}
-use Rattle.graph.specs.PerNode.{noOpeners, facts}
 use Rattle.wiring.specs.LineEntries.{entryRows}
 use Rattle.wiring.specs.Falls.{fallRows}
-use Rattle.wiring.specs.Frames.{frameTable}
 use Rattle.wiring.specs.EdgeTable.{joinedLists, listRows}
 use Rattle.wiring.specs.Predecessors.{predsOf}
-use Rattle.wiring.specs.Prepared.{linkTable, dispatchedFrom}
+use Rattle.wiring.specs.Prepared.{linkTable}
 use Rattle.wiring.specs.Room.{stmtRoom}
 use Rattle.wiring.specs.declared.build.Built.{Built as BuiltAnswer}
 use Rattle.wiring.specs.declared.build.Built.the-variants as answer
@@ -49,12 +47,6 @@ fallTable L k = padded k (fallRows (wire L .entries) (wire L .nodes))
 unfoldable pub linksTable : Listing → ℕ → List ℕ
 linksTable L k = linkTable k (wire L)
 
-unfoldable pub framesTable : Listing → ℕ → List ℕ
-framesTable L k = frameTable k (facts 0 (wire L .nodes) noOpeners)
-
-unfoldable pub dispatchedTable : Listing → ℕ → List ℕ
-dispatchedTable L k = padded k (dispatchedFrom 0 (wire L .nodes))
-
 -- where each statement's successors and predecessors stand
 unfoldable pub listTable : Listing → ℕ → List ℕ
 listTable L k = padded k (listRows (allSuccessors L) (predsOf (allSuccessors L)) (nodeCount L))
@@ -78,15 +70,13 @@ pub record Sizes : Type 0 where
   pub entries : ℕ
   pub falls : ℕ
   pub links : ℕ
-  pub frames : ℕ
-  pub dispatched : ℕ
   pub lists : ℕ
   pub returns : ℕ
   pub succ : ℕ
   pub pred : ℕ
 
-abbrev pub sizesOf : List ℕ → List ℕ → List ℕ → List ℕ → List ℕ → List ℕ → List ℕ → List ℕ → List ℕ → List ℕ → List ℕ → List ℕ → Sizes
-sizesOf l t a e f k m d i r u p =
+abbrev pub sizesOf : List ℕ → List ℕ → List ℕ → List ℕ → List ℕ → List ℕ → List ℕ → List ℕ → List ℕ → List ℕ → Sizes
+sizesOf l t a e f k i r u p =
     record {
       lines = length l;
       stmts = length t;
@@ -94,8 +84,6 @@ sizesOf l t a e f k m d i r u p =
       entries = length e;
       falls = length f;
       links = length k;
-      frames = length m;
-      dispatched = length d;
       lists = length i;
       returns = length r;
       succ = length u;
@@ -107,7 +95,7 @@ unfoldable pub capacity : Sizes → Capacity
 capacity s =
     record {
       lines = min (s .lines) (s .entries);
-      nodes = stmtRoom (s .stmts) (s .args) (s .falls) (s .links) (s .frames) (s .dispatched) (s .lists) (s .returns);
+      nodes = stmtRoom (s .stmts) (s .args) (s .falls) (s .links) (s .lists) (s .returns);
       edges = min (s .succ) (s .pred);
     }
 
@@ -122,7 +110,7 @@ tableOf f (graph L) k = f L k
 tableOf f (refused n p) k = replicate k 0
 
 -- the answer and every table
-pub record Answered (b : Built) (s : Sizes) (c l t a e f k m d i r u p : List ℕ) (x : BuiltAnswer) : Type 0 where
+pub record Answered (b : Built) (s : Sizes) (c l t a e f k i r u p : List ℕ) (x : BuiltAnswer) : Type 0 where
   pub answer : x ≡ answerOf b
   pub counts : c ≡ tableOf countTable b 5
   pub lines : l ≡ tableOf lineTable b (s .lines)
@@ -131,8 +119,6 @@ pub record Answered (b : Built) (s : Sizes) (c l t a e f k m d i r u p : List �
   pub entries : e ≡ tableOf entryTable b (s .entries)
   pub falls : f ≡ tableOf fallTable b (s .falls)
   pub links : k ≡ tableOf linksTable b (s .links)
-  pub frames : m ≡ tableOf framesTable b (s .frames)
-  pub dispatched : d ≡ tableOf dispatchedTable b (s .dispatched)
   pub lists : i ≡ tableOf listTable b (s .lists)
   pub returns : r ≡ tableOf returnTable b (s .returns)
   pub succ : u ≡ tableOf succTable b (s .succ)

@@ -19,7 +19,6 @@ use Rattle.graph.specs.NodeLaws.{length-nodes}
 use Rattle.graph.specs.NodeRecords.{StmtIs, RecOf, lines-match, match-at}
 use Rattle.graph.specs.Graph.{wire}
 use Rattle.wiring.specs.ListedNodes.{StmtListed, NodeListed, Listed}
-use Rattle.wiring.specs.Frames.{Worded}
 use Rattle.wiring.specs.Held.{LinesHeld, StmtsHeld, ArgsHeld, lines-held, stmts-held, args-held}
 use Rattle.wiring.specs.JumpLaws.{args-row, few-at}
 
@@ -127,6 +126,3 @@ module _ {L : Listing} {lines stmts args : List ℕ} {c n : ℕ} (h : HoldsListi
       let ah = holds-args in
       node-listed stmts args i r (λ k g. ap (λ (x : List ℕ). getD x (i * 12 + k) 0) (sh .rows) ∙ rec-at (lineRecs ls) (sh .rest) i k r (m .1) g)
       (ap (λ (x : List ℕ). take 64 (drop (i * 64) x)) (ah .rows) ∙ args-row (lineRecs ls) (ah .rest) i r wide (m .1)) (few-at i r wide (m .1)) (0 + i) d (m .2) (all-at (nodes-ok none ls ok) i d e)
-
-  pub holds-worded : Worded stmts (wire L .nodes)
-  holds-worded i d e = holds-listed i d e .word

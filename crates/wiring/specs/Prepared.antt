@@ -33,7 +33,23 @@ unfoldable pub dispatchedFrom : ℕ → List Node → List ℕ
 dispatchedFrom i [] = []
 dispatchedFrom i (n ∷ ns) = map (λ d. i) (onSimple (onFor (λ v t. dispatchTarget v t (n .fall)) []) [] (n .stmt)) ++ dispatchedFrom (suc i) ns
 
--- the tables hold the n nodes of L, and what the passes found of them; d of its FORs are dispatched and have a body
+-- the tables hold the n nodes of L, and where these lead
+pub record LinksPrepared (L : Listing) (stmts args entries falls links : List ℕ) (lines n : ℕ) : Type 0 where
+  pub in-form : LinesOk (L .lines)
+  pub lines-are : lines ≡ count (L .lines)
+  pub nodes-are : n ≡ length (wire L .nodes)
+  pub few : n ≤ 4096
+  pub listed : Listed stmts args (wire L .nodes)
+  pub entered : entries ≡ padded (length entries) (entryRows (L .lines))
+  pub falling : falls ≡ padded (length falls) (fallRows (wire L .entries) (wire L .nodes))
+  pub linking : links ≡ linkTable (length links) (wire L)
+  pub stmts-fit : n * 12 ≤ length stmts
+  pub args-fit : n * 64 ≤ length args
+  pub entries-fit : lines ≤ length entries
+  pub falls-fit : n * 3 ≤ length falls
+  pub links-fit : n * 64 ≤ length links
+
+-- and the frames and dispatched FORs of these; d of them are dispatched and have a body
 pub record Prepared (L : Listing) (stmts args entries falls links frames dispatched : List ℕ) (lines n d : ℕ) : Type 0 where
   pub in-form : LinesOk (L .lines)
   pub lines-are : lines ≡ count (L .lines)

@@ -1,12 +1,12 @@
 -- The passes before the lists, one after the other: from the reader's tables to what Prepared says. Assumes nothing.
-use Prim.Native.Nat.{ℕ, zero, suc, _+_, _*_, _-_, _≤_, _<_}
+use Prim.Native.Nat.{ℕ, zero, suc, _+_, _*_, _-_, _≤_}
 use native.Mathlib.Nat.{add-zero}
 use mathlib.Core.Path.{_≡_, refl, sym, ap, _∙_}
 use mathlib.Core.Bool.{Bool, true, false, not}
 use mathlib.Core.List.{List, [], _∷_, _++_, map, append-assoc, append-nil}
 use mathlib.Core.Option.{Option}
 use native.Mathlib.Omega.{arith}
-use lib.ListN.{length, getD, take, drop, replicate, take-append-drop}
+use lib.ListN.{length, getD, take, drop, replicate, length-replicate, take-append-drop}
 use lib.Seq.{length-take-le, take-all}
 use borrow.Author.Tests.{not-true}
 use Rattle.reader.specs.Bytes.{pick}
@@ -17,10 +17,9 @@ use Rattle.reader.specs.WordTable.{zeros}
 use Rattle.graph.specs.Nodes.{NodeStmt, Node}
 use Rattle.graph.specs.Targets.{onFor, onSimple, dispatchTarget}
 use Rattle.graph.specs.Graph.{wire}
-use Rattle.graph.specs.PerNode.{noOpeners, facts}
 use Rattle.wiring.specs.ListedNodes.{Listed, FallsListed, AllCounted, for-kind, listed-counted}
 use Rattle.wiring.specs.FramePass.{AllZero}
-use Rattle.wiring.specs.Frames.{frameTable, Framed}
+use Rattle.wiring.specs.Frames.{Framed}
 use Rattle.wiring.specs.LineEntries.{entryRows, EntriesComputed, at-place}
 use Rattle.wiring.specs.LineSearch.{EntriesHeld, entries-held}
 use Rattle.wiring.specs.Falls.{fallRows, LinesConnected}
@@ -28,30 +27,36 @@ use Rattle.wiring.specs.TableReads.{falls-listed}
 use Rattle.wiring.specs.Jumps.{linked, JumpsLinked}
 use Rattle.wiring.specs.ForLinks.{linkedRows, ForsLinked}
 use Rattle.wiring.specs.Dispatched.{isDispatched, dispatchedIds, DispatchedTo, Bodies, bodies[], bodies∷, node-bodies, take-node}
-use Rattle.wiring.specs.Prepared.{linkTable, dispatchedFrom, Prepared}
-use Rattle.wiring.specs.HoldsListing.{HoldsListing, holds-few, holds-length, holds-lines, holds-stmts, holds-args, holds-listed, holds-worded}
+use Rattle.wiring.specs.Prepared.{linkTable, dispatchedFrom, LinksPrepared, Prepared}
+use Rattle.wiring.specs.HoldsListing.{HoldsListing, holds-few, holds-length, holds-lines, holds-stmts, holds-args, holds-listed}
 
 -- ---- the contract
 
 -- the reader's tables hold a listing; the others are zero and have room
-pub record PrepareReady (lines stmts args entries falls links frames dispatched : List ℕ) (c n : ℕ) : Type 0 where
+pub record PrepareReady (lines stmts args entries falls links : List ℕ) (c n : ℕ) : Type 0 where
   pub listing : Listing
   pub holds : HoldsListing listing lines stmts args c n
   pub zero-entries : entries ≡ replicate (length entries) 0
   pub zero-falls : falls ≡ replicate (length falls) 0
   pub zero-links : links ≡ replicate (length links) 0
-  pub zero-frames : frames ≡ replicate (length frames) 0
-  pub zero-dispatched : dispatched ≡ replicate (length dispatched) 0
   pub entries-fit : c ≤ length entries
   pub falls-fit : n * 3 ≤ length falls
   pub links-fit : n * 64 ≤ length links
-  pub frames-fit : n * 3 ≤ length frames
-  pub dispatched-fit : n ≤ length dispatched
 
--- no statement was lost (27), and the tables are as the lists need them; r is one more than the number of dispatched FORs that have a body
-pub record PreparedTo (lines stmts args entries falls links frames dispatched : List ℕ) (c n r : ℕ) : Type 0 where
-  pub answered : 0 < r
-  pub prepared : (L : Listing) → HoldsListing L lines stmts args c n → Prepared L stmts args entries falls links frames dispatched c n (r - 1)
+-- no statement was lost (27), and the tables say where each leads
+pub record PreparedTo (lines stmts args entries falls links : List ℕ) (c n : ℕ) (r : Bool) : Type 0 where
+  pub answered : r ≡ true
+  pub prepared : (L : Listing) → HoldsListing L lines stmts args c n → LinksPrepared L stmts args entries falls links c n
+
+-- in the build's own arrays: the frames of n nodes; the d dispatched FORs that have a body, where zeros were before
+pub record FramesMade (stmts falls frames dispatched : List ℕ) (n d : ℕ) : Type 0 where
+  pub framed : Framed stmts n frames
+  pub frames-fit : n * 3 ≤ length frames
+  pub before : List ℕ
+  pub zero-before : before ≡ replicate (length before) 0
+  pub listed : DispatchedTo stmts falls n before dispatched d
+  pub dispatched-size : length dispatched ≡ length before
+  pub dispatched-fit : n ≤ length dispatched
 
 -- ---- the dispatched FORs, by the tables and by the definition
 
@@ -126,39 +131,29 @@ module _ {L : Listing} {lines stmts args : List ℕ} {c n : ℕ} (h : HoldsListi
         ∙ ap (λ (x : List ℕ). linked (W .entries) x 0 (W .nodes)) (z ∙ ap (λ (k : ℕ). replicate k 0) (sym e)) in
         q (W .nodes) (holds-listed h) (sym (holds-length h)) ∙ ap (linkedRows 0 (W .nodes) []) a
 
-  framed : (t : List ℕ) → Framed stmts n t → t ≡ frameTable (length t) (facts 0 (wire L .nodes) noOpeners)
-  framed t p = p (wire L .nodes) (sym (holds-length h)) (holds-worded h)
+-- ---- all passes of prepare
 
-  dispatching : (falls : List ℕ) → falls ≡ padded (length falls) (fallRows (wire L .entries) (wire L .nodes)) → (t u : List ℕ) (r : ℕ) → t ≡ replicate (length t) 0 → length u ≡ length t → n ≤ length u
-      → DispatchedTo stmts falls n t u r → (r ≡ length (dispatchedFrom 0 (wire L .nodes))) × (u ≡ padded (length u) (dispatchedFrom 0 (wire L .nodes)))
-  dispatching falls f t u r z e room p =
-      let W = wire L in
-      front-padded t u (dispatchedFrom 0 (W .nodes)) r z e (omega (arith, p .few))
-      (p .listed ∙ ids-are stmts args falls (W .nodes) n (holds-length h) (holds-listed h) (falls-listed (W .entries) (W .nodes) (length falls) falls f)) (p .rest)
+-- an answer is not both
+pub never-lost : (x : Bool) → x ≡ true → not x ≡ true → ⊥
+never-lost x f e = let z : _≡_ {A = Bool} true false = sym f ∙ not-true x e in let y : _≡_ {A = ℕ} 0 1 = cc in omega arith
 
--- ---- all passes
-
-module _ {lines stmts args entries falls links frames dispatched : List ℕ} {c n : ℕ} (ready : PrepareReady lines stmts args entries falls links frames dispatched c n)
+module _ {lines stmts args entries falls links : List ℕ} {c n : ℕ} (ready : PrepareReady lines stmts args entries falls links c n)
     {entries′ falls′ : List ℕ} {ok : Bool} (long-entries : length entries′ ≡ length entries) (computed : EntriesComputed stmts c n entries entries′) (connected : LinesConnected lines entries′ stmts c n falls falls′ ok) where
   -- 27 is never answered
   pub none-lost : not ok ≡ true → ⊥
   none-lost e =
       let h = ready .holds in
-      let f : ok ≡ true = found h entries′ (entered h entries entries′ (ready .zero-entries) long-entries computed) falls falls′ ok (ready .zero-falls) connected in
-      let z : _≡_ {A = Bool} true false = sym f ∙ not-true ok e in
-      let y : _≡_ {A = ℕ} 0 1 = cc in omega arith
+      never-lost ok (found h entries′ (entered h entries entries′ (ready .zero-entries) long-entries computed) falls falls′ ok (ready .zero-falls) connected) e
 
-  pub all-prepared : {links₁ links′ frames′ dispatched′ : List ℕ} {r d : ℕ} → length falls′ ≡ length falls → length links′ ≡ length links → length frames′ ≡ length frames → length dispatched′ ≡ length dispatched
-      → JumpsLinked lines entries′ c stmts args n links links₁ → ForsLinked stmts args n links₁ links′ → Framed stmts n frames′ → DispatchedTo stmts falls′ n dispatched dispatched′ d → r ≡ d + 1
-      → PreparedTo lines stmts args entries′ falls′ links′ frames′ dispatched′ c n r
-  all-prepared {links₁} {links′} {frames′} {dispatched′} {r} {d} long-falls long-links long-frames long-dispatched jumps fors fr di e =
-      record { answered = omega arith; prepared = λ L h. made L h }
+  pub all-prepared : {links₁ links′ : List ℕ} → length falls′ ≡ length falls → length links′ ≡ length links → JumpsLinked lines entries′ c stmts args n links links₁ → ForsLinked stmts args n links₁ links′
+      → PreparedTo lines stmts args entries′ falls′ links′ c n true
+  all-prepared {links₁} {links′} long-falls long-links jumps fors =
+      record { answered = refl; prepared = λ L h. made L h }
     where
-      made : (L : Listing) → HoldsListing L lines stmts args c n → Prepared L stmts args entries′ falls′ links′ frames′ dispatched′ c n (r - 1)
+      made : (L : Listing) → HoldsListing L lines stmts args c n → LinksPrepared L stmts args entries′ falls′ links′ c n
       made L h =
           let en = entered h entries entries′ (ready .zero-entries) long-entries computed in
           let fa = falling h entries′ en falls falls′ ok (ready .zero-falls) long-falls connected in
-          let ds = dispatching h falls′ fa dispatched dispatched′ d (ready .zero-dispatched) long-dispatched (omega (arith, ready .dispatched-fit)) di in
           record {
             in-form = (h .in-form) .lines;
             lines-are = h .count-is;
@@ -168,14 +163,60 @@ module _ {lines stmts args entries falls links frames dispatched : List ℕ} {c 
             entered = en;
             falling = fa;
             linking = linking h entries′ en links links₁ links′ (ready .zero-links) long-links jumps fors;
-            framed = framed h frames′ fr;
-            dispatching = ds .1;
-            dispatches = omega (arith, ds .0);
             stmts-fit = h .stmts-fit;
             args-fit = h .args-fit;
             entries-fit = omega (arith, ready .entries-fit);
             falls-fit = omega (arith, ready .falls-fit);
             links-fit = omega (arith, ready .links-fit);
-            frames-fit = omega (arith, ready .frames-fit);
-            dispatched-fit = omega (arith, ready .dispatched-fit);
           }
+
+-- ---- with the frames and the dispatched FORs
+
+-- an array of k zeros
+pub zeros-size : (k : ℕ) (t : List ℕ) → t ≡ replicate k 0 → length t ≡ k
+zeros-size k t e = ap length e ∙ length-replicate k 0
+
+pub zeros-sized : (k : ℕ) (t : List ℕ) → t ≡ replicate k 0 → t ≡ replicate (length t) 0
+zeros-sized k t e = e ∙ ap (λ (j : ℕ). replicate j 0) (sym (zeros-size k t e))
+
+-- the second array was j zeros
+pub frames-made : {stmts falls frames zeros dispatched : List ℕ} {n d : ℕ} (k j : ℕ) → zeros ≡ replicate j 0 → n * 3 ≤ k → n ≤ j → length frames ≡ k → length dispatched ≡ j
+    → Framed stmts n frames → DispatchedTo stmts falls n zeros dispatched d → FramesMade stmts falls frames dispatched n d
+frames-made {zeros = zeros} k j z hf hd lf ld p q =
+    record {
+      framed = p;
+      frames-fit = omega arith;
+      before = zeros;
+      zero-before = zeros-sized j zeros z;
+      listed = q;
+      dispatched-size = ld ∙ sym (zeros-size j zeros z);
+      dispatched-fit = omega arith;
+    }
+
+pub with-frames : {L : Listing} {stmts args entries falls links frames dispatched : List ℕ} {c n d : ℕ} → LinksPrepared L stmts args entries falls links c n → FramesMade stmts falls frames dispatched n d
+    → Prepared L stmts args entries falls links frames dispatched c n d
+with-frames {L} {stmts} {args} {entries} {falls} {links} {frames} {dispatched} {c} {n} {d} p m =
+    let W = wire L in
+    let q = m .listed in
+    let ds = front-padded (m .before) dispatched (dispatchedFrom 0 (W .nodes)) d (m .zero-before) (m .dispatched-size) (omega (arith, q .few, m .dispatched-fit))
+    (q .listed ∙ ids-are stmts args falls (W .nodes) n (p .nodes-are) (p .listed) (falls-listed (W .entries) (W .nodes) (length falls) falls (p .falling))) (q .rest) in
+    record {
+      in-form = p .in-form;
+      lines-are = p .lines-are;
+      nodes-are = p .nodes-are;
+      few = p .few;
+      listed = p .listed;
+      entered = p .entered;
+      falling = p .falling;
+      linking = p .linking;
+      framed = m .framed (W .nodes) (sym (p .nodes-are)) (λ i s e. p .listed i s e .word);
+      dispatching = ds .1;
+      dispatches = ds .0;
+      stmts-fit = p .stmts-fit;
+      args-fit = p .args-fit;
+      entries-fit = p .entries-fit;
+      falls-fit = p .falls-fit;
+      links-fit = p .links-fit;
+      frames-fit = m .frames-fit;
+      dispatched-fit = m .dispatched-fit;
+    }

@@ -11,6 +11,7 @@ use lib.ListN.{length}
 use Rattle.reader.specs.Listing.{Listing}
 use Rattle.graph.specs.Build.{edgeCount}
 use Rattle.wiring.specs.Wiring.{WireHeld, WireReady, WiredGraph, WiringDone}
+use Rattle.wiring.specs.Preparing.{FramesMade, with-frames}
 use Rattle.wiring.specs.CountGraph.{CountReady, CountedTo, GraphCounted}
 use Rattle.wiring.specs.WriteGraph.{WriteHeld, WriteReady, WrittenGraph}
 
@@ -40,12 +41,13 @@ fit-yes x e s p q t = go (leb e (min s p)) (leb e 32768) refl refl (sym q ∙ t)
 -- ---- the graph
 
 module _ {handlers : Bool} {c n d : ℕ} {counts stmts args entries falls links frames dispatched succ pred : List ℕ} {args₁ lists₁ scratch₁ returns₁ : List ℕ} {edges targets : ℕ}
-    (g : CountedTo handlers stmts args entries falls links frames dispatched c n d args₁ lists₁ scratch₁ returns₁ edges targets) where
-  counted : {L : Listing} → WireHeld L handlers c n d counts stmts args entries falls links frames dispatched succ pred
+    (g : CountedTo handlers stmts args entries falls links frames dispatched c n d args₁ lists₁ scratch₁ returns₁ edges targets)
+    (m : FramesMade stmts falls frames dispatched n d) where
+  counted : {L : Listing} → WireHeld L handlers c n counts stmts args entries falls links succ pred
       → GraphCounted L handlers stmts args entries falls links frames dispatched c n d args₁ lists₁ scratch₁ returns₁ edges targets
-  counted {L} w = g L (w .handlers-are) (w .prepared)
+  counted {L} w = g L (w .handlers-are) (with-frames (w .prepared) m)
 
-  pub write-held : {L : Listing} → WireHeld L handlers c n d counts stmts args entries falls links frames dispatched succ pred → n * 4 ≤ length lists₁ → EdgesFit edges (length succ) (length pred)
+  pub write-held : {L : Listing} → WireHeld L handlers c n counts stmts args entries falls links succ pred → n * 4 ≤ length lists₁ → EdgesFit edges (length succ) (length pred)
       → WriteHeld L args handlers stmts args₁ entries falls links frames dispatched c n d counts lists₁ scratch₁ returns₁ targets succ pred
   write-held {L} w rows f =
       let q = counted w in
@@ -67,14 +69,14 @@ module _ {handlers : Bool} {c n d : ℕ} {counts stmts args entries falls links 
       }
 
   -- the number that the test was made with, and the lengths that stay
-  same-test : {L : Listing} (x : Bool) (s p : ℕ) → WireHeld L handlers c n d counts stmts args entries falls links frames dispatched succ pred → x ≡ (leb edges (min (length succ) (length pred)) && leb edges 32768)
+  same-test : {L : Listing} (x : Bool) (s p : ℕ) → WireHeld L handlers c n counts stmts args entries falls links succ pred → x ≡ (leb edges (min (length succ) (length pred)) && leb edges 32768)
       → s ≡ length succ → p ≡ length pred → x ≡ (leb (edgeCount L) (min s p) && leb (edgeCount L) 32768)
   same-test {L} x s p w q es ep = rw (es, ep, ← (counted w .edges-are)) q
 
   pub wired-yes : {counts′ args′ lists′ succ′ pred′ : List ℕ} (x : Bool) → x ≡ (leb edges (min (length succ) (length pred)) && leb edges 32768) → x ≡ true → length succ′ ≡ length succ
       → length pred′ ≡ length pred → n * 4 ≤ length lists₁
       → WrittenGraph handlers stmts args₁ entries falls links frames dispatched c n d counts lists₁ scratch₁ returns₁ targets succ pred counts′ args′ lists′ succ′ pred′
-      → (L : Listing) → WireHeld L handlers c n d counts stmts args entries falls links frames dispatched succ pred → WiringDone L args counts′ args′ lists′ returns₁ succ′ pred′ true edges
+      → (L : Listing) → WireHeld L handlers c n counts stmts args entries falls links succ pred → WiringDone L args counts′ args′ lists′ returns₁ succ′ pred′ true edges
   wired-yes {succ′ = succ′} {pred′ = pred′} x q t es ep rows f L w =
       record {
         fits = sym t ∙ same-test x (length succ′) (length pred′) w q es ep;
@@ -83,24 +85,24 @@ module _ {handlers : Bool} {c n d : ℕ} {counts stmts args entries falls links 
       }
 
   pub wired-no : {counts′ args′ lists′ returns′ : List ℕ} (x : Bool) → x ≡ (leb edges (min (length succ) (length pred)) && leb edges 32768) → x ≡ false
-      → (L : Listing) → WireHeld L handlers c n d counts stmts args entries falls links frames dispatched succ pred → WiringDone L args counts′ args′ lists′ returns′ succ pred false edges
+      → (L : Listing) → WireHeld L handlers c n counts stmts args entries falls links succ pred → WiringDone L args counts′ args′ lists′ returns′ succ pred false edges
   wired-no x q t L w =
       record { fits = sym t ∙ same-test x (length succ) (length pred) w q refl refl; counted = counted w .edges-are; graph = λ e. absurd (let z : _≡_ {A = ℕ} 0 1 = cc in omega arith) }
 
 module _ {handlers : Bool} {c n d : ℕ} {counts stmts args entries falls links frames dispatched lists returns succ pred : List ℕ}
-    (r : WireReady handlers c n d counts stmts args entries falls links frames dispatched lists returns succ pred) where
+    (r : WireReady handlers c n counts stmts args entries falls links lists returns succ pred) (m : FramesMade stmts falls frames dispatched n d) where
   pub write-ready : {args₁ lists₁ scratch₁ returns₁ : List ℕ} {edges targets : ℕ} → CountedTo handlers stmts args entries falls links frames dispatched c n d args₁ lists₁ scratch₁ returns₁ edges targets
       → (x : Bool) → x ≡ (leb edges (min (length succ) (length pred)) && leb edges 32768) → x ≡ true → length lists₁ ≡ length lists → (room : ℕ) → room ≡ 4096
       → WriteReady handlers stmts args₁ entries falls links frames dispatched c n d counts lists₁ scratch₁ returns₁ targets succ pred room
   write-ready {edges = edges} g x q t e room eb =
-      record { listing = r .listing; keys₀ = args; held = write-held g (r .held) (omega (arith, r .lists-fit, e)) (fit-yes x edges (length succ) (length pred) q t); buffer-size = eb }
+      record { listing = r .listing; keys₀ = args; held = write-held g m (r .held) (omega (arith, r .lists-fit, e)) (fit-yes x edges (length succ) (length pred) q t); buffer-size = eb }
 
   pub ready-count : (scratch : List ℕ) → length scratch ≡ 36864 → (room : ℕ) → room ≡ 4096 → CountReady handlers stmts args entries falls links frames dispatched c n d lists scratch returns room
   ready-count scratch es room eb =
       record {
         listing = r .listing;
         handled = r .held .handlers-are;
-        prepared = r .held .prepared;
+        prepared = with-frames (r .held .prepared) m;
         rows = r .lists-fit;
         returns-fit = r .returns-fit;
         zero-lists = r .zero-lists;

@@ -8,21 +8,21 @@ use lib.ListN.{length, replicate}
 use Rattle.reader.specs.Listing.{Listing}
 use Rattle.reader.specs.Records.{padded, countsOf}
 use Rattle.graph.specs.Build.{edgeCount}
-use Rattle.wiring.specs.Prepared.{Prepared}
+use Rattle.wiring.specs.Prepared.{LinksPrepared}
 use Rattle.wiring.specs.GraphTables.{countTable, listTable, returnTable, succTable, predTable}
 
 -- the tables before, where the lists are zero
-pub record WireHeld (L : Listing) (handlers : Bool) (c n d : ℕ) (counts stmts args entries falls links frames dispatched succ pred : List ℕ) : Type 0 where
+pub record WireHeld (L : Listing) (handlers : Bool) (c n : ℕ) (counts stmts args entries falls links succ pred : List ℕ) : Type 0 where
   pub handlers-are : handlers ≡ L .handlers
-  pub prepared : Prepared L stmts args entries falls links frames dispatched c n d
+  pub prepared : LinksPrepared L stmts args entries falls links c n
   pub counts-are : counts ≡ padded 5 (countsOf L)
   pub zero-succ : succ ≡ replicate (length succ) 0
   pub zero-pred : pred ≡ replicate (length pred) 0
 
 -- some listing's, and there is room
-pub record WireReady (handlers : Bool) (c n d : ℕ) (counts stmts args entries falls links frames dispatched lists returns succ pred : List ℕ) : Type 0 where
+pub record WireReady (handlers : Bool) (c n : ℕ) (counts stmts args entries falls links lists returns succ pred : List ℕ) : Type 0 where
   pub listing : Listing
-  pub held : WireHeld listing handlers c n d counts stmts args entries falls links frames dispatched succ pred
+  pub held : WireHeld listing handlers c n counts stmts args entries falls links succ pred
   pub lists-fit : n * 4 ≤ length lists
   pub returns-fit : n ≤ length returns
   pub zero-lists : lists ≡ replicate (length lists) 0
@@ -43,6 +43,6 @@ pub record WiringDone (L : Listing) (args counts′ args′ lists′ returns′ 
   pub counted : edges ≡ edgeCount L
   pub graph : written ≡ true → WiredGraph L args counts′ args′ lists′ returns′ succ′ pred′
 
-abbrev pub WiredTo : (handlers : Bool) (c n d : ℕ) (stmts args entries falls links frames dispatched counts succ pred counts′ args′ lists′ returns′ succ′ pred′ : List ℕ) (written : Bool) (edges : ℕ) → Type 0
-WiredTo h c n d stmts args entries falls links frames dispatched counts succ pred counts′ args′ lists′ returns′ succ′ pred′ written edges =
-    (L : Listing) → WireHeld L h c n d counts stmts args entries falls links frames dispatched succ pred → WiringDone L args counts′ args′ lists′ returns′ succ′ pred′ written edges
+abbrev pub WiredTo : (handlers : Bool) (c n : ℕ) (stmts args entries falls links counts succ pred counts′ args′ lists′ returns′ succ′ pred′ : List ℕ) (written : Bool) (edges : ℕ) → Type 0
+WiredTo h c n stmts args entries falls links counts succ pred counts′ args′ lists′ returns′ succ′ pred′ written edges =
+    (L : Listing) → WireHeld L h c n counts stmts args entries falls links succ pred → WiringDone L args counts′ args′ lists′ returns′ succ′ pred′ written edges

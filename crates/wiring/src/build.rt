@@ -20,20 +20,12 @@ pub enum Built {
 }
 
 // What the passes before the lists write becomes zero.
-fn clear_links(
-    entries: &mut [u16],
-    falls: &mut [u16],
-    links: &mut [u16],
-    frames: &mut [u16],
-    dispatched: &mut [u16],
-)
-    ensures { λ _. ⌜ Zeroed (now (entries .entry)) (now (entries .exit)) × Zeroed (now (falls .entry)) (now (falls .exit)) × Zeroed (now (links .entry)) (now (links .exit)) × Zeroed (now (frames .entry)) (now (frames .exit)) × Zeroed (now (dispatched .entry)) (now (dispatched .exit)) ⌝ }
+fn clear_links(entries: &mut [u16], falls: &mut [u16], links: &mut [u16])
+    ensures { λ _. ⌜ Zeroed (now (entries .entry)) (now (entries .exit)) × Zeroed (now (falls .entry)) (now (falls .exit)) × Zeroed (now (links .entry)) (now (links .exit)) ⌝ }
 {
     zero16(entries);
     zero16(falls);
     zero16(links);
-    zero16(frames);
-    zero16(dispatched);
 }
 
 // The lists become zero.
@@ -68,28 +60,15 @@ fn graph_of(
     entries: &mut [u16],
     falls: &mut [u16],
     links: &mut [u16],
-    frames: &mut [u16],
-    dispatched: &mut [u16],
     lists: &mut [u16],
     returns: &mut [u16],
     succ: &mut [u16],
     pred: &mut [u16],
 ) -> Built
-    requires { ⌜ GraphReady handlers count n (now counts) (now lines) (now stmts) (now args) (now entries) (now falls) (now links) (now frames) (now dispatched) (now lists) (now returns) (now succ) (now pred) ⌝ }
-    ensures { λ r. ⌜ GraphMade handlers count n (now (lines .entry)) (now (stmts .entry)) (now (args .entry)) (sizesOf (now (lines .entry)) (now (stmts .entry)) (now (args .entry)) (now (entries .entry)) (now (falls .entry)) (now (links .entry)) (now (frames .entry)) (now (dispatched .entry)) (now (lists .entry)) (now (returns .entry)) (now (succ .entry)) (now (pred .entry))) (now (counts .exit)) (now (lines .exit)) (now (stmts .exit)) (now (args .exit)) (now (entries .exit)) (now (falls .exit)) (now (links .exit)) (now (frames .exit)) (now (dispatched .exit)) (now (lists .exit)) (now (returns .exit)) (now (succ .exit)) (now (pred .exit)) r ⌝ }
+    requires { ⌜ GraphReady handlers count n (now counts) (now lines) (now stmts) (now args) (now entries) (now falls) (now links) (now lists) (now returns) (now succ) (now pred) ⌝ }
+    ensures { λ r. ⌜ GraphMade handlers count n (now (lines .entry)) (now (stmts .entry)) (now (args .entry)) (sizesOf (now (lines .entry)) (now (stmts .entry)) (now (args .entry)) (now (entries .entry)) (now (falls .entry)) (now (links .entry)) (now (lists .entry)) (now (returns .entry)) (now (succ .entry)) (now (pred .entry))) (now (counts .exit)) (now (lines .exit)) (now (stmts .exit)) (now (args .exit)) (now (entries .exit)) (now (falls .exit)) (now (links .exit)) (now (lists .exit)) (now (returns .exit)) (now (succ .exit)) (now (pred .exit)) r ⌝ }
 {
-    let found = prepare(
-        lines,
-        stmts,
-        args,
-        entries,
-        falls,
-        links,
-        frames,
-        dispatched,
-        count,
-        n,
-    );
+    let found = prepare(lines, stmts, args, entries, falls, links, count, n);
     let w = wire_graph(
         handlers,
         count,
@@ -101,8 +80,6 @@ fn graph_of(
         entries,
         falls,
         links,
-        frames,
-        dispatched,
         lists,
         returns,
         succ,
@@ -112,7 +89,7 @@ fn graph_of(
         return Built::Graph;
     }
     clear_records(counts, lines, stmts, args);
-    clear_links(entries, falls, links, frames, dispatched);
+    clear_links(entries, falls, links);
     clear_lists(lists, returns, succ, pred);
     Built::Refused {
         number: w.number,
@@ -131,14 +108,12 @@ pub fn build(
     entries: &mut [u16],
     falls: &mut [u16],
     links: &mut [u16],
-    frames: &mut [u16],
-    dispatched: &mut [u16],
     lists: &mut [u16],
     returns: &mut [u16],
     succ: &mut [u16],
     pred: &mut [u16],
 ) -> Built
-    ensures { λ r. ⌜ Answered (builtBy (capacity (sizesOf (now (lines .entry)) (now (stmts .entry)) (now (args .entry)) (now (entries .entry)) (now (falls .entry)) (now (links .entry)) (now (frames .entry)) (now (dispatched .entry)) (now (lists .entry)) (now (returns .entry)) (now (succ .entry)) (now (pred .entry)))) (now (text .entry))) (sizesOf (now (lines .entry)) (now (stmts .entry)) (now (args .entry)) (now (entries .entry)) (now (falls .entry)) (now (links .entry)) (now (frames .entry)) (now (dispatched .entry)) (now (lists .entry)) (now (returns .entry)) (now (succ .entry)) (now (pred .entry))) (now (counts .exit)) (now (lines .exit)) (now (stmts .exit)) (now (args .exit)) (now (entries .exit)) (now (falls .exit)) (now (links .exit)) (now (frames .exit)) (now (dispatched .exit)) (now (lists .exit)) (now (returns .exit)) (now (succ .exit)) (now (pred .exit)) r ⌝ }
+    ensures { λ r. ⌜ Answered (builtBy (capacity (sizesOf (now (lines .entry)) (now (stmts .entry)) (now (args .entry)) (now (entries .entry)) (now (falls .entry)) (now (links .entry)) (now (lists .entry)) (now (returns .entry)) (now (succ .entry)) (now (pred .entry)))) (now (text .entry))) (sizesOf (now (lines .entry)) (now (stmts .entry)) (now (args .entry)) (now (entries .entry)) (now (falls .entry)) (now (links .entry)) (now (lists .entry)) (now (returns .entry)) (now (succ .entry)) (now (pred .entry))) (now (counts .exit)) (now (lines .exit)) (now (stmts .exit)) (now (args .exit)) (now (entries .exit)) (now (falls .exit)) (now (links .exit)) (now (lists .exit)) (now (returns .exit)) (now (succ .exit)) (now (pred .exit)) r ⌝ }
 {
     let most_lines = line_room(lines.len(), entries.len());
     let most_stmts = stmt_room(
@@ -146,12 +121,10 @@ pub fn build(
         args.len(),
         falls.len(),
         links.len(),
-        frames.len(),
-        dispatched.len(),
         lists.len(),
         returns.len(),
     );
-    clear_links(entries, falls, links, frames, dispatched);
+    clear_links(entries, falls, links);
     clear_lists(lists, returns, succ, pred);
     match read_fitting(text, counts, lines, stmts, args, most_lines, most_stmts) {
         Listed::Refused { number, place } => Built::Refused { number, place },
@@ -170,8 +143,6 @@ pub fn build(
             entries,
             falls,
             links,
-            frames,
-            dispatched,
             lists,
             returns,
             succ,

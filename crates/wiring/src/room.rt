@@ -27,16 +27,13 @@ pub(crate) fn stmt_room(
     args: usize,
     falls: usize,
     links: usize,
-    frames: usize,
-    dispatched: usize,
     lists: usize,
     returns: usize,
 ) -> usize
-    ensures { λ r. ⌜ r ≡ stmtRoom stmts args falls links frames dispatched lists returns ⌝ }
+    ensures { λ r. ⌜ r ≡ stmtRoom stmts args falls links lists returns ⌝ }
 {
     let records = least(stmts / STMT_ENTRIES, args / ARG_ENTRIES);
     let leads = least(falls / 3, links / ARG_ENTRIES);
-    let opened = least(frames / 3, dispatched);
     let ends = least(lists / 4, returns);
-    least(least(records, leads), least(opened, ends))
+    least(least(records, leads), ends)
 }

@@ -1,4 +1,6 @@
-// The lists of the nodes: counted, and written where they fit.
+// Frames and dispatched FORs; then the lists of the nodes: counted, and written where they fit.
+use crate::fors::list_dispatched;
+use crate::frames::stack_frames;
 use crate::regions::region_return_edges;
 use crate::return_targets::list_return_targets;
 use crate::return_totals::count_returns;
@@ -8,11 +10,12 @@ use crate::spread::spread_return_edges;
 use crate::walk::no_work;
 use crate::write_graph::write_graph;
 ghost use mathlib.Core.Path.{_≡_};
-ghost use mathlib.Core.Bool.{_&&_};
-ghost use Prim.Native.Nat.{_-_, _≤_, min};
+ghost use mathlib.Core.Bool.{true, _&&_};
+ghost use Prim.Native.Nat.{min};
 ghost use lib.Dec.{leb};
-ghost use lib.ListN.{length};
+ghost use lib.ListN.{length, replicate};
 ghost use Rattle.wiring.specs.CountGraph.{ReturnsReady, ReturnsFound, CountReady, CountedTo};
+ghost use Rattle.wiring.specs.Preparing.{FramesMade};
 ghost use Rattle.wiring.specs.Wiring.{WireReady, WiredTo};
 
 // How many edges the graph has, and how many return targets.
@@ -33,6 +36,20 @@ fn no_scratch() -> [u16; 36864]
     ensures { λ r. ⌜ length r ≡ 36864 ⌝ }
 {
     [0u16; 36864]
+}
+
+// Three entries for each of 4,096 statements; in a function of its own, as marks are.
+fn no_frames() -> [u16; 12288]
+    ensures { λ r. ⌜ r ≡ replicate 12288 0 ⌝ }
+{
+    [0u16; 12288]
+}
+
+// One entry for each.
+fn no_dispatched() -> [u16; 4096]
+    ensures { λ r. ⌜ r ≡ replicate 4096 0 ⌝ }
+{
+    [0u16; 4096]
 }
 
 // Without handlers, the set of each RETURN goes into its row of arguments: by walks over the stored lists, or where these are too long, by
@@ -153,12 +170,12 @@ fn edges_fit(edges: usize, succ: usize, pred: usize) -> bool
     edges <= MOST_EDGES
 }
 
-// The lists of the n nodes. What was found is one more than the dispatched FORs with a body, or 0 if an inner statement was not found.
-pub(crate) fn wire_graph(
+// The lists of the n nodes; d of these are dispatched FORs that have a body.
+fn wire_lists(
     handlers: bool,
     count: usize,
     n: usize,
-    found: usize,
+    d: usize,
     counts: &mut [u32; 5],
     stmts: &[u16],
     args: &mut [u64],
@@ -172,17 +189,10 @@ pub(crate) fn wire_graph(
     succ: &mut [u16],
     pred: &mut [u16],
 ) -> Wiring
-    requires { ⌜ (1 ≤ found) × WireReady handlers count n (found - 1) (now counts) (now stmts) (now args) (now entries) (now falls) (now links) (now frames) (now dispatched) (now lists) (now returns) (now succ) (now pred) ⌝ }
-    ensures { λ r. ⌜ (r .number ≡ 23) × WiredTo handlers count n (found - 1) (now (stmts .entry)) (now (args .entry)) (now (entries .entry)) (now (falls .entry)) (now (links .entry)) (now (frames .entry)) (now (dispatched .entry)) (now (counts .entry)) (now (succ .entry)) (now (pred .entry)) (now (counts .exit)) (now (args .exit)) (now (lists .exit)) (now (returns .exit)) (now (succ .exit)) (now (pred .exit)) (r .written) (r .place) ⌝ }
+    requires { ⌜ WireReady handlers count n (now counts) (now stmts) (now args) (now entries) (now falls) (now links) (now lists) (now returns) (now succ) (now pred) ⌝ }
+    requires { ⌜ FramesMade (now stmts) (now falls) (now frames) (now dispatched) n d ⌝ }
+    ensures { λ r. ⌜ (r .number ≡ 23) × WiredTo handlers count n (now (stmts .entry)) (now (args .entry)) (now (entries .entry)) (now (falls .entry)) (now (links .entry)) (now (counts .entry)) (now (succ .entry)) (now (pred .entry)) (now (counts .exit)) (now (args .exit)) (now (lists .exit)) (now (returns .exit)) (now (succ .exit)) (now (pred .exit)) (r .written) (r .place) ⌝ }
 {
-    if found == 0 {
-        return Wiring {
-            written: false,
-            number: 27,
-            place: 0,
-        };
-    }
-    let d = found - 1;
     let mut scratch = no_scratch();
     let mut buffer = no_work();
     let c = count_graph(
@@ -235,4 +245,56 @@ pub(crate) fn wire_graph(
         number: 23,
         place: c.edges,
     }
+}
+
+// The lists of the n nodes. Their frames and dispatched FORs are in arrays of its own, since nothing else reads them. `found`: whether each inner
+// statement was.
+pub(crate) fn wire_graph(
+    handlers: bool,
+    count: usize,
+    n: usize,
+    found: bool,
+    counts: &mut [u32; 5],
+    stmts: &[u16],
+    args: &mut [u64],
+    entries: &[u16],
+    falls: &[u16],
+    links: &[u16],
+    lists: &mut [u16],
+    returns: &mut [u16],
+    succ: &mut [u16],
+    pred: &mut [u16],
+) -> Wiring
+    requires { ⌜ (found ≡ true) × WireReady handlers count n (now counts) (now stmts) (now args) (now entries) (now falls) (now links) (now lists) (now returns) (now succ) (now pred) ⌝ }
+    ensures { λ r. ⌜ (r .number ≡ 23) × WiredTo handlers count n (now (stmts .entry)) (now (args .entry)) (now (entries .entry)) (now (falls .entry)) (now (links .entry)) (now (counts .entry)) (now (succ .entry)) (now (pred .entry)) (now (counts .exit)) (now (args .exit)) (now (lists .exit)) (now (returns .exit)) (now (succ .exit)) (now (pred .exit)) (r .written) (r .place) ⌝ }
+{
+    if !found {
+        return Wiring {
+            written: false,
+            number: 27,
+            place: 0,
+        };
+    }
+    let mut frames = no_frames();
+    let mut dispatched = no_dispatched();
+    stack_frames(stmts, n, &mut frames);
+    let d = list_dispatched(stmts, falls, n, &mut dispatched);
+    wire_lists(
+        handlers,
+        count,
+        n,
+        d,
+        counts,
+        stmts,
+        args,
+        entries,
+        falls,
+        links,
+        &frames,
+        &dispatched,
+        lists,
+        returns,
+        succ,
+        pred,
+    )
 }

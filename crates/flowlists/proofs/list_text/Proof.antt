@@ -25,22 +25,16 @@ slice-aggregate-list-graph-6 : tie.Need-slice-aggregate-list-graph-6
 slice-aggregate-list-graph-6 c = sym (length-replicate {0} {A = ℕ} 262144 0)
 
 slice-aggregate-list-graph-7 : tie.Need-slice-aggregate-list-graph-7
-slice-aggregate-list-graph-7 c = sym (length-replicate {0} {A = ℕ} 12288 0)
+slice-aggregate-list-graph-7 c = sym (length-replicate {0} {A = ℕ} 16384 0)
 
 slice-aggregate-list-graph-8 : tie.Need-slice-aggregate-list-graph-8
 slice-aggregate-list-graph-8 c = sym (length-replicate {0} {A = ℕ} 4096 0)
 
 slice-aggregate-list-graph-9 : tie.Need-slice-aggregate-list-graph-9
-slice-aggregate-list-graph-9 c = sym (length-replicate {0} {A = ℕ} 16384 0)
+slice-aggregate-list-graph-9 c = sym (length-replicate {0} {A = ℕ} 32768 0)
 
 slice-aggregate-list-graph-10 : tie.Need-slice-aggregate-list-graph-10
-slice-aggregate-list-graph-10 c = sym (length-replicate {0} {A = ℕ} 4096 0)
-
-slice-aggregate-list-graph-11 : tie.Need-slice-aggregate-list-graph-11
-slice-aggregate-list-graph-11 c = sym (length-replicate {0} {A = ℕ} 32768 0)
-
-slice-aggregate-list-graph-12 : tie.Need-slice-aggregate-list-graph-12
-slice-aggregate-list-graph-12 c = sym (length-replicate {0} {A = ℕ} 32768 0)
+slice-aggregate-list-graph-10 c = sym (length-replicate {0} {A = ℕ} 32768 0)
 
 list-graph-requires : tie.Need-list-graph-requires
 list-graph-requires c κs = tt
@@ -49,7 +43,7 @@ same-length : tie.Need-same-length
 same-length c = c .before .out .given
 
 returns : tie.Need-returns
-returns c = listed-within (c .before .before .before .before .before .before .before .before .before .before .before .before .before .before .list-graph .ensures)
+returns c = listed-within (c .before .before .before .before .before .before .before .before .before .before .before .before .list-graph .ensures)
 
 pub list-text-spec : {M : Type 1} → statement M
 list-text-spec =
@@ -65,8 +59,6 @@ list-text-spec =
     slice-aggregate-list-graph-8
     slice-aggregate-list-graph-9
     slice-aggregate-list-graph-10
-    slice-aggregate-list-graph-11
-    slice-aggregate-list-graph-12
     list-graph-requires
     same-length
     returns)

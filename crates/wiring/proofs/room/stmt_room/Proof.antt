@@ -1,4 +1,4 @@
--- `stmt_room`: the least of eight, pair by pair. Assumes nothing.
+-- `stmt_room`: the least of six, pair by pair. Assumes nothing.
 use Rattle.wiring.specs.Room.{stmtRoom}
 use borrow.Author.Needs.{needs}
 use Rattle.wiring.proofs.room.stmt_room.Statement.{statement}
@@ -19,12 +19,6 @@ least-requires-4 c κs = search needs
 least-requires-5 : tie.Need-least-requires-5
 least-requires-5 c κs = search needs
 
-least-requires-6 : tie.Need-least-requires-6
-least-requires-6 c κs = search needs
-
-least-requires-7 : tie.Need-least-requires-7
-least-requires-7 c κs = search needs
-
 returns : tie.Need-returns
 unfolding stmtRoom
 returns c = cc
@@ -38,6 +32,4 @@ stmt-room-spec =
     least-requires-3
     least-requires-4
     least-requires-5
-    least-requires-6
-    least-requires-7
     returns)

@@ -1,98 +1,83 @@
--- `wire_graph`: counted, then written where the edges fit. Assumes nothing.
-use borrow.Author.Needs.{needs}
-use mathlib.Core.Path.{refl, sym, _∙_}
+-- `wire_graph`: frames and dispatched FORs in arrays of zeros, then the lists. Assumes nothing.
+use mathlib.Core.Path.{sym}
 use native.Mathlib.Omega.{arith}
-use Rattle.wiring.specs.WireLaws.{ready-count, write-ready, wired-yes, wired-no}
+use Rattle.wiring.specs.Preparing.{all-zero, never-lost, zeros-size, zeros-sized, frames-made}
 use Rattle.wiring.proofs.wire.wire_graph.Statement.{statement}
 use Rattle.wiring.proofs.wire.wire_graph.Tie as tie
 
 returns : tie.Need-returns
-returns c = absurd (omega (arith, c .before .before .before .before .before .before .before .before .before .before .before .before .pre .0, c .if1 .taken))
+returns c = absurd (never-lost _ (c .before .before .before .before .before .before .before .before .before .before .pre .0) (c .if1 .taken))
 
-sub-d : tie.Need-sub-d
-sub-d c = search needs
+no-frames-requires : tie.Need-no-frames-requires
+no-frames-requires c κs = tt
 
-no-scratch-requires : tie.Need-no-scratch-requires
-no-scratch-requires c κs = tt
+no-dispatched-requires : tie.Need-no-dispatched-requires
+no-dispatched-requires c κs = tt
 
-no-work-requires : tie.Need-no-work-requires
-no-work-requires c κs = tt
+slice-aggregate-stack-frames : tie.Need-slice-aggregate-stack-frames
+slice-aggregate-stack-frames c = sym (zeros-size 12288 _ (c .before .before .no-frames .ensures))
 
-slice-aggregate-count-graph : tie.Need-slice-aggregate-count-graph
-slice-aggregate-count-graph c = sym (c .before .before .before .before .no-scratch .ensures)
+stack-frames-requires : tie.Need-stack-frames-requires
+stack-frames-requires c κs =
+    let p = c .before .before .before .before .before .before .before .before .before .before .before .before .before .pre .1 .held .prepared in
+    let z = c .before .before .no-frames .ensures in
+    ((p .few, p .stmts-fit, omega (arith, p .few, zeros-size 12288 _ z)), all-zero _ (zeros-sized 12288 _ z))
 
-slice-aggregate-count-graph-2 : tie.Need-slice-aggregate-count-graph-2
-slice-aggregate-count-graph-2 c = sym (c .before .before .before .before .before .no-work .ensures)
+slice-aggregate-list-dispatched : tie.Need-slice-aggregate-list-dispatched
+slice-aggregate-list-dispatched c = sym (zeros-size 4096 _ (c .before .before .before .before .no-dispatched .ensures))
 
-count-graph-requires : tie.Need-count-graph-requires
-count-graph-requires c κs = ready-count (c .before .before .before .before .before .before .before .before .before .before .before .before .before .before .before .before .before .before .before .pre .1) _ (c .before .before .before .before .before .before .no-scratch .ensures) _ (c .before .before .before .before .before .no-work .ensures)
+list-dispatched-requires : tie.Need-list-dispatched-requires
+list-dispatched-requires c κs =
+    let p = c .before .before .before .before .before .before .before .before .before .before .before .before .before .before .before .before .pre .1 .held .prepared in
+    (p .few, p .stmts-fit, p .falls-fit, omega (arith, p .few, zeros-size 4096 _ (c .before .before .before .before .no-dispatched .ensures)))
 
-edges-fit-requires : tie.Need-edges-fit-requires
-edges-fit-requires c κs = tt
+slice-aggregate-wire-lists : tie.Need-slice-aggregate-wire-lists
+slice-aggregate-wire-lists c = sym (c .before .before .before .before .before .before .frames2 .given)
 
-slice-aggregate-write-graph : tie.Need-slice-aggregate-write-graph
-slice-aggregate-write-graph c = sym (c .before .before .before .before .before .before .before .before .before .scratch2 .given)
+slice-aggregate-wire-lists-2 : tie.Need-slice-aggregate-wire-lists-2
+slice-aggregate-wire-lists-2 c = sym (c .before .before .before .before .dispatched2 .given)
 
-slice-aggregate-write-graph-2 : tie.Need-slice-aggregate-write-graph-2
-slice-aggregate-write-graph-2 c = sym (c .before .before .before .before .before .before .before .before .before .before .buffer2 .given)
-
-write-graph-requires : tie.Need-write-graph-requires
-write-graph-requires c κs =
-    let f = c .before .before .before .before .before .before .before .before .before .edges-fit in
-    write-ready (c .before .before .before .before .before .before .before .before .before .before .before .before .before .before .before .before .before .before .before .before .before .before .before .before .before .before .before .before .before .before .before .before .before .before .before .before .before .before .pre .1) (c .before .before .before .before .before .before .before .before .before .before .before .before .before .before .before .before .before .before .count-graph .ensures) (f .result) (f .ensures) (c .before .before .before .before .before .before .before .before .if2 .taken) (c .before .before .before .before .before .before .before .before .before .before .before .before .before .before .before .lists .given) _ (c .before .before .before .before .before .before .before .before .before .before .buffer2 .given)
+wire-lists-requires : tie.Need-wire-lists-requires
+wire-lists-requires c κs =
+    let r = c .before .before .before .before .before .before .before .before .before .before .before .before .before .before .before .before .before .before .before .before .before .before .before .before .before .before .pre .1 in
+    let few = r .held .prepared .few in
+    (r, frames-made 12288 4096 (c .before .before .before .before .before .before .before .before .before .before .before .before .before .before .no-dispatched .ensures) (omega (arith, few)) few (c .before .before .before .before .before .before .before .before .before .before .before .frames2 .given) (c .before .before .before .before .before .before .before .before .dispatched2 .given) (c .before .before .before .before .before .before .before .before .before .before .before .before .stack-frames .ensures) (c .before .before .before .before .before .before .before .before .before .list-dispatched .ensures))
 
 same-length : tie.Need-same-length
-same-length c = c .before .before .before .before .before .before .before .before .args3 .given ∙ c .before .before .before .before .before .before .before .before .before .before .before .before .before .before .before .before .before .before .before .before .before .before .before .before .before .before .before .args2 .given
+same-length c = c .before .before .before .before .before .before .before .before .before .args2 .given
 
 same-length-2 : tie.Need-same-length-2
-same-length-2 c = c .before .before .before .before .before .before .lists2 .given ∙ c .before .before .before .before .before .before .before .before .before .before .before .before .before .before .before .before .before .before .before .before .before .before .before .before .before .lists .given
+same-length-2 c = c .before .before .before .before .before .before .before .lists .given
 
 same-length-3 : tie.Need-same-length-3
-same-length-3 c = c .before .before .before .before .before .before .before .before .before .before .before .before .before .before .before .before .before .before .before .before .before .before .returns .given
+same-length-3 c = c .before .before .before .before .before .returns .given
 
 same-length-4 : tie.Need-same-length-4
-same-length-4 c = c .before .before .before .before .succ .given
+same-length-4 c = c .before .before .before .succ .given
 
 same-length-5 : tie.Need-same-length-5
-same-length-5 c = c .before .before .pred .given
+same-length-5 c = c .before .pred .given
 
 returns-2 : tie.Need-returns-2
-returns-2 c = (refl, wired-yes (c .before .before .before .before .before .before .before .before .before .before .before .before .before .before .before .before .before .before .before .before .before .before .before .before .before .before .before .before .count-graph .ensures) (c .before .before .before .before .before .before .before .before .before .before .before .before .before .before .before .before .before .before .before .edges-fit .result) (c .before .before .before .before .before .before .before .before .before .before .before .before .before .before .before .before .before .before .before .edges-fit .ensures) (c .before .before .before .before .before .before .before .before .before .before .before .before .before .before .before .before .before .before .if2 .taken) (c .before .before .before .before .succ .given) (c .before .before .pred .given) (omega (arith, c .before .before .before .before .before .before .before .before .before .before .before .before .before .before .before .before .before .before .before .before .before .before .before .before .before .before .before .before .before .before .before .before .before .before .before .before .before .before .before .before .before .before .before .before .before .before .before .before .pre .1 .lists-fit, c .before .before .before .before .before .before .before .before .before .before .before .before .before .before .before .before .before .before .before .before .before .before .before .before .before .lists .given)) (c .before .before .before .before .before .before .before .before .before .write-graph .ensures))
-
-same-length-6 : tie.Need-same-length-6
-same-length-6 c = c .before .before .before .before .before .before .before .before .before .args2 .given
-
-same-length-7 : tie.Need-same-length-7
-same-length-7 c = c .before .before .before .before .before .before .before .lists .given
-
-same-length-8 : tie.Need-same-length-8
-same-length-8 c = c .before .before .before .before .returns .given
-
-returns-3 : tie.Need-returns-3
-returns-3 c = (refl, wired-no (c .before .before .before .before .before .before .before .before .before .before .count-graph .ensures) (c .before .edges-fit .result) (c .before .edges-fit .ensures) (c .if2 .left))
+returns-2 c = c .before .before .before .before .before .before .before .before .before .before .wire-lists .ensures
 
 pub wire-graph-spec : {M : Type 1} → statement M
 wire-graph-spec =
     tie.close
     (tie.spec
     returns
-    sub-d
-    no-scratch-requires
-    no-work-requires
-    slice-aggregate-count-graph
-    slice-aggregate-count-graph-2
-    count-graph-requires
-    edges-fit-requires
-    slice-aggregate-write-graph
-    slice-aggregate-write-graph-2
-    write-graph-requires
+    no-frames-requires
+    no-dispatched-requires
+    slice-aggregate-stack-frames
+    stack-frames-requires
+    slice-aggregate-list-dispatched
+    list-dispatched-requires
+    slice-aggregate-wire-lists
+    slice-aggregate-wire-lists-2
+    wire-lists-requires
     same-length
     same-length-2
     same-length-3
     same-length-4
     same-length-5
-    returns-2
-    same-length-6
-    same-length-7
-    same-length-8
-    returns-3)
+    returns-2)
