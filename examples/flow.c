@@ -10,16 +10,15 @@ static const char listing[] =
 /* Tables that suffice for every listing. */
 static uint32_t counts[FLOW_COUNTS];
 static uint16_t lines[FLOW_LINES_SIZE], stmts[FLOW_STMTS_SIZE], entries[FLOW_ENTRIES_SIZE], falls[FLOW_FALLS_SIZE];
-static uint16_t links[FLOW_LINKS_SIZE], frames[FLOW_FRAMES_SIZE], dispatched[FLOW_DISPATCHED_SIZE], lists[FLOW_LISTS_SIZE];
-static uint16_t returns[FLOW_RETURNS_SIZE], succ[FLOW_SUCC_SIZE], pred[FLOW_PRED_SIZE];
+static uint16_t links[FLOW_LINKS_SIZE], lists[FLOW_LISTS_SIZE], returns[FLOW_RETURNS_SIZE];
+static uint16_t succ[FLOW_SUCC_SIZE], pred[FLOW_PRED_SIZE];
 static uint64_t args[FLOW_ARGS_SIZE];
 
 int main(void) {
     size_t place[1], answer[2];
     uint8_t refused = flow_build((const uint8_t *)listing, strlen(listing), counts, lines, FLOW_LINES_SIZE, stmts, FLOW_STMTS_SIZE,
-        args, FLOW_ARGS_SIZE, entries, FLOW_ENTRIES_SIZE, falls, FLOW_FALLS_SIZE, links, FLOW_LINKS_SIZE, frames, FLOW_FRAMES_SIZE,
-        dispatched, FLOW_DISPATCHED_SIZE, lists, FLOW_LISTS_SIZE, returns, FLOW_RETURNS_SIZE, succ, FLOW_SUCC_SIZE,
-        pred, FLOW_PRED_SIZE, place);
+        args, FLOW_ARGS_SIZE, entries, FLOW_ENTRIES_SIZE, falls, FLOW_FALLS_SIZE, links, FLOW_LINKS_SIZE, lists, FLOW_LISTS_SIZE,
+        returns, FLOW_RETURNS_SIZE, succ, FLOW_SUCC_SIZE, pred, FLOW_PRED_SIZE, place);
     if (refused != FLOW_OK) {
         printf("refused %d at %zu\n", refused, place[0]);
         return 1;

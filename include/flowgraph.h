@@ -41,8 +41,6 @@ extern "C" {
 #define FLOW_ENTRIES_EACH 1
 #define FLOW_FALLS_EACH 3
 #define FLOW_LINKS_EACH 64
-#define FLOW_FRAMES_EACH 3
-#define FLOW_DISPATCHED_EACH 1
 #define FLOW_LISTS_EACH 4
 #define FLOW_RETURNS_EACH 1
 #define FLOW_SUCC_EACH 1
@@ -55,8 +53,6 @@ extern "C" {
 #define FLOW_ENTRIES_SIZE 1024
 #define FLOW_FALLS_SIZE 12288
 #define FLOW_LINKS_SIZE 262144
-#define FLOW_FRAMES_SIZE 12288
-#define FLOW_DISPATCHED_SIZE 4096
 #define FLOW_LISTS_SIZE 16384
 #define FLOW_RETURNS_SIZE 4096
 #define FLOW_SUCC_SIZE 32768
@@ -140,8 +136,6 @@ uint8_t flow_build(
     uint16_t *entries, size_t entries_len,
     uint16_t *falls, size_t falls_len,
     uint16_t *links, size_t links_len,
-    uint16_t *frames, size_t frames_len,
-    uint16_t *dispatched, size_t dispatched_len,
     uint16_t *lists, size_t lists_len,
     uint16_t *returns, size_t returns_len,
     uint16_t *succ, size_t succ_len,

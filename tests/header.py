@@ -24,7 +24,7 @@ LIMITS = {
     "MAX_EDGES": ("crates/wiring/src/skip_lists.rt", "MOST_EDGES"),
     "MAX_DEPTH": ("crates/reader/src/machine.rt", "MAX_DEPTH"),
 }
-TABLES = ["lines", "stmts", "args", "entries", "falls", "links", "frames", "dispatched", "lists", "returns", "succ", "pred"]
+TABLES = ["lines", "stmts", "args", "entries", "falls", "links", "lists", "returns", "succ", "pred"]
 # What has entries of its own in a table, other than a statement.
 PER = {"lines": "MAX_LINES", "entries": "MAX_LINES", "succ": "MAX_EDGES", "pred": "MAX_EDGES"}
 C_TYPES = {"u8": "uint8_t", "u16": "uint16_t", "u32": "uint32_t", "u64": "uint64_t", "usize": "size_t", "bool": "bool"}

@@ -153,7 +153,7 @@ fn fill(tables: &mut Tables) {
 
 fn each(t: &mut Tables, mut what: impl FnMut(&mut [u16])) {
     let tables = [
-        &mut t.lines, &mut t.stmts, &mut t.entries, &mut t.falls, &mut t.links, &mut t.frames, &mut t.dispatched, &mut t.lists,
+        &mut t.lines, &mut t.stmts, &mut t.entries, &mut t.falls, &mut t.links, &mut t.lists,
         &mut t.returns, &mut t.succ, &mut t.pred,
     ];
     tables.into_iter().for_each(|table| what(table));
@@ -171,7 +171,7 @@ fn all_zero(tables: &mut Tables) -> bool {
 
 fn zero_past_the_used(t: &Tables) -> bool {
     let [lines, n, _, edges, returns] = t.counts.map(|n| n as usize);
-    let of_statements = [(&t.stmts, 12), (&t.falls, 3), (&t.links, 64), (&t.frames, 3), (&t.dispatched, 1), (&t.lists, 4)];
+    let of_statements = [(&t.stmts, 12), (&t.falls, 3), (&t.links, 64), (&t.lists, 4)];
     of_statements.iter().all(|(table, each)| zero(&table[n * each..]))
         && t.args[n * 64..].iter().all(|&e| e == 0)
         && [&t.lines, &t.entries].iter().all(|table| zero(&table[lines..]))

@@ -24,8 +24,6 @@ pub const ARGS_EACH: usize = 64;
 pub const ENTRIES_EACH: usize = 1;
 pub const FALLS_EACH: usize = 3;
 pub const LINKS_EACH: usize = 64;
-pub const FRAMES_EACH: usize = 3;
-pub const DISPATCHED_EACH: usize = 1;
 pub const LISTS_EACH: usize = 4;
 pub const RETURNS_EACH: usize = 1;
 pub const SUCC_EACH: usize = 1;
@@ -53,8 +51,6 @@ extern "C" {
         entries: *mut u16, entries_len: usize,
         falls: *mut u16, falls_len: usize,
         links: *mut u16, links_len: usize,
-        frames: *mut u16, frames_len: usize,
-        dispatched: *mut u16, dispatched_len: usize,
         lists: *mut u16, lists_len: usize,
         returns: *mut u16, returns_len: usize,
         succ: *mut u16, succ_len: usize,

@@ -34,10 +34,6 @@ pub struct Tables {
     pub falls: Vec<u16>,
     /// 64 entries a statement: where its arguments lead.
     pub links: Vec<u16>,
-    /// 3 entries a statement: the frames that it opens, joins and closes.
-    pub frames: Vec<u16>,
-    /// The dispatched FORs.
-    pub dispatched: Vec<u16>,
     /// 4 entries a statement: start and count of its successors and of its predecessors.
     pub lists: Vec<u16>,
     /// The return targets.
@@ -91,8 +87,6 @@ impl Tables {
         self.entries.resize(lines * ffi::ENTRIES_EACH, 0);
         self.falls.resize(statements * ffi::FALLS_EACH, 0);
         self.links.resize(statements * ffi::LINKS_EACH, 0);
-        self.frames.resize(statements * ffi::FRAMES_EACH, 0);
-        self.dispatched.resize(statements * ffi::DISPATCHED_EACH, 0);
         self.lists.resize(statements * ffi::LISTS_EACH, 0);
         self.returns.resize(statements * ffi::RETURNS_EACH, 0);
         self.succ.resize(edges * ffi::SUCC_EACH, 0);
@@ -114,8 +108,6 @@ impl Tables {
                 self.entries.as_mut_ptr(), self.entries.len(),
                 self.falls.as_mut_ptr(), self.falls.len(),
                 self.links.as_mut_ptr(), self.links.len(),
-                self.frames.as_mut_ptr(), self.frames.len(),
-                self.dispatched.as_mut_ptr(), self.dispatched.len(),
                 self.lists.as_mut_ptr(), self.lists.len(),
                 self.returns.as_mut_ptr(), self.returns.len(),
                 self.succ.as_mut_ptr(), self.succ.len(),

@@ -136,16 +136,14 @@ fn table(t: &mut Tables, i: usize) -> &mut Vec<u16> {
         2 => &mut t.entries,
         3 => &mut t.falls,
         4 => &mut t.links,
-        5 => &mut t.frames,
-        6 => &mut t.dispatched,
-        7 => &mut t.lists,
-        8 => &mut t.returns,
-        9 => &mut t.succ,
+        5 => &mut t.lists,
+        6 => &mut t.returns,
+        7 => &mut t.succ,
         _ => &mut t.pred,
     }
 }
 
-const TABLES: usize = 11;
+const TABLES: usize = 9;
 
 /// Values at which an entry may begin to point outside.
 fn values(t: &Tables, old: u16) -> Vec<u16> {
@@ -381,7 +379,7 @@ fn builds_into_any_tables() {
             }
             let (number, place) = match i {
                 0 | 2 => (21, lines),
-                9 | 10 => (23, edges),
+                7 | 8 => (23, edges),
                 _ => (22, statements),
             };
             assert_eq!(short.build(text.as_bytes()), Err(Refusal { number, place }), "table {i}");
