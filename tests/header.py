@@ -16,7 +16,7 @@ HERE = os.path.dirname(os.path.abspath(__file__))
 HEADER, RUST, WORDS = "include/flowgraph.h", "rust/src/ffi.rs", "rust/src/word.rs"
 LIBRARY = "crates/flowgraph/src"
 DECISIONS, ROOM, SIZES = "docs/DECISIONS.md", "crates/wiring/src/room.rt", "crates/flowlist/src/main.rt"
-COLUMNS, OPENING = "crates/reader/src/tables.rt", "crates/reader/src/words.rt"
+COLUMNS, OPENING = "crates/reader/src/tables.rt", "crates/tokens/src/words.rt"
 LIMITS = {
     "MAX_BYTES": ("crates/reader/src/judge.rt", "MAX_BYTES"),
     "MAX_LINES": ("crates/reader/src/machine.rt", "MAX_LINES"),
@@ -28,7 +28,7 @@ TABLES = ["lines", "stmts", "args", "entries", "falls", "links", "lists", "retur
 # What has entries of its own in a table, other than a statement.
 PER = {"lines": "MAX_LINES", "entries": "MAX_LINES", "succ": "MAX_EDGES", "pred": "MAX_EDGES"}
 C_TYPES = {"u8": "uint8_t", "u16": "uint16_t", "u32": "uint32_t", "u64": "uint64_t", "usize": "size_t", "bool": "bool"}
-CRATES = ["reader", "wiring", "questions"]
+CRATES = ["tokens", "reader", "wiring", "adjacency", "statements", "frame_slices", "frame_lists"]
 
 
 class Files:

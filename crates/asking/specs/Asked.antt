@@ -8,19 +8,19 @@ use native.Mathlib.Omega.{arith}
 use native.Mathlib.Nat.{not-suc-le-zero}
 use lib.Dec.{eqb}
 use lib.ListN.{length, getD, getElem?, take, drop}
-use Rattle.reader.specs.Bytes.{bytes, pick, same}
-use Rattle.reader.specs.Listing.{Listing}
-use Rattle.reader.specs.Rows.{split, openingWords}
-use Rattle.reader.specs.Read.{Outcome, taken}
-use Rattle.reader.specs.WordTable.{words, first, wordIndex}
-use Rattle.reader.specs.Scan.{rest-all}
-use Rattle.reader.specs.WordText.{same-equal}
+use Rattle.listings.specs.Bytes.{bytes, pick, same}
+use Rattle.listings.specs.Listing.{Listing}
+use Rattle.listings.specs.Rows.{split, openingWords}
+use Rattle.listings.specs.Read.{Outcome, taken}
+use Rattle.listings.specs.WordTable.{words, first, wordIndex}
+use Rattle.listings.specs.Scan.{rest-all}
+use Rattle.listings.specs.WordText.{same-equal}
 use Rattle.graph.specs.Nodes.{NodeStmt, Node, nodes}
 use Rattle.graph.specs.NodeRecords.{stmtWord, stmtNumber}
 use Rattle.graph.specs.Print.{printedRefusal}
 use Rattle.graph.specs.Build.{Built, graph, build}
 use Rattle.wiring.specs.GraphTables.{Sizes, capacity, Answered}
-use Rattle.wiring.specs.Printing.{Puts, puts-none, puts-is}
+use Rattle.formatting.specs.Printing.{Puts, puts-none, puts-is}
 use Rattle.wiring.specs.Demands.{Tables, ListingOf, LongEnough, Written, BuildWrote, demands}
 use Rattle.wiring.specs.declared.build.Built.{Built as BuiltAnswer}
 use Rattle.wiring.specs.declared.build.Built.the-variants as built
@@ -30,9 +30,9 @@ use Rattle.questions.specs.TableAnswers.{answers-of}
 use Rattle.questions.specs.StatementAnswers.{numbered, node-answer, path-answer}
 use Rattle.questions.specs.Words.{word-low}
 use Rattle.questions.specs.FrameBuilt.{frame-built}
-use Rattle.asking.specs.Flowask.{Question, ofSuccessors, ofPredecessors, ofStatement, ofEntry, ofPath, ofFrame, stmtRow, replyRow, answerRow, question, outcomeRow, rowAnswer, ending, answerRows, parts, answers, askText}
-use Rattle.asking.specs.AnswersAt.{numberedRow, successorsAnswer, predecessorsAnswer, statementAnswer, pathAnswer, entryAnswer, frameAnswer, answerAt}
-use Rattle.asking.specs.TextLaws.{CutAt}
+use Rattle.answers.specs.Flowask.{Question, ofSuccessors, ofPredecessors, ofStatement, ofEntry, ofPath, ofFrame, stmtRow, replyRow, answerRow, question, outcomeRow, rowAnswer, ending, answerRows, parts, answers, askText}
+use Rattle.answers.specs.AnswersAt.{numberedRow, successorsAnswer, predecessorsAnswer, statementAnswer, pathAnswer, entryAnswer, frameAnswer, answerAt}
+use Rattle.answers.specs.TextLaws.{CutAt}
 
 -- the questions of a text, answered by f, stand in `out`, as far as that goes
 pub record QuestionsAnswered (text : List ℕ) (f : Question → List ℕ) (out out′ : List ℕ) (n : ℕ) : Type 0 where

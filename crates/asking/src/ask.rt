@@ -1,86 +1,13 @@
 // A text with a listing and questions: the listing's graph built in the lent tables, and the questions answered.
-use crate::answers::answer_row;
-use printing::print::put_refusal;
-use reader::scan::equal;
-use reader::scan::find;
+use answers::text::answer_rows;
+use answers::text::listing_length;
+use formatting::print_rows::put_refusal;
 use wiring::build::Built;
 use wiring::build::build;
-ghost use Rattle.reader.specs.Rows.{split};
-ghost use Rattle.wiring.specs.Printing.{Puts};
 ghost use Rattle.wiring.specs.GraphTables.{sizesOf};
-ghost use Rattle.asking.specs.Flowask.{answerRows};
-ghost use Rattle.asking.specs.AnswersAt.{answerAt};
-ghost use Rattle.asking.specs.TextLaws.{CutAt};
+ghost use Rattle.answers.specs.AnswersAt.{answerAt};
+ghost use Rattle.answers.specs.TextLaws.{CutAt};
 ghost use Rattle.asking.specs.Asked.{QuestionsAnswered, TextAsked};
-
-// How many bytes stand before the row `(questions`, all of them where there is none.
-fn listing_length(text: &[u8]) -> usize
-    ensures { λ r. ⌜ CutAt (now (text .entry)) r ⌝ }
-{
-    let mut at: usize = 0;
-    loop {
-        let e = find(&text[at..], 10);
-        let to = at + e;
-        if to == text.len() {
-            return to;
-        }
-        if equal(&text[at..to], b"(questions") {
-            return at;
-        }
-        at = to + 1;
-    }
-}
-
-// Rows of questions, as far as the `)` that closes them.
-fn answer_rows(
-    out: &mut [u8],
-    text: &[u8],
-    counts: &[u32; 5],
-    lines: &[u16],
-    stmts: &[u16],
-    args: &[u64],
-    entries: &[u16],
-    falls: &[u16],
-    lists: &[u16],
-    succ: &[u16],
-    pred: &[u16],
-) -> usize
-    ensures { λ r. ⌜ Puts (now (out .entry)) 0 (now (out .exit)) r (answerRows (answerAt (now (counts .entry)) (now (lines .entry)) (now (stmts .entry)) (now (args .entry)) (now (entries .entry)) (now (falls .entry)) (now (lists .entry)) (now (succ .entry)) (now (pred .entry))) 0 (split 10 (now (text .entry)))) ⌝ }
-{
-    let mut r: usize = 0;
-    let mut k: usize = 0;
-    let mut at: usize = 0;
-    loop {
-        let e = find(&text[at..], 10);
-        let to = at + e;
-        if to == text.len() {
-            return put_refusal(out, r, 2, k);
-        }
-        if equal(&text[at..to], b")") {
-            if to + 1 == text.len() {
-                return r;
-            }
-            return put_refusal(out, r, 2, k + 1);
-        }
-        r = answer_row(
-            out,
-            r,
-            k,
-            &text[at..to],
-            counts,
-            lines,
-            stmts,
-            args,
-            entries,
-            falls,
-            lists,
-            succ,
-            pred,
-        );
-        at = to + 1;
-        k += 1;
-    }
-}
 
 // The questions behind the first n bytes, if there are any.
 fn answer_questions(

@@ -1,5 +1,2 @@
-// Questions in bracket form, asked of a listing's graph and answered row by row.
-mod answers;
+// A text with a listing and questions: the graph built, the questions answered.
 pub mod ask;
-mod print;
-mod words;

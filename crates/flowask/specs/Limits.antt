@@ -7,9 +7,9 @@ use borrow.Author.Tests.{le-leb, lt-leb}
 use Rattle.graph.specs.Print.{printedRefusal}
 use Rattle.graph.specs.Build.{Capacity, limits}
 use Rattle.wiring.specs.GraphTables.{Sizes}
-use Rattle.wiring.specs.Printing.{Puts, puts-is}
+use Rattle.formatting.specs.Printing.{Puts, puts-is}
 use Rattle.printing.specs.Limits.{at-limits}
-use Rattle.asking.specs.Flowask.{askText, flowask}
+use Rattle.answers.specs.Flowask.{askText, flowask}
 use Rattle.asking.specs.Asked.{TextAsked}
 
 -- tables of these lengths: s

@@ -1,11 +1,11 @@
 // A listing with questions on standard input; their answers, or the listing's refusal, on standard output.
 use asking::ask::ask_text;
+use formatting::print_rows::put_refusal;
 use libc::STDIN_FILENO;
 use libc::STDOUT_FILENO;
-use printing::print::put_refusal;
 ghost use Rattle.graph.specs.Build.{limits};
-ghost use Rattle.wiring.specs.Printing.{Puts};
-ghost use Rattle.asking.specs.Flowask.{askText, flowask};
+ghost use Rattle.formatting.specs.Printing.{Puts};
+ghost use Rattle.answers.specs.Flowask.{askText, flowask};
 
 // So many bytes a text may have, questions and all.
 const MAX_BYTES: usize = 262144;

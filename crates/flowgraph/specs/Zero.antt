@@ -7,17 +7,17 @@ use mathlib.Core.Option.{Option, none, some}
 use native.Mathlib.Omega.{arith}
 use lib.Dec.{ltb, leb}
 use lib.ListN.{length, getD}
-use Rattle.reader.specs.Bytes.{pick}
-use Rattle.reader.specs.Listing.{Listing, Stmts, CondWord, total, count}
-use Rattle.reader.specs.Rows.{isName, split, rowOf, Parse, malformed, invalid, parsed, Content, noForm, endRow, stmtsRow, moduleRow, lineRow, toRow, simpleRow, condRow, contentOf}
-use Rattle.reader.specs.Read.{OpenCond, Branches, Position, begin, inModule, ended, inStmts, inCond, Reading, start, Outcome, taken, refused as refusedRow, orRefused, check, atBegin, readLine, ascends, atModule, readSimple, readCond, atStmts, NextBranch, noMore, mayFollow, nextBranch, condStmt, endCond, readTo, readStmts, atCond, readRow, Answer, listing, refusal, finish, readRows, read}
-use Rattle.reader.specs.Records.{nameKey}
+use Rattle.listings.specs.Bytes.{pick}
+use Rattle.listings.specs.Listing.{Listing, Stmts, CondWord, total, count}
+use Rattle.listings.specs.Rows.{isName, split, rowOf, Parse, malformed, invalid, parsed, Content, noForm, endRow, stmtsRow, moduleRow, lineRow, toRow, simpleRow, condRow, contentOf}
+use Rattle.listings.specs.Read.{OpenCond, Branches, Position, begin, inModule, ended, inStmts, inCond, Reading, start, Outcome, taken, refused as refusedRow, orRefused, check, atBegin, readLine, ascends, atModule, readSimple, readCond, atStmts, NextBranch, noMore, mayFollow, nextBranch, condStmt, endCond, readTo, readStmts, atCond, readRow, Answer, listing, refusal, finish, readRows, read}
+use Rattle.listings.specs.Records.{nameKey}
 use Rattle.graph.specs.Build.{Capacity, Built, graph, refused as refusedBuild, edgeCount, fitted, builtOf, build}
 use Rattle.graph.specs.Questions.{Reply, answer, refused, ifRoom}
-use Rattle.questions.specs.ListsAt.{listAt, successorsAt, predecessorsAt}
-use Rattle.questions.specs.EntryAt.{nodeIn, entryAt}
-use Rattle.questions.specs.StatementAt.{ifRows, stmtAt, pathStatement, unlessRefused, nodeStatement}
-use Rattle.questions.specs.FrameAt.{frameOutside, frameRead, frameIn, frameAt}
+use Rattle.adjacency.specs.ListsAt.{listAt, successorsAt, predecessorsAt}
+use Rattle.adjacency.specs.EntryAt.{nodeIn, entryAt}
+use Rattle.statements.specs.StatementAt.{ifRows, stmtAt, pathStatement, unlessRefused, nodeStatement}
+use Rattle.frame_lists.specs.FrameAt.{frameOutside, frameRead, frameIn, frameAt}
 use Rattle.telling.specs.BuildTold.{numberOf}
 use Rattle.telling.specs.QuestionTold.{codeOf}
 

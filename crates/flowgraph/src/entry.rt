@@ -1,7 +1,7 @@
 // A line's entry, by the line's number: a node and 1, or 0 and 0 where there is none.
-use questions::entry::ask_entry;
+use adjacency::entry::ask_entry;
 use telling::entry::tell_entered;
-ghost use Rattle.questions.specs.EntryAt.{entryAt};
+ghost use Rattle.adjacency.specs.EntryAt.{entryAt};
 ghost use Rattle.telling.specs.QuestionTold.{entryWords, Told};
 
 #[no_mangle]

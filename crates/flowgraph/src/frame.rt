@@ -1,8 +1,8 @@
 // The frame list: its length; the list itself stands in `out`.
-use questions::frame::ask_frame;
+use frame_lists::frame::ask_frame;
 use telling::frame::tell_framed;
 ghost use lib.ListN.{length, getD};
-ghost use Rattle.questions.specs.FrameAt.{frameAt};
+ghost use Rattle.frame_lists.specs.FrameAt.{frameAt};
 ghost use Rattle.telling.specs.QuestionTold.{ListTold};
 
 #[no_mangle]

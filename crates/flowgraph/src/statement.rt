@@ -1,8 +1,8 @@
 // A node's statement and the statement at a path: its node and the number of its opening word.
-use questions::statement::ask_path;
-use questions::statement::ask_statement;
+use statements::statement::ask_path;
+use statements::statement::ask_statement;
 use telling::statement::tell_stated;
-ghost use Rattle.questions.specs.StatementAt.{nodeStatement, pathStatement};
+ghost use Rattle.statements.specs.StatementAt.{nodeStatement, pathStatement};
 ghost use Rattle.telling.specs.QuestionTold.{pairWords, Told};
 
 #[no_mangle]

@@ -1,9 +1,9 @@
 // A node's successors and predecessors: where they stand in the caller's edge table.
-use questions::successors::ask_predecessors;
-use questions::successors::ask_successors;
+use adjacency::successors::ask_predecessors;
+use adjacency::successors::ask_successors;
 use telling::successors::tell_asked;
 ghost use lib.ListN.{length};
-ghost use Rattle.questions.specs.ListsAt.{successorsAt, predecessorsAt};
+ghost use Rattle.adjacency.specs.ListsAt.{successorsAt, predecessorsAt};
 ghost use Rattle.telling.specs.QuestionTold.{pairWords, Told};
 
 #[no_mangle]

@@ -4,7 +4,7 @@ use mathlib.Core.Path.{_≡_, ap}
 use mathlib.Core.List.{List}
 use Rattle.graph.specs.Build.{Capacity, build, written, flowlist}
 use Rattle.wiring.specs.GraphTables.{Sizes}
-use Rattle.wiring.specs.Printing.{Puts, puts-is}
+use Rattle.formatting.specs.Printing.{Puts, puts-is}
 use Rattle.printing.specs.Limits.{at-limits}
 use Rattle.printing.specs.ListGraph.{GraphListed}
 

@@ -3,7 +3,7 @@ use libc::STDIN_FILENO;
 use libc::STDOUT_FILENO;
 use printing::list::list_graph;
 ghost use Rattle.graph.specs.Build.{flowlist};
-ghost use Rattle.wiring.specs.Printing.{Puts};
+ghost use Rattle.formatting.specs.Printing.{Puts};
 
 // With tables that suffice at all limits.
 fn list_text(text: &[u8], out: &mut [u8]) -> usize

@@ -4,9 +4,9 @@ use mathlib.Core.List.{List, [], _∷_}
 use mathlib.Core.Bool.{Bool, true, false, _&&_}
 use lib.Dec.{leb}
 use lib.ListN.{length}
-use Rattle.reader.specs.Bytes.{pick}
-use Rattle.reader.specs.Listing.{Listing, total, count}
-use Rattle.reader.specs.Read.{Answer, listing, refusal, read}
+use Rattle.listings.specs.Bytes.{pick}
+use Rattle.listings.specs.Listing.{Listing, total, count}
+use Rattle.listings.specs.Read.{Answer, listing, refusal, read}
 use Rattle.graph.specs.Graph.{allSuccessors}
 use Rattle.graph.specs.Print.{printed, printedRefusal}
 

@@ -6,9 +6,9 @@ use mathlib.Core.Option.{Option, none, some}
 use mathlib.Core.Bool.{Bool, true, false, _&&_}
 use lib.Dec.{eqb}
 use lib.ListN.{length}
-use Rattle.reader.specs.Bytes.{bytes, same}
-use Rattle.reader.specs.Listing.{Listing}
-use Rattle.reader.specs.Read.{Answer, listing, refusal, read}
+use Rattle.listings.specs.Bytes.{bytes, same}
+use Rattle.listings.specs.Listing.{Listing}
+use Rattle.listings.specs.Read.{Answer, listing, refusal, read}
 use Rattle.graph.specs.Lists.{list}
 use Rattle.graph.specs.Nodes.{nodes, entries, entryOf}
 use Rattle.graph.specs.Graph.{wire, successors, continuation}

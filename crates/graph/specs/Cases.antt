@@ -4,7 +4,7 @@ use Prim.Native.String.{String}
 use mathlib.Core.List.{List, [], _∷_, _++_}
 use mathlib.Core.Option.{none, some}
 use lib.Dec.{T}
-use Rattle.reader.specs.Bytes.{bytes}
+use Rattle.listings.specs.Bytes.{bytes}
 use Rattle.graph.specs.CaseTable.{count-is, entry-is, lists-are, list-is, continuation-is, Case, claims, writes, allRight, one, opened}
 
 -- C10, by its handler fact

@@ -8,9 +8,9 @@ use mathlib.Core.Option.{Option, none, some}
 use native.Mathlib.Omega.{arith}
 use lib.ListN.{length, getElem?}
 use Rattle.graph.specs.Lists.{list}
-use Rattle.reader.specs.Every.{All, all[], all∷}
+use Rattle.listings.specs.Every.{All, all[], all∷}
 use Rattle.graph.specs.Members.{all-map}
-use Rattle.reader.specs.Listing.{Listing}
+use Rattle.listings.specs.Listing.{Listing}
 use Rattle.graph.specs.Nodes.{Entries}
 use Rattle.graph.specs.Reach.{Reach, here, on}
 use Rattle.graph.specs.Graph.{Role, call, returns, forgets, steps, noNode, Wired, wire, role, fallFrom, base, continuationBy, continuation, calleesBy, callees, skipStepsBy, skipSteps, regionReturnEdges, returnEdges, successorsBy, successorsIn, successors}

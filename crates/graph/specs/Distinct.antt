@@ -7,9 +7,9 @@ use native.Mathlib.Omega.{arith}
 use borrow.Author.Tests.{eqb-true, eqb-false, ne-eqb}
 use lib.Dec.{T, eqb}
 use lib.ListN.{length}
-use Rattle.reader.specs.Bytes.{pick}
+use Rattle.listings.specs.Bytes.{pick}
 use Rattle.graph.specs.Lists.{has, add, addAll}
-use Rattle.reader.specs.Every.{All, all[], all∷}
+use Rattle.listings.specs.Every.{All, all[], all∷}
 use Rattle.graph.specs.Members.{Ascending, asc[], asc∷}
 use Rattle.graph.specs.Reach.{has→mem}
 

@@ -8,7 +8,7 @@ use mathlib.Core.Option.{Option, none, some}
 use native.Mathlib.Omega.{arith}
 use lib.Dec.{eqb}
 use borrow.Author.Tests.{ne-eqb}
-use Rattle.reader.specs.Bytes.{pick}
+use Rattle.listings.specs.Bytes.{pick}
 use Rattle.graph.specs.Lists.{list}
 use Rattle.graph.specs.Edges.{jumpsOr, Edge, fromNode, toFall, ends}
 

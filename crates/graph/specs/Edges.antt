@@ -5,8 +5,8 @@ use mathlib.Core.List.{List, [], _∷_, _++_, map}
 use mathlib.Core.Option.{Option, none, some}
 use mathlib.Core.Bool.{Bool, true, false}
 use lib.Dec.{eqb}
-use Rattle.reader.specs.Bytes.{same, pick}
-use Rattle.reader.specs.Listing.{Name, Slot, Simple, goto, gosub, return, run, runto, ongoto, ongosub, for, next, repeat, loop, until, endloop, exit, exitif, doif, else, done, clr, stop, any}
+use Rattle.listings.specs.Bytes.{same, pick}
+use Rattle.listings.specs.Listing.{Name, Slot, Simple, goto, gosub, return, run, runto, ongoto, ongosub, for, next, repeat, loop, until, endloop, exit, exitif, doif, else, done, clr, stop, any}
 use Rattle.graph.specs.Lists.{each, list}
 use Rattle.graph.specs.Nodes.{NodeStmt, simple, cond, Node, Entries, entryOf}
 use Rattle.graph.specs.Targets.{targetEntries, firstEntry, allEntries, branchEdges, dispatchTargets, orphanEdges}

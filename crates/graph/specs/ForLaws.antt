@@ -4,8 +4,8 @@ use mathlib.Core.Path.{_≡_, refl, sym}
 use mathlib.Core.List.{List, [], _∷_, _++_, map, append-assoc, append-nil}
 use mathlib.Core.Bool.{Bool, true, false}
 use mathlib.Core.Option.{Option, none, some}
-use Rattle.reader.specs.Bytes.{same, pick}
-use Rattle.reader.specs.Listing.{Name, Slot}
+use Rattle.listings.specs.Bytes.{same, pick}
+use Rattle.listings.specs.Listing.{Name, Slot}
 use Rattle.graph.specs.Lists.{each, list}
 use Rattle.graph.specs.Edges.{ForFrame, ForMove, keepFors, pushFor, popFors, findFor, underOr, foundOr, popFor, popped, left, forsAfter, frameBody, poppedBodies}
 use Rattle.graph.specs.PerNode.{findOpener, openersUnder, openerFound, popOpener, openersPopped, openersLeft, forOpenersAfter, pops}

@@ -4,8 +4,8 @@ use mathlib.Core.List.{List, [], _∷_, _++_, map}
 use mathlib.Core.Option.{Option, none, some}
 use mathlib.Core.Bool.{Bool, true, false}
 use lib.ListN.{getElem?, length}
-use Rattle.reader.specs.Bytes.{pick}
-use Rattle.reader.specs.Listing.{Simple, goto, gosub, return, run, runto, ongoto, ongosub, for, next, repeat, loop, until, endloop, exit, exitif, doif, else, done, clr, stop, any, Listing}
+use Rattle.listings.specs.Bytes.{pick}
+use Rattle.listings.specs.Listing.{Simple, goto, gosub, return, run, runto, ongoto, ongosub, for, next, repeat, loop, until, endloop, exit, exitif, doif, else, done, clr, stop, any, Listing}
 use Rattle.graph.specs.Lists.{has, addAll, each, list, below, ascending}
 use Rattle.graph.specs.Nodes.{NodeStmt, simple, cond, Node, Entries, entries, nodes}
 use Rattle.graph.specs.Targets.{targetEntries}

@@ -9,10 +9,10 @@ use native.Mathlib.Omega.{arith}
 use native.Mathlib.Nat.{le-refl, add-zero}
 use lib.Dec.{T}
 use lib.ListN.{length, getElem?, length-append}
-use Rattle.reader.specs.Bytes.{pick}
-use Rattle.reader.specs.Listing.{Listing, total}
+use Rattle.listings.specs.Bytes.{pick}
+use Rattle.listings.specs.Listing.{Listing, total}
 use Rattle.graph.specs.Lists.{has, addAll, each, list, below, ascending}
-use Rattle.reader.specs.Every.{All, all[], all∷, all-append}
+use Rattle.listings.specs.Every.{All, all[], all∷, all-append}
 use Rattle.graph.specs.Members.{all-mem, all-each, all-at, Ascending, asc[], asc∷, ascending-asc, ascending-mem, past}
 use Rattle.graph.specs.Nodes.{Node, Entries, entries, nodes, entriesBefore, nodesBefore}
 use Rattle.graph.specs.NodeLaws.{Below, NodeFits, EntryFits, length-nodes, nodes-fit, entries-fit}

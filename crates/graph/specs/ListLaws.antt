@@ -1,12 +1,12 @@
 -- Laws of `has` and `add`, as code goes over a list. Assumes nothing.
-use Prim.Native.Nat.{ℕ, zero, suc, _+_, _<_, _≤_}
-use mathlib.Core.Path.{_≡_, refl, subst, sym, ap, _∙_}
+use Prim.Native.Nat.{ℕ, zero, suc, _+_, _<_}
+use mathlib.Core.Path.{_≡_, refl, subst, sym, ap}
 use mathlib.Core.List.{List, [], _∷_, _++_}
 use mathlib.Core.Bool.{Bool, true, false, _||_}
 use native.Mathlib.Omega.{arith}
 use lib.Dec.{T, eqb, eqb→eq, eqb-refl}
 use lib.ListN.{length, getD}
-use Rattle.reader.specs.Bytes.{pick}
+use Rattle.listings.specs.Bytes.{pick}
 use Rattle.graph.specs.Lists.{has, add}
 
 hit : (x y : Bool) → T x → (x || y) ≡ true
@@ -39,3 +39,20 @@ add-old l a e = ap (λ (x : Bool). pick x l (l ++ (a ∷ []))) e
 pub add-new : (l : List ℕ) (a : ℕ) → has a l ≡ false → add l a ≡ l ++ (a ∷ [])
 unfolding add
 add-new l a e = ap (λ (x : Bool). pick x l (l ++ (a ∷ []))) e
+
+pub or-true : (x : Bool) → (x || true) ≡ true
+or-true true = refl
+or-true false = refl
+
+pub or-false : (x : Bool) → (x || false) ≡ x
+or-false true = refl
+or-false false = refl
+
+or-assoc : (x y z : Bool) → ((x || y) || z) ≡ (x || (y || z))
+or-assoc true y z = refl
+or-assoc false y z = refl
+
+pub has-end : (x a : ℕ) (l : List ℕ) → has x (l ++ (a ∷ [])) ≡ (has x l || eqb x a)
+unfolding has
+has-end x a [] = or-false (eqb x a)
+has-end x a (b ∷ l) = rw (has-end x a l) (sym (or-assoc (eqb x b) (has x l) (eqb x a)))

@@ -4,7 +4,7 @@ use mathlib.Core.Bool.{Bool, true, false, _||_}
 use mathlib.Core.List.{List, [], _∷_, _++_}
 use mathlib.Core.Option.{Option, none, some}
 use lib.Dec.{eqb, ltb}
-use Rattle.reader.specs.Bytes.{pick}
+use Rattle.listings.specs.Bytes.{pick}
 
 unfoldable pub has : ℕ → List ℕ → Bool
 has a [] = false

@@ -9,7 +9,7 @@ use native.Mathlib.Omega.{arith}
 use native.Mathlib.Decide.{ℕ-discrete}
 use lib.Dec.{T, T-not, eqb, ltb, eqb→eq, eqb-refl, ltb→lt, nltb→le}
 use lib.ListN.{length, getElem?}
-use Rattle.reader.specs.Every.{All, all[], all∷, all-append}
+use Rattle.listings.specs.Every.{All, all[], all∷, all-append}
 use Rattle.graph.specs.Lists.{each, list, below, insertBy, insert, ascending}
 
 -- each element is below all after it

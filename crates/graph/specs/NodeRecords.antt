@@ -5,10 +5,10 @@ use mathlib.Core.List.{List, [], _∷_, _++_}
 use mathlib.Core.Option.{Option, none, some}
 use native.Mathlib.Omega.{arith}
 use lib.ListN.{length, getElem?}
-use Rattle.reader.specs.Listing.{Simple, CondWord, BranchForm, to, stmts, absent, Stmts, ∅, _▸_, branching, Lines, nolines, line, size, len, total, count}
-use Rattle.reader.specs.ListingText.{simpleWord, condWord}
-use Rattle.reader.specs.WordTable.{wordIndex}
-use Rattle.reader.specs.Records.{Rec, argsOf, detailOf, branchNumber, branchLine, simpleRec, condRec, stmtRecs, lineRecs}
+use Rattle.listings.specs.Listing.{Simple, CondWord, BranchForm, to, stmts, absent, Stmts, ∅, _▸_, branching, Lines, nolines, line, size, len, total, count}
+use Rattle.listings.specs.ListingText.{simpleWord, condWord}
+use Rattle.listings.specs.WordTable.{wordIndex}
+use Rattle.listings.specs.Records.{Rec, argsOf, detailOf, branchNumber, branchLine, simpleRec, condRec, stmtRecs, lineRecs}
 use Rattle.graph.specs.NodeLaws.{length-allocate, length-nodes}
 use Rattle.graph.specs.Nodes.{NodeStmt, simple, cond, Node, branchTarget, allocate, lineEntry, nodesBefore}
 

@@ -3,8 +3,8 @@ use Prim.Native.Nat.{ℕ, zero, suc, _+_}
 use mathlib.Core.List.{List, [], _∷_, _++_}
 use mathlib.Core.Option.{Option, none, some}
 use lib.Dec.{eqb}
-use Rattle.reader.specs.Bytes.{pick}
-use Rattle.reader.specs.Listing.{Simple, CondWord, BranchForm, to, stmts, absent, Stmts, ∅, _▸_, branching, Lines, nolines, line, size, len, total, count}
+use Rattle.listings.specs.Bytes.{pick}
+use Rattle.listings.specs.Listing.{Simple, CondWord, BranchForm, to, stmts, absent, Stmts, ∅, _▸_, branching, Lines, nolines, line, size, len, total, count}
 
 -- "A branch gives its target or first statement; an empty one falls"; one that is absent falls too
 pub data BranchTarget : Type 0 where

@@ -1,9 +1,9 @@
 -- All definitions, opened: a table that names `opened` in its `unfolding` line can be computed. Assumes nothing.
 use Prim.Native.Nat.{ℕ}
-use Rattle.reader.specs.Bytes.{bytes, same, decimalIn, decimal}
-use Rattle.reader.specs.Listing.{size, len, total, count}
-use Rattle.reader.specs.Rows.{onFirst, split, all, isWord, areWords, stripClose, formRow, rowOf, openingWords, lookup, mapParse, withParse, isDigit, isCapital, value, noLeadingZero, parseNumber, parseNumbers, nameEnd, isName, parseName, parseSlot, parseSlots, orMalformed, tiers, parseTier, marks, parseMark, bareStmt, single, runStmt, forStmt, nextStmt, ifNoWords, handlerFacts, moduleBy, moduleContent, formContent, wordContent, contentOf}
-use Rattle.reader.specs.Read.{start, goTo, oneMore, orRefused, check, atBegin, ascends, readLine, atModule, readSimple, readCond, numberOf, branched, endStmts, atStmts, nextBranch, condStmt, endCond, readTo, readStmts, atCond, readRow, finish, readRows, read}
+use Rattle.listings.specs.Bytes.{bytes, same, decimalIn, decimal}
+use Rattle.listings.specs.Listing.{size, len, total, count}
+use Rattle.listings.specs.Rows.{onFirst, split, all, isWord, areWords, stripClose, formRow, rowOf, openingWords, lookup, mapParse, withParse, isDigit, isCapital, value, noLeadingZero, parseNumber, parseNumbers, nameEnd, isName, parseName, parseSlot, parseSlots, orMalformed, tiers, parseTier, marks, parseMark, bareStmt, single, runStmt, forStmt, nextStmt, ifNoWords, handlerFacts, moduleBy, moduleContent, formContent, wordContent, contentOf}
+use Rattle.listings.specs.Read.{start, goTo, oneMore, orRefused, check, atBegin, ascends, readLine, atModule, readSimple, readCond, numberOf, branched, endStmts, atStmts, nextBranch, condStmt, endCond, readTo, readStmts, atCond, readRow, finish, readRows, read}
 use Rattle.graph.specs.Lists.{has, add, addAll, below, keep, each, list, insertBy, insert, ascending}
 use Rattle.graph.specs.Nodes.{branchTarget, allocate, lineEntry, nodesBefore, entriesBefore, nodes, entries, entryOf}
 use Rattle.graph.specs.Targets.{targetEntries, firstEntry, allEntries, branchEdges, onFor, onNext, onSimple, dispatchTarget, dispatchTargets, selectable, orphanTargets, orphanEdges}

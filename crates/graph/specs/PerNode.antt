@@ -6,8 +6,8 @@ use mathlib.Core.Option.{Option, none, some}
 use mathlib.Core.Bool.{Bool, true, false, _||_}
 use lib.Dec.{eqb}
 use lib.ListN.{getElem?}
-use Rattle.reader.specs.Bytes.{same, pick}
-use Rattle.reader.specs.Listing.{Name, Slot}
+use Rattle.listings.specs.Bytes.{same, pick}
+use Rattle.listings.specs.Listing.{Name, Slot}
 use Rattle.graph.specs.Lists.{each, list}
 use Rattle.graph.specs.Nodes.{NodeStmt, Node, Entries}
 use Rattle.graph.specs.Targets.{orphanEdges}

@@ -3,8 +3,8 @@ use Prim.Native.Nat.{ℕ, zero, suc}
 use mathlib.Core.List.{List, [], _∷_, _++_}
 use mathlib.Core.Option.{Option}
 use lib.ListN.{length, getD}
-use Rattle.reader.specs.Bytes.{bytes, decimal}
-use Rattle.reader.specs.Listing.{Listing}
+use Rattle.listings.specs.Bytes.{bytes, decimal}
+use Rattle.listings.specs.Listing.{Listing}
 use Rattle.graph.specs.Lists.{each, list, below}
 use Rattle.graph.specs.Nodes.{Node}
 use Rattle.graph.specs.Graph.{Wired, wire, allSuccessors, predecessorsIn, returnTargets, continuation}

@@ -5,9 +5,9 @@ use mathlib.Core.Option.{Option, none, some}
 use mathlib.Core.Bool.{Bool, true, false, _&&_}
 use lib.Dec.{eqb, ltb, leb}
 use lib.ListN.{length, getElem?}
-use Rattle.reader.specs.Bytes.{same, pick}
-use Rattle.reader.specs.Listing.{Name, Simple, Listing}
-use Rattle.reader.specs.Rows.{isName}
+use Rattle.listings.specs.Bytes.{same, pick}
+use Rattle.listings.specs.Listing.{Name, Simple, Listing}
+use Rattle.listings.specs.Rows.{isName}
 use Rattle.graph.specs.Lists.{has, keep}
 use Rattle.graph.specs.Nodes.{NodeStmt, simple, cond, Node, nodes, entries, entryOf}
 use Rattle.graph.specs.NodeRecords.{stmtWord}

@@ -10,7 +10,7 @@ use lib.Dec.{T}
 use lib.ListN.{length, getElem?}
 use Rattle.graph.specs.Lists.{each, list, below, ascending}
 use Rattle.graph.specs.Members.{Ascending, mem-each, each-mem, mem-below, ascending-asc, ascending-mem, mem-ascending, past}
-use Rattle.reader.specs.Listing.{Listing}
+use Rattle.listings.specs.Listing.{Listing}
 use Rattle.graph.specs.Nodes.{Node}
 use Rattle.graph.specs.Reach.{Reach, here, on, Reach·join, reaches, reaches-exact}
 use Rattle.graph.specs.Graph.{roleOf, Role, call, returns, forgets, steps, noNode, Wired, wire, role, fallFrom, base, continuationBy, continuation, calleesBy, callees, skipStepsBy, skipSteps, someReaches, returnFrom, regionReturnEdges, returnTargets, returnEdges, successorsBy, successorsIn, successors}

@@ -5,7 +5,7 @@ use mathlib.Core.List.{List, [], _∷_, _++_, map}
 use mathlib.Core.Bool.{Bool, true, false}
 use mathlib.Core.Option.{Option, none, some}
 use lib.ListN.{getElem?}
-use Rattle.reader.specs.Listing.{Listing}
+use Rattle.listings.specs.Listing.{Listing}
 use Rattle.graph.specs.Lists.{list}
 use Rattle.graph.specs.Nodes.{Entries}
 use Rattle.graph.specs.Graph.{Role, call, returns, forgets, steps, noNode, Wired, wire, role, fallFrom, base, continuation, calleesBy}

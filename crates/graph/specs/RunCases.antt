@@ -4,8 +4,8 @@ use Prim.Native.String.{String}
 use mathlib.Core.List.{List, [], _∷_, map}
 use mathlib.Core.Bool.{Bool, true, false, _&&_}
 use lib.Dec.{T}
-use Rattle.reader.specs.Bytes.{bytes, same}
-use Rattle.reader.specs.Read.{Answer, listing, refusal, read}
+use Rattle.listings.specs.Bytes.{bytes, same}
+use Rattle.listings.specs.Read.{Answer, listing, refusal, read}
 use Rattle.graph.specs.Run.{State, run}
 use Rattle.graph.specs.Opened.{opened}
 

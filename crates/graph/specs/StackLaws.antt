@@ -10,9 +10,9 @@ use native.Mathlib.Nat.{le-refl, le-step, le-trans}
 use lib.Dec.{eqb}
 use lib.ListN.{length, getElem?}
 use borrow.Author.Tests.{ne-eqb, eq-eqb, eqb-false}
-use Rattle.reader.specs.Bytes.{pick}
+use Rattle.listings.specs.Bytes.{pick}
 use Rattle.graph.specs.Lists.{list}
-use Rattle.reader.specs.Every.{All, all[], all∷}
+use Rattle.listings.specs.Every.{All, all[], all∷}
 use Rattle.graph.specs.Members.{all-map, all-at}
 use Rattle.graph.specs.Edges.{Frame, Move, stays, opens, closes, joins, nodeMoves, framesAfter, Stack, loopStack, doStack, jumpsOr, sent, Edge, toFall, ends}
 use Rattle.graph.specs.PerNode.{Met, nothing, closing, joining, meets, openersAfter, Fact, moveOn, metOn, isClosing, isJoining, fallsWhere, someWhere, closerFall, doifFalls, late}

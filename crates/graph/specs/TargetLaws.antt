@@ -1,6 +1,6 @@
 -- What holds of a FOR's part and of the rest holds of every statement's. Assumes nothing.
 use mathlib.Core.List.{List}
-use Rattle.reader.specs.Listing.{Name, Tier, Mark, Slot, Simple, goto, gosub, return, run, runto, ongoto, ongosub, for, next, repeat, loop, until, endloop, exit, exitif, doif, else, done, clr, stop, any}
+use Rattle.listings.specs.Listing.{Name, Tier, Mark, Slot, Simple, goto, gosub, return, run, runto, ongoto, ongosub, for, next, repeat, loop, until, endloop, exit, exitif, doif, else, done, clr, stop, any}
 use Rattle.graph.specs.Nodes.{NodeStmt, simple, cond}
 use Rattle.graph.specs.Targets.{onFor, onNext, onSimple}
 

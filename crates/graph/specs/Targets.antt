@@ -2,8 +2,8 @@
 use Prim.Native.Nat.{ℕ}
 use mathlib.Core.List.{List, [], _∷_, map}
 use mathlib.Core.Option.{Option, none, some}
-use Rattle.reader.specs.Bytes.{same, pick}
-use Rattle.reader.specs.Listing.{Name, Tier, static, framed, dispatched, Mark, orphan, Slot, Simple, goto, gosub, return, run, runto, ongoto, ongosub, for, next, repeat, loop, until, endloop, exit, exitif, doif, else, done, clr, stop, any}
+use Rattle.listings.specs.Bytes.{same, pick}
+use Rattle.listings.specs.Listing.{Name, Tier, static, framed, dispatched, Mark, orphan, Slot, Simple, goto, gosub, return, run, runto, ongoto, ongosub, for, next, repeat, loop, until, endloop, exit, exitif, doif, else, done, clr, stop, any}
 use Rattle.graph.specs.Lists.{each, list}
 use Rattle.graph.specs.Nodes.{BranchTarget, toLine, toNode, falls, NodeStmt, simple, cond, Node, Entries, entryOf}
 

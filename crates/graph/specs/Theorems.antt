@@ -6,10 +6,10 @@ use mathlib.Core.Bool.{false}
 use mathlib.Core.List.{List, []}
 use mathlib.Core.Option.{some}
 use lib.ListN.{getElem?}
-use Rattle.reader.specs.Listing.{Listing}
-use Rattle.reader.specs.ListingText.{InForm, listingText}
-use Rattle.reader.specs.Read.{listing, read}
-use Rattle.reader.specs.RoundTrip.{in-form-accepted, accepted-in-form}
+use Rattle.listings.specs.Listing.{Listing}
+use Rattle.listings.specs.ListingText.{InForm, listingText}
+use Rattle.listings.specs.Read.{listing, read}
+use Rattle.listings.specs.RoundTrip.{in-form-accepted, accepted-in-form}
 use Rattle.graph.specs.Lists.{addAll}
 use Rattle.graph.specs.Nodes.{nodes, entries}
 use Rattle.graph.specs.Targets.{dispatchTargets}

@@ -2,7 +2,7 @@
 use mathlib.Core.List.{List, [], _∷_}
 use mathlib.Core.Option.{none, some}
 use lib.Dec.{T}
-use Rattle.reader.specs.Bytes.{bytes}
+use Rattle.listings.specs.Bytes.{bytes}
 use Rattle.graph.specs.CaseTable.{lists-are, list-is, continuation-is, Case, claims, allRight, one, opened}
 
 cases : List Case

@@ -1,2 +1,4 @@
+pub mod PrintedTables
+pub mod PrintLaws
 pub mod ListGraph
 pub mod Limits

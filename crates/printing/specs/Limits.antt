@@ -6,9 +6,9 @@ use native.Mathlib.Omega.{arith}
 use lib.ListN.{length}
 use lib.Seq.{length-sets}
 use Rattle.graph.specs.Build.{limits}
-use Rattle.wiring.specs.Room.{stmtRoom}
+use Rattle.passes.specs.Room.{stmtRoom}
 use Rattle.wiring.specs.GraphTables.{Sizes, capacity}
-use Rattle.wiring.specs.Printing.{Puts}
+use Rattle.formatting.specs.Printing.{Puts}
 
 numbers-at-limits : (l t a e f k i r u p : ℕ) → 1024 ≡ l → 49152 ≡ t → 262144 ≡ a → 1024 ≡ e → 12288 ≡ f → 262144 ≡ k → 16384 ≡ i → 4096 ≡ r
     → 32768 ≡ u → 32768 ≡ p

@@ -1,19 +1,20 @@
 -- A text's graph in the lent tables and on the page: what `list_graph` promises, and how it follows from what `build` and the printing promise. Assumes nothing.
-use Prim.Native.Nat.{ℕ, _≤_}
-use mathlib.Core.Path.{_≡_, refl, sym, ap, subst, _∙_}
+use Prim.Native.Nat.{ℕ}
+use mathlib.Core.Path.{_≡_, sym, ap, subst, _∙_}
 use mathlib.Core.List.{List}
 use native.Mathlib.Nat.{le-min}
-use lib.ListN.{length, getD}
-use Rattle.reader.specs.Listing.{Listing}
-use Rattle.reader.specs.Records.{padded}
-use Rattle.reader.specs.Read.{read}
+use lib.ListN.{getD}
+use Rattle.listings.specs.Listing.{Listing}
+use Rattle.listings.specs.Records.{padded}
+use Rattle.listings.specs.Read.{read}
 use Rattle.graph.specs.Theorems.{accepted}
-use Rattle.graph.specs.Print.{printed, printedRefusal}
-use Rattle.graph.specs.Build.{Built, graph, refused, build, builtOf, written}
-use Rattle.wiring.specs.Room.{fits-room}
+use Rattle.graph.specs.Print.{printedRefusal}
+use Rattle.graph.specs.Build.{Built, graph, build, builtOf, written}
+use Rattle.passes.specs.Room.{fits-room}
 use Rattle.wiring.specs.GraphTables.{Sizes, capacity, Answered, countTable, tableOf}
-use Rattle.wiring.specs.Printing.{Puts, puts-is}
-use Rattle.wiring.specs.GraphHeld.{GraphHeld, SomeGraph, GraphPrinted}
+use Rattle.formatting.specs.Printing.{Puts, puts-is}
+use Rattle.passes.specs.GraphHeld.{GraphHeld}
+use Rattle.printing.specs.PrintedTables.{SomeGraph, GraphPrinted}
 use Rattle.wiring.specs.DemandLaws.{fitted-graph, graph-held}
 use Rattle.wiring.specs.Demands.{Tables, ListingOf, LongEnough, demands}
 use Rattle.wiring.specs.declared.build.Built.{Built as BuiltAnswer}

@@ -1,5 +1,4 @@
-// The printed graph and the printed refusal, as the program `flowlist` writes them.
+// The printed graph, as the program `flowlist` writes them.
 pub mod list;
 pub mod print;
 pub mod print_nodes;
-pub mod print_numbers;

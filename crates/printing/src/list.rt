@@ -1,10 +1,10 @@
 // A text's graph, printed.
 use crate::print::print_graph;
-use crate::print::put_refusal;
+use formatting::print_rows::put_refusal;
 use wiring::build::Built;
 use wiring::build::build;
 ghost use Rattle.wiring.specs.GraphTables.{sizesOf};
-ghost use Rattle.wiring.specs.GraphHeld.{SomeGraph, GraphPrinted};
+ghost use Rattle.printing.specs.PrintedTables.{SomeGraph, GraphPrinted};
 ghost use Rattle.printing.specs.ListGraph.{GraphListed};
 
 // Prints the graph that the tables hold, with the counts as their table has them.

@@ -1,26 +1,17 @@
 // The printed graph and the printed refusal, into a lent part. Bytes that do not fit are dropped; each routine answers where the next byte would go.
 use crate::print_nodes::put_nodes;
-use crate::print_numbers::put_bytes;
-use crate::print_numbers::put_pair;
-use crate::print_numbers::put_spaced;
+use formatting::print_numbers::put_bytes;
+use formatting::print_numbers::put_pair;
+use formatting::print_numbers::put_spaced;
+use formatting::print_rows::put_pair_row;
 use reader::tables::STMT_ENTRIES;
-use wiring::calls::is_call;
-use wiring::widths::wide;
+use tables::calls::is_call;
+use tables::widths::wide;
 ghost use Prim.Native.Nat.{_+_, _*_, _<_, _≤_};
 ghost use lib.ListN.{length, take};
 ghost use Rattle.graph.specs.Lists.{each, below};
-ghost use Rattle.graph.specs.Print.{printedRefusal};
-ghost use Rattle.wiring.specs.Printing.{Puts};
-ghost use Rattle.wiring.specs.GraphHeld.{SomeGraph, GraphPrinted};
-ghost use Rattle.wiring.specs.PrintedTables.{pairText, someText, entryText, backText, returnsText};
-
-// A row of a word and two numbers.
-fn put_pair_row(out: &mut [u8], at: usize, word: &[u8], a: usize, b: usize) -> usize
-    ensures { λ r. ⌜ Puts (now (out .entry)) at (now (out .exit)) r (pairText (now (word .entry)) a b) ⌝ }
-{
-    let r = put_pair(out, at, word, a, b);
-    put_bytes(out, r, b")\n")
-}
+ghost use Rattle.formatting.specs.Printing.{Puts};
+ghost use Rattle.printing.specs.PrintedTables.{SomeGraph, GraphPrinted, someText, entryText, backText, returnsText};
 
 // The row of a number with a node, one more than its id, or nothing where it is 0.
 fn put_some(out: &mut [u8], at: usize, word: &[u8], a: usize, e: u16) -> usize
@@ -114,11 +105,4 @@ pub(crate) fn print_graph(
     let r = put_returns(out, r, returns, targets);
     let r = put_backs(out, r, stmts, falls, n);
     put_bytes(out, r, b")\n")
-}
-
-// "A refusal prints only" its number and place.
-pub fn put_refusal(out: &mut [u8], at: usize, number: usize, place: usize) -> usize
-    ensures { λ r. ⌜ Puts (now (out .entry)) at (now (out .exit)) r (printedRefusal number place) ⌝ }
-{
-    put_pair_row(out, at, b"(refused", number, place)
 }

@@ -1,22 +1,22 @@
 // The rows of the nodes, read off the tables.
-use crate::print_numbers::put_bytes;
-use crate::print_numbers::put_decimal;
-use crate::print_numbers::put_number;
-use crate::print_numbers::put_pair;
-use crate::print_numbers::put_spaced;
+use formatting::print_numbers::put_bytes;
+use formatting::print_numbers::put_decimal;
+use formatting::print_numbers::put_number;
+use formatting::print_numbers::put_pair;
+use formatting::print_numbers::put_spaced;
 use reader::tables::HOLDER;
 use reader::tables::INDEX;
 use reader::tables::LINE;
 use reader::tables::STMT_ENTRIES;
-use wiring::widths::wide;
+use tables::widths::wide;
 ghost use mathlib.Core.List.{_++_};
 ghost use Prim.Native.Nat.{_+_, _*_, _<_, _≤_};
 ghost use lib.ListN.{length, take, drop};
 ghost use Rattle.graph.specs.Lists.{each, below};
 ghost use Rattle.graph.specs.Print.{spaced, joined};
-ghost use Rattle.wiring.specs.EdgeTable.{succStart, succCount, predStart, predCount};
-ghost use Rattle.wiring.specs.Printing.{Puts};
-ghost use Rattle.wiring.specs.PrintedTables.{Holders, pathIn, headText, listsText, succPart, predPart, NodesReadable, nodeText};
+ghost use Rattle.tables.specs.Columns.{succStart, succCount, predStart, predCount, Holders, pathIn, succPart, predPart, NodesReadable};
+ghost use Rattle.formatting.specs.Printing.{Puts};
+ghost use Rattle.printing.specs.PrintedTables.{headText, listsText, nodeText};
 
 // "depth 16 is accepted": so many IFs can hold a statement.
 const DEPTH: usize = 16;

@@ -2,23 +2,22 @@
 use Prim.Native.Nat.{ℕ, _+_, _*_, _≤_, _<_}
 use mathlib.Core.Path.{_≡_, refl, sym, ap, subst, _∙_}
 use mathlib.Core.List.{List, []}
-use mathlib.Core.Bool.{Bool, true, false, _&&_, and-false}
+use mathlib.Core.Bool.{Bool, true, false, and-false}
 use mathlib.Core.Option.{Option, none, some}
 use native.Mathlib.Omega.{arith}
 use borrow.Author.Tests.{le-ltb, ltb-true}
 use lib.Dec.{eqb, ltb}
 use lib.ListN.{length, getD, getElem?}
-use Rattle.reader.specs.Bytes.{same, bytes, pick}
-use Rattle.reader.specs.Listing.{Name, Tier, Simple, goto, gosub, return, run, runto, ongoto, ongosub, for, next, repeat, loop, until, endloop, exit, exitif, doif, else, done, clr, stop, any, if, ifelse, rcomp, Listing, total, count}
-use Rattle.reader.specs.ListingText.{simpleWord, condWord, SimpleOk, InForm}
-use Rattle.reader.specs.Rows.{isName, openingWords}
-use Rattle.reader.specs.Records.{nameKey, argsOf, lineRecs, argRow, argRows, padded}
+use Rattle.listings.specs.Bytes.{same, bytes, pick}
+use Rattle.listings.specs.Listing.{Name, Tier, Simple, goto, gosub, return, run, runto, ongoto, ongosub, for, next, repeat, loop, until, endloop, exit, exitif, doif, else, done, clr, stop, any, if, ifelse, rcomp, Listing, total, count}
+use Rattle.listings.specs.ListingText.{simpleWord, condWord, SimpleOk, InForm}
+use Rattle.listings.specs.Rows.{isName, openingWords}
+use Rattle.listings.specs.Records.{nameKey, argsOf, lineRecs, argRow, argRows, padded}
 use Rattle.reader.specs.ReadBack.{lines-wide}
-use Rattle.reader.specs.Scan.{same-sym}
+use Rattle.listings.specs.Scan.{same-sym}
 use Rattle.reader.specs.Tables.{padded-length, joined-length}
-use Rattle.reader.specs.WordTable.{words, first, wordIndex}
-use Rattle.reader.specs.ReadingRecords.{lines-length}
-use Rattle.graph.specs.Build.{graph}
+use Rattle.listings.specs.WordTable.{words, first, wordIndex}
+use Rattle.listings.specs.ReadingRecords.{lines-length}
 use Rattle.graph.specs.Graph.{Role, returnTargets, stmtRole, simpleRole, roleOf, role, fallOf, fallFrom, wire, continuation, successors}
 use Rattle.graph.specs.GraphLaws.{nodeCount, fall-below}
 use Rattle.graph.specs.NodeLaws.{Below}
@@ -27,25 +26,24 @@ use Rattle.graph.specs.Nodes.{NodeStmt, simple, cond, Node, nodes, nodesBefore}
 use Rattle.graph.specs.Targets.{onFor, onNext, onSimple}
 use Rattle.wiring.specs.DemandLaws.{graph-held, nodes-total, held-succ, held-continuation}
 use Rattle.wiring.specs.Demands.{Tables, Written, LongEnough}
-use Rattle.wiring.specs.EdgeTable.{succStart, succCount}
-use Rattle.wiring.specs.GraphHeld.{GraphHeld}
+use Rattle.tables.specs.Columns.{succStart, succCount, callWord, wordOf, fallEntry, succPart}
+use Rattle.passes.specs.GraphHeld.{GraphHeld}
 use Rattle.wiring.specs.GraphTables.{Sizes, answerOf, tableOf, countTable, argTable}
-use Rattle.wiring.specs.HoldsListing.{HoldsListing, holds-listed}
-use Rattle.wiring.specs.ListedNodes.{SimpleListed, StmtListed, Listed, key-same}
-use Rattle.wiring.specs.OpenerLaws.{some-at}
-use Rattle.wiring.specs.Prepared.{callWord, wordOf, fallEntry}
-use Rattle.wiring.specs.PrintLaws.{nodes-readable}
-use Rattle.wiring.specs.PrintedTables.{succPart}
-use Rattle.wiring.specs.ReturnTargets.{continuationEntry}
-use Rattle.wiring.specs.TableReads.{fall-of}
-use Rattle.wiring.specs.LateLaws.{number-below}
+use Rattle.passes.specs.HoldsListing.{HoldsListing, holds-listed}
+use Rattle.passes.specs.ListedNodes.{SimpleListed, StmtListed, Listed, key-same}
+use Rattle.passes.specs.OpenerLaws.{some-at}
+use Rattle.passes.specs.GraphReads.{nodes-readable}
+use Rattle.passes.specs.ReturnTargets.{continuationEntry}
+use Rattle.passes.specs.TableReads.{fall-of}
+use Rattle.passes.specs.LateLaws.{number-below}
 use Rattle.wiring.specs.declared.build.Built.the-variants as built
 use Rattle.graph.specs.Questions.{refused, kept, frameSimple, frameBy, frameOf, frameList, ifNode, ifRoom, askFrame}
-use Rattle.questions.specs.FrameAt.{forgetsWord, endsFrame, keepsShared, frameRead, shortTables, partOutside, fallOutside, frameOutside, frameIn, frameAt, FrameTold}
-use Rattle.questions.specs.FrameChecks.{answer-as}
-use Rattle.questions.specs.StatementAt.{noStatement, unlessRefused}
+use Rattle.frame_lists.specs.FrameAt.{forgetsWord, endsFrame, keepsShared, frameRead, shortTables, partOutside, fallOutside, frameOutside, frameIn, frameAt}
+use Rattle.frame_slices.specs.Told.{FrameTold}
+use Rattle.frame_lists.specs.FrameChecks.{answer-as}
+use Rattle.statements.specs.StatementAt.{noStatement, unlessRefused}
 use Rattle.questions.specs.PathAnswers.{stated, recorded-by}
-use Rattle.questions.specs.declared.frame.Framed.{Framed}
+use Rattle.frame_slices.specs.declared.slices.Framed.{Framed}
 
 -- ---- by the number of the opening word
 

@@ -1,16 +1,6 @@
-pub mod FrameAt
-pub mod FrameLaws
-pub mod ListsAt
-pub mod ListsAtLaws
-pub mod EntryAt
-pub mod EntryAtLaws
 pub mod TableAnswers
-pub mod StatementAt
-pub mod StatementLaws
 pub mod PathNodes
 pub mod Words
 pub mod PathAnswers
 pub mod StatementAnswers
-pub mod FrameSlice
-pub mod FrameChecks
 pub mod FrameBuilt

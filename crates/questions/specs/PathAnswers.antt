@@ -9,23 +9,22 @@ use native.Mathlib.Omega.{arith}
 use borrow.Author.Tests.{eq-eqb, eqb-true, lt-ltb, le-ltb}
 use lib.Dec.{eqb}
 use lib.ListN.{length, getD, getElem?, length-append}
-use Rattle.reader.specs.Bytes.{same, pick}
-use Rattle.reader.specs.WordText.{same-equal}
-use Rattle.reader.specs.Listing.{Lines}
-use Rattle.reader.specs.ListingText.{LinesOk}
-use Rattle.reader.specs.Records.{lineNumbers, lineRecs, recRows}
+use Rattle.listings.specs.Bytes.{same, pick}
+use Rattle.listings.specs.WordText.{same-equal}
+use Rattle.listings.specs.Listing.{Lines}
+use Rattle.listings.specs.ListingText.{LinesOk}
+use Rattle.listings.specs.Records.{lineNumbers, lineRecs, recRows}
 use Rattle.graph.specs.Nodes.{Node, nodesBefore}
 use Rattle.graph.specs.NodeRecords.{stmtWord, stmtNumber}
-use Rattle.wiring.specs.Compare.{eq-or, lt-or}
-use Rattle.wiring.specs.LineEntries.{at-place}
-use Rattle.wiring.specs.OpenerLaws.{in-range}
-use Rattle.wiring.specs.Paths.{node-read}
-use Rattle.wiring.specs.Prepared.{wordOf}
-use Rattle.wiring.specs.PrintedTables.{holderOf, indexOf, lineOf, heldBy, pathIn}
-use Rattle.wiring.specs.ListedNodes.{same-self}
+use Rattle.passes.specs.Compare.{eq-or, lt-or}
+use Rattle.passes.specs.LineEntries.{at-place}
+use Rattle.passes.specs.OpenerLaws.{in-range}
+use Rattle.passes.specs.Paths.{node-read}
+use Rattle.tables.specs.Columns.{wordOf, holderOf, indexOf, lineOf, heldBy, pathIn}
+use Rattle.passes.specs.ListedNodes.{same-self}
 use Rattle.graph.specs.Questions.{nodeFrom}
-use Rattle.questions.specs.StatementAt.{branchingWord, standsAt, firstFrom, childAt, ifFound, nodeAt, climb, noStatement}
-use Rattle.questions.specs.StatementLaws.{other-holder, other-index, under-if, on-line, node-snoc}
+use Rattle.statements.specs.StatementAt.{branchingWord, standsAt, firstFrom, childAt, ifFound, nodeAt, climb, noStatement}
+use Rattle.statements.specs.StatementLaws.{other-holder, other-index, under-if, on-line, node-snoc}
 use Rattle.questions.specs.PathNodes.{HeldBy, onLine, inIf, one-node, node-held}
 use Rattle.questions.specs.Words.{word-low, branching-word}
 

@@ -7,14 +7,14 @@ use native.Mathlib.Omega.{arith}
 use native.Mathlib.Nat.{add-zero}
 use lib.ListN.{length, getD, getElem?, length-append}
 use lib.Seq.{getD-at}
-use Rattle.reader.specs.Every.{All, all[], all∷, all-append}
-use Rattle.reader.specs.Listing.{Stmts, ∅, _▸_, branching, Lines, nolines, line, size, len, total, count}
-use Rattle.reader.specs.Records.{Rec, simpleRec, condRec, stmtRecs, lineRecs, recRow, recRows}
-use Rattle.reader.specs.RecordLaws.{rec-at}
+use Rattle.listings.specs.Every.{All, all[], all∷, all-append}
+use Rattle.listings.specs.Listing.{Stmts, ∅, _▸_, branching, Lines, nolines, line, size, len, total, count}
+use Rattle.listings.specs.Records.{Rec, simpleRec, condRec, stmtRecs, lineRecs, recRow, recRows}
+use Rattle.listings.specs.RecordLaws.{rec-at}
 use Rattle.graph.specs.Members.{all-at, all-map}
 use Rattle.graph.specs.Nodes.{NodeStmt, simple, cond, Node, allocate, lineEntry, nodesBefore}
 use Rattle.graph.specs.NodeLaws.{length-allocate, length-nodes}
-use Rattle.wiring.specs.PrintedTables.{holderOf, indexOf}
+use Rattle.tables.specs.Columns.{holderOf, indexOf}
 
 -- ---- no two nodes stand at one path
 

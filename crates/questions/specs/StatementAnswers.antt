@@ -7,21 +7,21 @@ use mathlib.Core.Option.{Option, none, some}
 use native.Mathlib.Omega.{arith}
 use borrow.Author.Tests.{lt-ltb, le-ltb}
 use lib.ListN.{length, getD, getElem?, replicate, length-append, length-replicate}
-use Rattle.reader.specs.Listing.{Listing}
-use Rattle.reader.specs.WordTable.{wordIndex}
-use Rattle.reader.specs.Records.{lineRecs, recRows, padded}
+use Rattle.listings.specs.Listing.{Listing}
+use Rattle.listings.specs.WordTable.{wordIndex}
+use Rattle.listings.specs.Records.{lineRecs, recRows, padded}
 use Rattle.graph.specs.Nodes.{Node, nodes, nodesBefore}
 use Rattle.graph.specs.NodeLaws.{length-nodes}
 use Rattle.graph.specs.NodeRecords.{stmtNumber}
 use Rattle.graph.specs.Graph.{wire}
-use Rattle.wiring.specs.Compare.{lt-or}
-use Rattle.wiring.specs.LineEntries.{at-place}
-use Rattle.wiring.specs.Prepared.{wordOf}
+use Rattle.passes.specs.Compare.{lt-or}
+use Rattle.passes.specs.LineEntries.{at-place}
+use Rattle.tables.specs.Columns.{wordOf}
 use Rattle.wiring.specs.GraphTables.{Sizes, lineTable, stmtTable}
 use Rattle.wiring.specs.Demands.{Tables, BuildWrote, ListingOf, LongEnough, Written, NodeWritten, Demand2, demands}
 use Rattle.wiring.specs.declared.build.Built.{Built as BuiltAnswer}
 use Rattle.graph.specs.Questions.{Reply, answer, refused, nodeFrom, statementOf, askStatement, foundOr, askPath}
-use Rattle.questions.specs.StatementAt.{ifRows, nodeAt, stmtAt, pathStatement, noStatement, unlessRefused, nodeStatement}
+use Rattle.statements.specs.StatementAt.{ifRows, nodeAt, stmtAt, pathStatement, noStatement, unlessRefused, nodeStatement}
 use Rattle.questions.specs.PathAnswers.{Stands, Sought, found, missing, sought, Recorded, leads-back, stands-there, stated, recorded-by}
 use Rattle.questions.specs.Words.{word-low}
 

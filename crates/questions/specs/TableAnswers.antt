@@ -7,32 +7,26 @@ use native.Mathlib.Omega.{arith}
 use native.Mathlib.Decide.{decLt}
 use borrow.Author.Tests.{lt-ltb, le-ltb, le-leb}
 use lib.ListN.{length, getD, take, drop}
-use Rattle.reader.specs.Listing.{Listing, total, count}
-use Rattle.reader.specs.ListingText.{InForm}
-use Rattle.reader.specs.Records.{padded}
+use Rattle.listings.specs.Listing.{Listing, total, count}
+use Rattle.listings.specs.ListingText.{InForm}
+use Rattle.listings.specs.Records.{padded}
 use Rattle.graph.specs.Nodes.{entryOf}
 use Rattle.graph.specs.NodeLaws.{Below, entry-fits}
 use Rattle.graph.specs.Graph.{wire, successors, predecessors, returnTargets}
 use Rattle.graph.specs.GraphLaws.{nodeCount, entry-ids}
 use Rattle.graph.specs.Build.{graph}
-use Rattle.wiring.specs.EdgeTable.{succStart, succCount, predStart, predCount}
-use Rattle.wiring.specs.PrintedTables.{NodesReadable}
+use Rattle.tables.specs.Columns.{succStart, succCount, predStart, predCount, NodesReadable, entriesIn}
 use Rattle.wiring.specs.GraphTables.{Sizes, Answered, answerOf, tableOf, countTable}
-use Rattle.wiring.specs.GraphHeld.{GraphHeld}
-use Rattle.wiring.specs.PrintLaws.{nodes-readable}
-use Rattle.wiring.specs.DemandLaws.{entriesIn, graph-held, nodes-total, held-entries, held-succ, held-pred}
+use Rattle.passes.specs.GraphHeld.{GraphHeld}
+use Rattle.passes.specs.GraphReads.{nodes-readable}
+use Rattle.wiring.specs.DemandLaws.{graph-held, nodes-total, held-entries, held-succ, held-pred}
 use Rattle.wiring.specs.Demands.{Tables, Written, LongEnough, ListingOf, BuildWrote, demands}
 use Rattle.wiring.specs.declared.build.Built.{Built as BuiltAnswer}
 use Rattle.wiring.specs.declared.build.Built.the-variants as built
-use Rattle.graph.specs.Questions.{Reply, answer, refused, ifNode, askSuccessors, askPredecessors, askEntry}
-use Rattle.questions.specs.ListsAt.{listAt, successorsAt, predecessorsAt, partOf}
-use Rattle.questions.specs.ListsAtLaws.{no-node, list-found}
-use Rattle.questions.specs.EntryAt.{nodeIn, entryAt}
-
--- an answered part as the list that stands there
-unfoldable pub listReply : Reply (ℕ × ℕ) → List ℕ → Reply (List ℕ)
-listReply (answer d) table = answer (take (d .1) (drop (d .0) table))
-listReply (refused n p) table = refused n p
+use Rattle.graph.specs.Questions.{Reply, answer, ifNode, askSuccessors, askPredecessors, askEntry}
+use Rattle.adjacency.specs.ListsAt.{listAt, successorsAt, predecessorsAt, partOf, listReply}
+use Rattle.adjacency.specs.ListsAtLaws.{no-node, list-found}
+use Rattle.adjacency.specs.EntryAt.{nodeIn, entryAt}
 
 -- the answers, by the tables, are those of the listing's graph
 pub record AnswersOf (L : Listing) (T : Tables) : Type 0 where

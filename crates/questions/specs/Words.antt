@@ -3,16 +3,16 @@ use Prim.Native.Nat.{_≤_}
 use mathlib.Core.Path.{_≡_, refl}
 use mathlib.Core.Bool.{true}
 use native.Mathlib.Omega.{arith}
-use Rattle.reader.specs.Bytes.{same, bytes}
-use Rattle.reader.specs.Listing.{Simple, goto, gosub, return, run, runto, ongoto, ongosub, for, next, repeat, loop, until, endloop, exit, exitif, doif, else, done, clr, stop, any, CondWord, if, ifelse, rcomp}
-use Rattle.reader.specs.ListingText.{condWord}
-use Rattle.reader.specs.Rows.{openingWords}
-use Rattle.reader.specs.WordTable.{words, first, wordIndex}
+use Rattle.listings.specs.Bytes.{same, bytes}
+use Rattle.listings.specs.Listing.{Simple, goto, gosub, return, run, runto, ongoto, ongosub, for, next, repeat, loop, until, endloop, exit, exitif, doif, else, done, clr, stop, any, CondWord, if, ifelse, rcomp}
+use Rattle.listings.specs.ListingText.{condWord}
+use Rattle.listings.specs.Rows.{openingWords}
+use Rattle.listings.specs.WordTable.{words, first, wordIndex}
 use Rattle.reader.specs.CodedRows.{wordNumber, condNumber}
 use Rattle.reader.specs.FillLaws.{word-number, cond-number}
 use Rattle.graph.specs.Nodes.{NodeStmt, simple, cond}
 use Rattle.graph.specs.NodeRecords.{stmtWord, stmtNumber}
-use Rattle.questions.specs.StatementAt.{branchingWord}
+use Rattle.statements.specs.StatementAt.{branchingWord}
 use Rattle.questions.specs.PathNodes.{Branches}
 
 simple-low : (o : Simple) → wordNumber o ≤ 27

@@ -1,5 +1,1 @@
-// The questions that a compiler asks of the tables of a graph.
-pub mod entry;
-pub mod frame;
-pub mod statement;
-pub mod successors;
+// That the questions, asked of tables that a build wrote, have the definition's answers: laws in specs/; the code stands in adjacency, statements and frame_lists.

@@ -9,15 +9,15 @@ use native.Mathlib.Decide.{decLt}
 use lib.Dec.{eqb, ltb, leb}
 use lib.ListN.{length, getD, take, drop}
 use borrow.Author.Tests.{ne-eqb, eqb-true, eqb-false}
-use Rattle.reader.specs.Bytes.{same, pick}
-use Rattle.reader.specs.Rows.{split, areWords, formRow, rowOf, openingWords, lookup, Parse, malformed, invalid, parsed, single, handlerFacts, moduleBy, moduleContent, contentOf}
-use Rattle.reader.specs.WordTable.{forms, wordIndex, kindAt, kind-none}
-use Rattle.reader.specs.WordSlots.{candidateOf, own-candidate}
-use Rattle.reader.specs.Scan.{indexOf, after}
-use Rattle.reader.specs.Arguments.{argCheck, checkKind}
+use Rattle.listings.specs.Bytes.{same, pick}
+use Rattle.listings.specs.Rows.{split, areWords, formRow, rowOf, openingWords, lookup, Parse, malformed, invalid, parsed, single, handlerFacts, moduleBy, moduleContent, contentOf}
+use Rattle.listings.specs.WordTable.{forms, wordIndex, kindAt, kind-none}
+use Rattle.listings.specs.WordSlots.{candidateOf, own-candidate}
+use Rattle.listings.specs.Scan.{indexOf, after}
+use Rattle.tokens.specs.Arguments.{argCheck, checkKind}
 use Rattle.reader.specs.CodedRows.{asLine, asTo, asRow, simpleBy, argsRow, bareRow, form-false, form-one, form-more, row-empty, row-end, row-bad}
 use Rattle.reader.specs.Machine.{mayBranch, oneMore, stepSimple, stepRow}
-use Rattle.reader.specs.declared.arguments.ArgCheck.{ArgCheck}
+use Rattle.tokens.specs.declared.arguments.ArgCheck.{ArgCheck}
 use Rattle.reader.specs.declared.machine.State.{State}
 use Rattle.reader.specs.declared.machine.Step.the-variants.{Taken, Refused}
 use Rattle.reader.specs.declared.rows.Row.{Row}

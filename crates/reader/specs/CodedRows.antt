@@ -10,16 +10,16 @@ use lib.Dec.{eqb}
 use lib.ListN.{length, getD, take, drop, getElem?}
 use lib.Seq.{take-all}
 use borrow.Author.Tests.{eq-eqb, ne-eqb, eqb-true, eqb-false}
-use Rattle.reader.specs.Bytes.{bytes, same, pick}
-use Rattle.reader.specs.Listing.{Simple, goto, gosub, return, run, runto, ongoto, ongosub, for, next, repeat, loop, until, endloop, exit, exitif, doif, else, done, clr, stop, any, CondWord, if, ifelse, rcomp}
-use Rattle.reader.specs.Rows.{split, areWords, stripClose, Row as FormRow, close, bad, form, formRow, rowOf, Form, moduleForm, lineForm, toForm, stmtsForm, runForm, forForm, nextForm, condForm, bareForm, numberForm, numbersForm, openingWords, lookup, Parse, malformed, invalid, parsed, mapParse, withParse, parseNumbers, parseName, parseSlots, parseTier, parseMark, Counted, Content, noForm, endRow, stmtsRow, moduleRow, lineRow, toRow, simpleRow, condRow, bareStmt, single, runStmt, forStmt, nextStmt, ifNoWords, handlerFacts, moduleBy, moduleContent, formContent, wordContent, contentOf}
-use Rattle.reader.specs.WordTable.{forms, wordIndex, kind, kindOf, kindAt, content-at}
-use Rattle.reader.specs.Scan.{indexOf, split-last, split-some, after, split-alone, split-first}
-use Rattle.reader.specs.Numbers.{asNumber}
-use Rattle.reader.specs.Arguments.{severityOf, worst, argCheck, checkFor, checkNext, checkKind, severity-with, numbers-severity, slots-severity}
-use Rattle.reader.specs.declared.numbers.ParsedNumber.{ParsedNumber}
-use Rattle.reader.specs.declared.numbers.ParsedNumber.the-variants.{Malformed, Invalid, Value}
-use Rattle.reader.specs.declared.arguments.ArgCheck.{ArgCheck}
+use Rattle.listings.specs.Bytes.{bytes, same, pick}
+use Rattle.listings.specs.Listing.{Simple, goto, gosub, return, run, runto, ongoto, ongosub, for, next, repeat, loop, until, endloop, exit, exitif, doif, else, done, clr, stop, any, CondWord, if, ifelse, rcomp}
+use Rattle.listings.specs.Rows.{split, areWords, stripClose, Row as FormRow, close, bad, form, formRow, rowOf, Form, moduleForm, lineForm, toForm, stmtsForm, runForm, forForm, nextForm, condForm, bareForm, numberForm, numbersForm, openingWords, lookup, Parse, malformed, invalid, parsed, mapParse, withParse, parseNumbers, parseName, parseSlots, parseTier, parseMark, Counted, Content, noForm, endRow, stmtsRow, moduleRow, lineRow, toRow, simpleRow, condRow, bareStmt, single, runStmt, forStmt, nextStmt, ifNoWords, handlerFacts, moduleBy, moduleContent, formContent, wordContent, contentOf}
+use Rattle.listings.specs.WordTable.{forms, wordIndex, kind, kindOf, kindAt, content-at}
+use Rattle.listings.specs.Scan.{indexOf, split-last, split-some, after, split-alone, split-first}
+use Rattle.tokens.specs.Numbers.{asNumber}
+use Rattle.tokens.specs.Arguments.{severityOf, worst, argCheck, checkFor, checkNext, checkKind, severity-with, numbers-severity, slots-severity}
+use Rattle.tokens.specs.declared.numbers.ParsedNumber.{ParsedNumber}
+use Rattle.tokens.specs.declared.numbers.ParsedNumber.the-variants.{Malformed, Invalid, Value}
+use Rattle.tokens.specs.declared.arguments.ArgCheck.{ArgCheck}
 use Rattle.reader.specs.declared.rows.Row.{Row}
 use Rattle.reader.specs.declared.rows.Row.the-variants as row
 

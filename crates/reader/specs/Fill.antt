@@ -5,8 +5,8 @@ use mathlib.Core.List.{List, _++_}
 use Prim.Native.Nat.{ℕ, _+_, _*_, _-_, _%_, _≤_, _<_}
 use lib.Dec.{eqb}
 use lib.ListN.{length, take, drop, set, getD}
-use Rattle.reader.specs.Bytes.{pick}
-use Rattle.reader.specs.Rows.{split}
+use Rattle.listings.specs.Bytes.{pick}
+use Rattle.listings.specs.Rows.{split}
 use Rattle.reader.specs.Tables.{appendRow}
 use Rattle.reader.specs.AcceptedRows.{uncounted}
 use Rattle.reader.specs.Operands.{openingWord, rowEntries, rowDetail, inside}

@@ -9,17 +9,17 @@ use lib.Dec.{eqb, leb, ltb}
 use lib.ListN.{length, set, getD}
 use lib.Seq.{getD-append-seam}
 use borrow.Author.Tests.{eq-eqb, ne-eqb, leb-true}
-use Rattle.reader.specs.Bytes.{bytes, same}
-use Rattle.reader.specs.Listing.{Simple, goto, gosub, return, run, runto, ongoto, ongosub, for, next, repeat, loop, until, endloop, exit, exitif, doif, else, done, clr, stop, any, CondWord, if, ifelse, rcomp, BranchForm, to, stmts, absent, Stmts, ∅, size, len, total, count}
-use Rattle.reader.specs.Rows.{malformed, invalid, parsed, Counted, Content, noForm, endRow, stmtsRow, moduleRow, lineRow, toRow, simpleRow, condRow, contentOf, rowOf, openingWords}
-use Rattle.reader.specs.Read.{OpenCond, Branches, noBranch, oneBranch, twoBranches, Position, begin, inModule, ended, inStmts, inCond, Reading, Outcome, taken, refused, goTo, oneMore, orRefused, check, ascends, atBegin, readLine, atModule, readSimple, readCond, numberOf, branched, endStmts, atStmts, NextBranch, noMore, mayFollow, nextBranch, condStmt, endCond, readTo, readStmts, atCond, readRow}
-use Rattle.reader.specs.ListingText.{simpleWord, condWord}
-use Rattle.reader.specs.WordTable.{words, first, wordIndex}
-use Rattle.reader.specs.Shown.{firstSize, branchesSize, positionSize, openLines, Good}
+use Rattle.listings.specs.Bytes.{bytes, same}
+use Rattle.listings.specs.Listing.{Simple, goto, gosub, return, run, runto, ongoto, ongosub, for, next, repeat, loop, until, endloop, exit, exitif, doif, else, done, clr, stop, any, CondWord, if, ifelse, rcomp, BranchForm, to, stmts, absent, Stmts, ∅, size, len, total, count}
+use Rattle.listings.specs.Rows.{malformed, invalid, parsed, Counted, Content, noForm, endRow, stmtsRow, moduleRow, lineRow, toRow, simpleRow, condRow, contentOf, rowOf, openingWords}
+use Rattle.listings.specs.Read.{OpenCond, Branches, noBranch, oneBranch, twoBranches, Position, begin, inModule, ended, inStmts, inCond, Reading, Outcome, taken, refused, goTo, oneMore, orRefused, check, ascends, atBegin, readLine, atModule, readSimple, readCond, numberOf, branched, endStmts, atStmts, NextBranch, noMore, mayFollow, nextBranch, condStmt, endCond, readTo, readStmts, atCond, readRow}
+use Rattle.listings.specs.ListingText.{simpleWord, condWord}
+use Rattle.listings.specs.WordTable.{words, first, wordIndex}
+use Rattle.listings.specs.Shown.{firstSize, branchesSize, positionSize, openLines, Good}
 use Rattle.reader.specs.CodedRows.{wordNumber, condNumber, asRow}
 use Rattle.reader.specs.Machine.{firstCode, condCode, packed, branchCount, positionCode, openConds, branchCode, stateAt}
-use Rattle.reader.specs.Records.{Rec, recRow, branchNumber, branchLine, simpleRec, condRec, stmtRecs, lineNumbers, argsOf, detailOf}
-use Rattle.reader.specs.ReadingRecords.{firstNode, holderOf, firstLen, firstIndex, branchesOf, partialRec, openRec, branchRecs, listRecs, openRecs, positionRecs, recsOf, openNumbers, numbersOf, amend, withEnd, withBranch, first-node, recs-length, numbers-length, before, before-length, cond-split, simple-law, cond-law, stmts-law, branch-law, end-law₁, end-law₂, line-law}
+use Rattle.listings.specs.Records.{Rec, recRow, branchNumber, branchLine, simpleRec, condRec, stmtRecs, lineNumbers, argsOf, detailOf}
+use Rattle.listings.specs.ReadingRecords.{firstNode, holderOf, firstLen, firstIndex, branchesOf, partialRec, openRec, branchRecs, listRecs, openRecs, positionRecs, recsOf, openNumbers, numbersOf, amend, withEnd, withBranch, first-node, recs-length, numbers-length, before, before-length, cond-split, simple-law, cond-law, stmts-law, branch-law, end-law₁, end-law₂, line-law}
 use Rattle.reader.specs.Operands.{stated, stated-short}
 use Rattle.reader.specs.Fill.{entryOf, branchStmts, outsideWalk, addEntries, entriesIn, detailIn, stmtTable, argTable, lineTable, walkBy, walk-is}
 use Rattle.reader.specs.Tables.{appendRow}

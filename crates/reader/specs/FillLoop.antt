@@ -8,19 +8,20 @@ use native.Mathlib.Nat.{not-suc-le-zero}
 use native.Mathlib.Omega.{arith}
 use lib.Dec.{leb, ltb}
 use lib.ListN.{length, take, drop, replicate}
-use Rattle.reader.specs.Listing.{CondWord, Stmts, Listing, total, count}
-use Rattle.reader.specs.Rows.{split, Parse, malformed, invalid, parsed, Content, noForm, endRow, stmtsRow, moduleRow, lineRow, toRow, simpleRow, condRow, contentOf, rowOf}
-use Rattle.reader.specs.Read.{OpenCond, Branches, Position, begin, inModule, ended, inStmts, inCond, Reading, Outcome, taken, refused, start, goTo, oneMore, orRefused, check, ascends, atBegin, readLine, atModule, readSimple, readCond, endStmts, atStmts, NextBranch, noMore, mayFollow, nextBranch, condStmt, endCond, readTo, readStmts, atCond, readRow, listing, refusal, finish, readRows, read}
-use Rattle.reader.specs.Shown.{positionSize, openLines, Good}
-use Rattle.reader.specs.Scan.{indexOf, split-some, pieceAt, next-last, next-more}
+use Rattle.listings.specs.Listing.{CondWord, Stmts, Listing, total, count}
+use Rattle.listings.specs.Rows.{split, Parse, malformed, invalid, parsed, Content, noForm, endRow, stmtsRow, moduleRow, lineRow, toRow, simpleRow, condRow, contentOf, rowOf}
+use Rattle.listings.specs.Read.{OpenCond, Branches, Position, begin, inModule, ended, inStmts, inCond, Reading, Outcome, taken, refused, start, goTo, oneMore, orRefused, check, ascends, atBegin, readLine, atModule, readSimple, readCond, endStmts, atStmts, NextBranch, noMore, mayFollow, nextBranch, condStmt, endCond, readTo, readStmts, atCond, readRow, listing, refusal, finish, readRows, read}
+use Rattle.listings.specs.Shown.{positionSize, openLines, Good}
+use Rattle.listings.specs.Scan.{indexOf, split-some, pieceAt, next-last, next-more}
 use Rattle.reader.specs.CodedRows.{asRow}
 use Rattle.reader.specs.Machine.{asState, asStep, stepRow}
 use Rattle.reader.specs.MachineLaws.{step-law, Bounded, state-bounded}
-use Rattle.reader.specs.Judge.{read-short, good-start, good-row, good-depth}
-use Rattle.reader.specs.Records.{joined, lineRecs, lineNumbers}
-use Rattle.reader.specs.ReadingRecords.{positionRecs, recsOf, openNumbers, numbersOf}
+use Rattle.reader.specs.Judge.{read-short, good-row, good-depth}
+use Rattle.listings.specs.ShownLaws.{good-start}
+use Rattle.listings.specs.Records.{joined, lineRecs, lineNumbers}
+use Rattle.listings.specs.ReadingRecords.{positionRecs, recsOf, openNumbers, numbersOf}
 use Rattle.reader.specs.Tables.{padded-nil}
-use Rattle.reader.specs.Every.{all[]}
+use Rattle.listings.specs.Every.{all[]}
 use Rattle.reader.specs.AcceptedRows.{WellFormed, uncounted, taken-formed, taken-uncounted}
 use Rattle.reader.specs.Fill.{Wrote, Ready, outsideWalk, ready-uncounted, wrote-counted}
 use Rattle.reader.specs.Holds.{Holds, holds-as}

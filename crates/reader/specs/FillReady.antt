@@ -9,17 +9,16 @@ use native.Mathlib.Omega.{arith}
 use lib.Dec.{leb, ltb}
 use lib.ListN.{length, getD}
 use borrow.Author.Tests.{leb-true, ltb-true}
-use Rattle.reader.specs.Listing.{Simple, goto, gosub, return, run, runto, ongoto, ongosub, for, next, repeat, loop, until, endloop, exit, exitif, doif, else, done, clr, stop, any, CondWord, if, ifelse, rcomp, BranchForm, Stmts, ∅, _▸_, branching, size, len, total}
-use Rattle.reader.specs.Rows.{malformed, invalid, parsed, Counted, Content, noForm, endRow, stmtsRow, moduleRow, lineRow, toRow, simpleRow, condRow, contentOf, rowOf}
-use Rattle.reader.specs.Read.{OpenCond, Branches, Position, begin, inModule, ended, inStmts, inCond, Reading, Outcome, taken, refused, oneMore, orRefused, check, ascends, atBegin, readLine, atModule, readSimple, readCond, atStmts, NextBranch, noMore, mayFollow, nextBranch, condStmt, endCond, readTo, readStmts, atCond, readRow}
-use Rattle.reader.specs.Shown.{firstSize, openSize, positionSize, openLines, Good}
+use Rattle.listings.specs.Listing.{Simple, goto, gosub, return, run, runto, ongoto, ongosub, for, next, repeat, loop, until, endloop, exit, exitif, doif, else, done, clr, stop, any, CondWord, if, ifelse, rcomp, BranchForm, Stmts, ∅, _▸_, branching, size, len, total}
+use Rattle.listings.specs.Rows.{malformed, invalid, parsed, Counted, Content, noForm, endRow, stmtsRow, moduleRow, lineRow, toRow, simpleRow, condRow, contentOf, rowOf}
+use Rattle.listings.specs.Read.{OpenCond, Branches, Position, begin, inModule, ended, inStmts, inCond, Reading, Outcome, taken, refused, oneMore, orRefused, check, ascends, atBegin, readLine, atModule, readSimple, readCond, atStmts, NextBranch, noMore, mayFollow, nextBranch, condStmt, endCond, readTo, readStmts, atCond, readRow}
+use Rattle.listings.specs.Shown.{firstSize, openSize, positionSize, openLines, Good}
 use Rattle.reader.specs.CodedRows.{wordNumber, condNumber, asRow}
 use Rattle.reader.specs.Machine.{positionCode, openConds, stateAt}
-use Rattle.reader.specs.Records.{recRows, argRows}
-use Rattle.reader.specs.ReadingRecords.{firstNode, holderOf, firstLen, firstIndex, recsOf, numbersOf, first-node, recs-length, numbers-length}
+use Rattle.listings.specs.Records.{recRows, argRows, recRow, argRow}
+use Rattle.listings.specs.ReadingRecords.{firstNode, holderOf, firstLen, firstIndex, recsOf, numbersOf, first-node, recs-length, numbers-length}
 use Rattle.reader.specs.Operands.{stated, stated-short}
 use Rattle.reader.specs.Tables.{rec-wide, padded-length, joined-length}
-use Rattle.reader.specs.Records.{recRow, argRow}
 use Rattle.reader.specs.Holds.{Holds}
 use Rattle.reader.specs.Fill.{EndReady, ToReady, AddReady, RowReady, Ready}
 use Rattle.reader.specs.FillLaws.{word-number, walkAt, Fits, cond-index}

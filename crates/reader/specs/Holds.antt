@@ -6,10 +6,10 @@ use mathlib.Core.Option.{Option, none, some}
 use Prim.Native.Nat.{ℕ, zero, suc, _+_, _*_, _-_, _≤_, _<_}
 use native.Mathlib.Omega.{arith}
 use lib.ListN.{length, take, drop, set, getD, replicate, take-append-drop}
-use Rattle.reader.specs.Listing.{BranchForm, Stmts}
-use Rattle.reader.specs.Every.{all[], all∷, all-append}
-use Rattle.reader.specs.Records.{Rec, padded, recRow, argRow, recRows, argRows}
-use Rattle.reader.specs.ReadingRecords.{amend, amend-amend, amend-length, withEnd, withFirst, withSecond, withBranch}
+use Rattle.listings.specs.Listing.{BranchForm, Stmts}
+use Rattle.listings.specs.Every.{all[], all∷, all-append}
+use Rattle.listings.specs.Records.{Rec, padded, recRow, argRow, recRows, argRows}
+use Rattle.listings.specs.ReadingRecords.{amend, amend-amend, amend-length, withEnd, withFirst, withSecond, withBranch}
 use Rattle.reader.specs.Tables.{Wide, rec-wide, padded-length, padded-append, padded-set, padded-row, joined-last, joined-amend, joined-length, joined-set, joined-get, entryRow, appendRow}
 use Rattle.reader.specs.Fill.{addEntries, branchStmts}
 use Rattle.reader.specs.declared.tables.Entry.{Entry}

@@ -8,15 +8,15 @@ use native.Mathlib.Omega.{arith}
 use lib.Dec.{eqb}
 use lib.ListN.{length, take, drop, length-take, length-drop}
 use borrow.Author.Tests.{le-leb, lt-leb, ne-eqb}
-use Rattle.reader.specs.Bytes.{pick}
-use Rattle.reader.specs.Listing.{total, count}
-use Rattle.reader.specs.Rows.{split, rowOf, contentOf}
-use Rattle.reader.specs.Read.{OpenCond, Position, begin, inModule, ended, inStmts, inCond, Reading, start, Outcome, taken, refused, readRow, Answer, listing, refusal, finish, readRows, read}
-use Rattle.reader.specs.ListingText.{LinesOk}
-use Rattle.reader.specs.RowText.{content-text}
-use Rattle.reader.specs.Shown.{openLines, positionSize, OpenOk, PositionOk, Good, Next}
-use Rattle.reader.specs.ShownLaws.{row-next}
-use Rattle.reader.specs.Scan.{indexOf, split-some, pieceAt, next-last, next-more}
+use Rattle.listings.specs.Bytes.{pick}
+use Rattle.listings.specs.Listing.{total, count}
+use Rattle.listings.specs.Rows.{split, rowOf, contentOf}
+use Rattle.listings.specs.Read.{OpenCond, Position, begin, inModule, ended, inStmts, inCond, Reading, start, Outcome, taken, refused, readRow, Answer, listing, refusal, finish, readRows, read}
+use Rattle.listings.specs.ListingText.{LinesOk}
+use Rattle.listings.specs.RowText.{content-text}
+use Rattle.listings.specs.Shown.{openLines, positionSize, OpenOk, PositionOk, Good, Next}
+use Rattle.listings.specs.ShownLaws.{row-next}
+use Rattle.listings.specs.Scan.{indexOf, split-some, pieceAt, next-last, next-more}
 use Rattle.reader.specs.CodedRows.{asRow}
 use Rattle.reader.specs.Machine.{openConds, positionCode, stateAt, asState, asStep, stepRow}
 use Rattle.reader.specs.MachineLaws.{step-law, Bounded, state-bounded}
@@ -25,6 +25,7 @@ use Rattle.reader.specs.declared.machine.Step.{Step}
 use Rattle.reader.specs.declared.machine.Step.the-variants.{Taken, Refused}
 use Rattle.reader.specs.declared.judge.Verdict.{Verdict}
 use Rattle.reader.specs.declared.judge.Verdict.the-variants as verdict
+use Rattle.listings.specs.ShownLaws.{good-start}
 
 -- the verdict for the definition's answer: of a listing its handlers, lines and statements
 unfoldable pub verdictOf : Answer → Verdict
@@ -73,10 +74,6 @@ was-taken (taken r) s e = (r, refl, let z : s ≡ asState r = cc in z)
 was-taken (refused m) s e = absurd (let z : _≡_ {A = ℕ} 0 1 = cc in omega arith)
 
 -- ---- what holds from row to row
-
-pub good-start : Good start (start .position)
-unfolding start openLines positionSize PositionOk LinesOk total count
-good-start = record { lines = tt; lineSum = refl; lineMost = omega arith; stmtSum = refl; stmtMost = omega arith; place = (refl, refl) }
 
 pub good-row : (r q : Reading) (w : List ℕ) → Good r (r .position) → readRow r (r .position) (contentOf (rowOf w)) ≡ taken q → Good q (q .position)
 unfolding Next

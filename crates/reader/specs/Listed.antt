@@ -7,11 +7,11 @@ use native.Mathlib.Omega.{arith}
 use lib.Dec.{ltb}
 use lib.ListN.{length, replicate, length-replicate}
 use borrow.Author.Tests.{le-leb, lt-leb, ltb-true, ltb-false}
-use Rattle.reader.specs.Listing.{Listing, total, count}
-use Rattle.reader.specs.Read.{Answer, listing, refusal, read}
-use Rattle.reader.specs.RoundTrip.{accepted-in-form}
+use Rattle.listings.specs.Listing.{Listing, total, count}
+use Rattle.listings.specs.Read.{Answer, listing, refusal, read}
+use Rattle.listings.specs.RoundTrip.{accepted-in-form}
 use Rattle.reader.specs.Judge.{verdictOf, read-long}
-use Rattle.reader.specs.Records.{lineRecs, lineNumbers, recRows, argRows, handlerNumber, countsOf, padded, ReadAnswer, accepted, refused, fitted, answerOf, tableOf}
+use Rattle.listings.specs.Records.{lineRecs, lineNumbers, recRows, argRows, handlerNumber, countsOf, padded, ReadAnswer, accepted, refused, fitted, answerOf, tableOf}
 use Rattle.reader.specs.FillLoop.{Zeroed, Filled}
 use Rattle.reader.specs.declared.listing.Listed.{Listed}
 use Rattle.reader.specs.declared.listing.Listed.the-variants as listed

@@ -5,9 +5,9 @@ use mathlib.Core.Option.{Option, none, some}
 use mathlib.Core.Bool.{Bool, true, false, not}
 use lib.Dec.{eqb, leb, ltb}
 use lib.ListN.{length}
-use Rattle.reader.specs.Bytes.{pick}
-use Rattle.reader.specs.Listing.{BranchForm, Stmts}
-use Rattle.reader.specs.Read.{OpenCond, Branches, noBranch, oneBranch, twoBranches, Position, begin, inModule, ended, inStmts, inCond, Reading, Outcome, taken, refused}
+use Rattle.listings.specs.Bytes.{pick}
+use Rattle.listings.specs.Listing.{BranchForm, Stmts}
+use Rattle.listings.specs.Read.{OpenCond, Branches, noBranch, oneBranch, twoBranches, Position, begin, inModule, ended, inStmts, inCond, Reading, Outcome, taken, refused}
 use Rattle.reader.specs.CodedRows.{condNumber}
 use Rattle.reader.specs.declared.rows.Row.{Row}
 use Rattle.reader.specs.declared.rows.Row.the-variants as row

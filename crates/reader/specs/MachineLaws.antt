@@ -9,10 +9,10 @@ use native.Mathlib.Numerals.{add-one}
 use lib.Dec.{eqb, leb, ltb}
 use lib.ListN.{length}
 use borrow.Author.Tests.{ne-eqb, le-leb}
-use Rattle.reader.specs.Bytes.{pick}
-use Rattle.reader.specs.Listing.{CondWord, if, ifelse, rcomp, BranchForm, Stmts, ∅, _▸_}
-use Rattle.reader.specs.Rows.{malformed, invalid, parsed, Counted, Content, noForm, endRow, stmtsRow, moduleRow, lineRow, toRow, simpleRow, condRow}
-use Rattle.reader.specs.Read.{OpenCond, Branches, noBranch, oneBranch, twoBranches, Position, begin, inModule, ended, inStmts, inCond, Reading, goTo, oneMore, Outcome, taken, orRefused, check, atBegin, ascends, readLine, atModule, readSimple, readCond, branched, endStmts, atStmts, NextBranch, noMore, mayFollow, nextBranch, condStmt, endCond, readTo, readStmts, atCond, readRow}
+use Rattle.listings.specs.Bytes.{pick}
+use Rattle.listings.specs.Listing.{CondWord, if, ifelse, rcomp, BranchForm, Stmts, ∅, _▸_}
+use Rattle.listings.specs.Rows.{malformed, invalid, parsed, Counted, Content, noForm, endRow, stmtsRow, moduleRow, lineRow, toRow, simpleRow, condRow}
+use Rattle.listings.specs.Read.{OpenCond, Branches, noBranch, oneBranch, twoBranches, Position, begin, inModule, ended, inStmts, inCond, Reading, goTo, oneMore, Outcome, taken, orRefused, check, atBegin, ascends, readLine, atModule, readSimple, readCond, branched, endStmts, atStmts, NextBranch, noMore, mayFollow, nextBranch, condStmt, endCond, readTo, readStmts, atCond, readRow}
 use Rattle.reader.specs.CodedRows.{condNumber, asRow}
 use Rattle.reader.specs.Machine.{lastCode, firstCode, condCode, packed, branchCount, positionCode, openConds, wordCode, branchCode, stateAt, asState, asStep, stepLine, stepSimple, stepCond, stepStmts, stepTo, stepBadTo, endOfStmts, stepEnd, stepRow}
 use Rattle.reader.specs.declared.machine.State.{State}

@@ -11,25 +11,24 @@ use lib.Dec.{eqb}
 use lib.ListN.{length, take, drop, set, length-append, length-set, length-map, length-drop, take-append-drop}
 use lib.Seq.{take-suc-set, drop-set-lt, drop-drop, take-at}
 use borrow.Author.Tests.{ne-eqb}
-use Rattle.reader.specs.Bytes.{bytes, same, pick, decimal}
-use Rattle.reader.specs.Listing.{Name, Tier, static, framed, dispatched, Mark, orphan, Slot, Simple, goto, gosub, return, run, runto, ongoto, ongosub, for, next, repeat, loop, until, endloop, exit, exitif, doif, else, done, clr, stop, any}
-use Rattle.reader.specs.Rows.{split, all, Parse, malformed, invalid, parsed, parseNumber, parseName, isName, isCapital, openingWords, contentOf, rowOf, simpleRow, Counted}
-use Rattle.reader.specs.ListingText.{spacedWords, closedForm, simpleWord, simpleArgs, simpleText, tierWord, markWord, slotWord, listed, SimpleOk, NumbersOk, SlotsOk}
-use Rattle.reader.specs.WordTable.{words, forms, first, wordIndex, kind, kindOf, kindAt}
-use Rattle.reader.specs.NumberText.{number-text}
-use Rattle.reader.specs.WordText.{inWord, isToken, areTokens, token-lacks, tokens-lack, decimal-token, decimals-tokens, name-token, name-text, slots-tokens, tier-token, mark-token}
-use Rattle.reader.specs.RowForms.{join, split-join, join-split, join-words}
-use Rattle.reader.specs.RowText.{row-simple}
-use Rattle.reader.specs.NumberText.{both-true}
-use Rattle.reader.specs.Scan.{indexOf, after, split-some, split-alone, split-first}
-use Rattle.reader.specs.Numbers.{asNumber}
-use Rattle.reader.specs.Names.{asKey}
-use Rattle.reader.specs.Records.{nameKey, slotKey, argsOf, tierNumber, markNumber, detailOf}
+use Rattle.listings.specs.Bytes.{bytes, same, pick, decimal}
+use Rattle.listings.specs.Listing.{Name, Tier, static, framed, dispatched, Mark, orphan, Slot, Simple, goto, gosub, return, run, runto, ongoto, ongosub, for, next, repeat, loop, until, endloop, exit, exitif, doif, else, done, clr, stop, any}
+use Rattle.listings.specs.Rows.{split, all, Parse, malformed, invalid, parsed, parseNumber, parseName, isName, isCapital, openingWords, contentOf, rowOf, simpleRow, Counted}
+use Rattle.listings.specs.ListingText.{spacedWords, closedForm, simpleWord, simpleArgs, simpleText, tierWord, markWord, slotWord, listed, SimpleOk, NumbersOk, SlotsOk}
+use Rattle.listings.specs.WordTable.{words, forms, first, wordIndex, kind, kindOf, kindAt}
+use Rattle.listings.specs.NumberText.{number-text, both-true}
+use Rattle.listings.specs.WordText.{inWord, isToken, areTokens, token-lacks, tokens-lack, decimal-token, decimals-tokens, name-token, name-text, slots-tokens, tier-token, mark-token}
+use Rattle.listings.specs.RowForms.{join, split-join, join-split, join-words}
+use Rattle.listings.specs.RowText.{row-simple}
+use Rattle.listings.specs.Scan.{indexOf, after, split-some, split-alone, split-first}
+use Rattle.tokens.specs.Numbers.{asNumber}
+use Rattle.tokens.specs.Names.{asKey}
+use Rattle.listings.specs.Records.{nameKey, slotKey, argsOf, tierNumber, markNumber, detailOf}
 use Rattle.reader.specs.declared.operands.Given.{Given}
-use Rattle.reader.specs.declared.numbers.ParsedNumber.{ParsedNumber}
-use Rattle.reader.specs.declared.numbers.ParsedNumber.the-variants.{Malformed, Invalid, Value}
-use Rattle.reader.specs.declared.names.NameKey.{NameKey}
-use Rattle.reader.specs.declared.names.NameKey.the-variants.{NoName, Key}
+use Rattle.tokens.specs.declared.numbers.ParsedNumber.{ParsedNumber}
+use Rattle.tokens.specs.declared.numbers.ParsedNumber.the-variants.{Malformed, Invalid, Value}
+use Rattle.tokens.specs.declared.names.NameKey.{NameKey}
+use Rattle.tokens.specs.declared.names.NameKey.the-variants.{NoName, Key}
 
 -- ---- one word
 

@@ -4,10 +4,10 @@ use mathlib.Core.Bool.{Bool}
 use mathlib.Core.List.{[], _∷_}
 use Prim.Native.Nat.{ℕ, suc, _+_, _-_}
 use native.Mathlib.Omega.{arith}
-use Rattle.reader.specs.Listing.{Lines, nolines, line, Listing, Stmts, ∅, _▸_, branching, size, len, total, count}
-use Rattle.reader.specs.ListingText.{StmtsOk, LinesOk}
-use Rattle.reader.specs.Every.{all[], all∷, all-append}
-use Rattle.reader.specs.Records.{simpleRec, condRec, stmtRecs, lineRecs, argRow, ReadAnswer, accepted, refused}
+use Rattle.listings.specs.Listing.{Lines, nolines, line, Listing, Stmts, ∅, _▸_, branching, size, len, total, count}
+use Rattle.listings.specs.ListingText.{StmtsOk, LinesOk}
+use Rattle.listings.specs.Every.{all[], all∷, all-append}
+use Rattle.listings.specs.Records.{simpleRec, condRec, stmtRecs, lineRecs, argRow, ReadAnswer, accepted, refused}
 use Rattle.reader.specs.Operands.{args-short}
 use Rattle.reader.specs.Tables.{Wide, padded-length}
 use Rattle.reader.specs.Listed.{listedOf}

@@ -4,13 +4,13 @@ use Prim.Native.String.{String}
 use mathlib.Core.Bool.{Bool, true, _&&_}
 use mathlib.Core.List.{List, [], _∷_, _++_}
 use lib.Dec.{T}
-use Rattle.reader.specs.Bytes.{bytes, same}
-use Rattle.reader.specs.Listing.{size, len, total, count}
-use Rattle.reader.specs.Rows.{onFirst, split, all, isWord, areWords, stripClose, formRow, rowOf, openingWords, lookup, mapParse, withParse, isDigit, isCapital, value, noLeadingZero, parseNumber, parseNumbers, nameEnd, isName, parseName, parseSlot, parseSlots, orMalformed, tiers, parseTier, marks, parseMark, bareStmt, single, runStmt, forStmt, nextStmt, ifNoWords, handlerFacts, moduleBy, moduleContent, formContent, wordContent, contentOf}
-use Rattle.reader.specs.Read.{start, goTo, oneMore, orRefused, check, atBegin, ascends, readLine, atModule, readSimple, readCond, numberOf, branched, endStmts, atStmts, nextBranch, condStmt, endCond, readTo, readStmts, atCond, readRow, finish, readRows, read}
-use Rattle.reader.specs.ListingText.{simpleWord, condWord}
-use Rattle.reader.specs.WordTable.{words, first, wordIndex}
-use Rattle.reader.specs.Records.{nameKey, slotKey, argsOf, tierNumber, markNumber, detailOf, branchNumber, branchLine, simpleRec, condRec, stmtRecs, lineRecs, lineNumbers, padded, recRow, joined, argRow, handlerNumber, countsOf, ReadAnswer, accepted, refused, fitted, answerOf, tableOf}
+use Rattle.listings.specs.Bytes.{bytes, same}
+use Rattle.listings.specs.Listing.{size, len, total, count}
+use Rattle.listings.specs.Rows.{onFirst, split, all, isWord, areWords, stripClose, formRow, rowOf, openingWords, lookup, mapParse, withParse, isDigit, isCapital, value, noLeadingZero, parseNumber, parseNumbers, nameEnd, isName, parseName, parseSlot, parseSlots, orMalformed, tiers, parseTier, marks, parseMark, bareStmt, single, runStmt, forStmt, nextStmt, ifNoWords, handlerFacts, moduleBy, moduleContent, formContent, wordContent, contentOf}
+use Rattle.listings.specs.Read.{start, goTo, oneMore, orRefused, check, atBegin, ascends, readLine, atModule, readSimple, readCond, numberOf, branched, endStmts, atStmts, nextBranch, condStmt, endCond, readTo, readStmts, atCond, readRow, finish, readRows, read}
+use Rattle.listings.specs.ListingText.{simpleWord, condWord}
+use Rattle.listings.specs.WordTable.{words, first, wordIndex}
+use Rattle.listings.specs.Records.{nameKey, slotKey, argsOf, tierNumber, markNumber, detailOf, branchNumber, branchLine, simpleRec, condRec, stmtRecs, lineRecs, lineNumbers, padded, recRow, joined, argRow, handlerNumber, countsOf, ReadAnswer, accepted, refused, fitted, answerOf, tableOf}
 use Rattle.reader.specs.Listed.{lineEntries, stmtEntries, argEntries}
 
 -- a text, how many entries its tables have, and what stands in the counts, the line table, the statement table and each row of arguments

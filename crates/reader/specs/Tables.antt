@@ -6,9 +6,9 @@ use native.Mathlib.Nat.{not-suc-le-zero, le-of-suc-le-suc}
 use native.Mathlib.Omega.{arith}
 use lib.ListN.{length, take, drop, set, getD, replicate, length-append, length-replicate, drop-of-length-le, List·getD-append, replicate-append-replicate}
 use lib.Seq.{set-append-left, set-append-seam, take-append-seam, drop-append-add, drop-drop, take-all, getD-append-add}
-use Rattle.reader.specs.Every.{All, all[], all∷}
-use Rattle.reader.specs.Records.{Rec, padded, joined, recRow}
-use Rattle.reader.specs.ReadingRecords.{amend}
+use Rattle.listings.specs.Every.{All, all[], all∷}
+use Rattle.listings.specs.Records.{Rec, padded, joined, recRow}
+use Rattle.listings.specs.ReadingRecords.{amend}
 use Rattle.reader.specs.declared.tables.Entry.{Entry}
 
 -- ---- zeros

@@ -5,9 +5,9 @@ use super::machine::Step;
 use super::machine::start_state;
 use super::machine::step_row;
 use super::rows::row_of;
-use super::scan::find;
+use tokens::scan::find;
 ghost use mathlib.Core.Path.{_≡_};
-ghost use Rattle.reader.specs.Read.{read};
+ghost use Rattle.listings.specs.Read.{read};
 ghost use Rattle.reader.specs.Judge.{finishState, verdictOf};
 
 // The listing's handlers, lines and statements, or the refusal's number and place.

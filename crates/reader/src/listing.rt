@@ -10,7 +10,7 @@ use super::tables::zero16;
 use super::tables::zero64;
 ghost use mathlib.Core.Path.{_≡_};
 ghost use lib.ListN.{length};
-ghost use Rattle.reader.specs.Records.{handlerNumber};
+ghost use Rattle.listings.specs.Records.{handlerNumber};
 ghost use Rattle.reader.specs.Listed.{Judged, Written};
 
 // handlers: whether ON KEY, ON ERROR or RESUME occurs; how many lines and statements. Or document 01's number and place.

@@ -2,7 +2,7 @@
 use super::rows::Row;
 ghost use mathlib.Core.Path.{_≡_};
 ghost use Prim.Native.Nat.{_≤_, _<_};
-ghost use Rattle.reader.specs.Read.{start};
+ghost use Rattle.listings.specs.Read.{start};
 ghost use Rattle.reader.specs.Machine.{asState, outside, moved, oneMore, stepModule, stepLine, stepSimple, stepCond, mayBranch, isComplete, stepStmts, stepTo, stepBadTo, invalidAt, endOfStmts, stepEnd, stepRow};
 
 // Where the next row stands.

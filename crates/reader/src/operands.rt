@@ -4,18 +4,18 @@ ghost use mathlib.Core.Bool.{true};
 ghost use mathlib.Core.List.{map};
 ghost use Prim.Native.Nat.{_≤_};
 ghost use lib.ListN.{length, take, drop};
-ghost use Rattle.reader.specs.Rows.{split};
-ghost use Rattle.reader.specs.RowForms.{join};
+ghost use Rattle.listings.specs.Rows.{split};
+ghost use Rattle.listings.specs.RowForms.{join};
 ghost use Rattle.reader.specs.Operands.{numberAnswer, keyAnswer, entryBy, tierEntry, markEntry, headMark, openingWord, rowEntries, rowDetail, Put};
-use super::names::NameKey;
-use super::names::key_of;
-use super::numbers::ParsedNumber;
-use super::numbers::number;
-use super::scan::equal;
-use super::scan::find;
-use super::words::FOR;
-use super::words::NEXT;
-use super::words::kind_of;
+use tokens::names::NameKey;
+use tokens::names::key_of;
+use tokens::numbers::ParsedNumber;
+use tokens::numbers::number;
+use tokens::scan::equal;
+use tokens::scan::find;
+use tokens::words::FOR;
+use tokens::words::NEXT;
+use tokens::words::kind_of;
 
 // How many arguments a statement has, and FOR's tier or NEXT's mark.
 pub struct Given {

@@ -5,18 +5,18 @@ use mathlib.Core.List.{List, [], _∷_}
 use mathlib.Core.Option.{Option, none, some}
 use lib.ListN.{length}
 use Rattle.graph.specs.Questions.{Reply, answer, refused}
-use Rattle.questions.specs.ListsAt.{askedOf}
-use Rattle.questions.specs.EntryAt.{enteredOf}
-use Rattle.questions.specs.StatementAt.{statedOf}
-use Rattle.questions.specs.FrameAt.{framedOf, sliceAfter}
-use Rattle.questions.specs.declared.successors.Asked.{Asked}
-use Rattle.questions.specs.declared.successors.Asked.the-variants as asked
-use Rattle.questions.specs.declared.entry.Entered.{Entered}
-use Rattle.questions.specs.declared.entry.Entered.the-variants as entered
-use Rattle.questions.specs.declared.statement.Stated.{Stated}
-use Rattle.questions.specs.declared.statement.Stated.the-variants as stated
-use Rattle.questions.specs.declared.frame.Framed.{Framed}
-use Rattle.questions.specs.declared.frame.Framed.the-variants as framed
+use Rattle.adjacency.specs.ListsAt.{askedOf}
+use Rattle.adjacency.specs.EntryAt.{enteredOf}
+use Rattle.statements.specs.StatementAt.{statedOf}
+use Rattle.frame_slices.specs.Told.{framedOf, sliceAfter}
+use Rattle.adjacency.specs.declared.successors.Asked.{Asked}
+use Rattle.adjacency.specs.declared.successors.Asked.the-variants as asked
+use Rattle.adjacency.specs.declared.entry.Entered.{Entered}
+use Rattle.adjacency.specs.declared.entry.Entered.the-variants as entered
+use Rattle.statements.specs.declared.statement.Stated.{Stated}
+use Rattle.statements.specs.declared.statement.Stated.the-variants as stated
+use Rattle.frame_slices.specs.declared.slices.Framed.{Framed}
+use Rattle.frame_slices.specs.declared.slices.Framed.the-variants as framed
 
 -- document 01's number, 0 for an answer; and two entries, a refusal's place and 0 or what is answered
 

@@ -1,5 +1,5 @@
 // A line's entry: a node and 1, or 0 and 0 where there is none.
-use questions::entry::Entered;
+use adjacency::entry::Entered;
 ghost use mathlib.Core.Path.{_≡_};
 ghost use Rattle.telling.specs.QuestionTold.{enteredCode, enteredWords};
 

@@ -1,5 +1,5 @@
 // The frame list: its length.
-use questions::frame::Framed;
+use frame_slices::slices::Framed;
 ghost use mathlib.Core.Path.{_≡_};
 ghost use Rattle.telling.specs.QuestionTold.{framedCode, framedWords};
 

@@ -1,5 +1,5 @@
 // A statement: its node and the number of its opening word.
-use questions::statement::Stated;
+use statements::statement::Stated;
 ghost use mathlib.Core.Path.{_≡_};
 ghost use Rattle.telling.specs.QuestionTold.{statedCode, statedWords};
 

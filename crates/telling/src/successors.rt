@@ -1,5 +1,5 @@
 // Where a node's list stands in the caller's edge table: start and length.
-use questions::successors::Asked;
+use adjacency::successors::Asked;
 ghost use mathlib.Core.Path.{_≡_};
 ghost use Rattle.telling.specs.QuestionTold.{askedCode, askedWords};
 

@@ -3,8 +3,8 @@ use Prim.Native.Nat.{ℕ, zero, suc}
 use mathlib.Core.List.{List, [], _∷_, _++_}
 use mathlib.Core.Bool.{Bool, true, false, _&&_}
 use lib.Dec.{T, eqb}
-use Rattle.reader.specs.Bytes.{bytes, decimal}
-use Rattle.reader.specs.Read.{Answer, listing, refusal, read}
+use Rattle.listings.specs.Bytes.{bytes, decimal}
+use Rattle.listings.specs.Read.{Answer, listing, refusal, read}
 use Rattle.vectors.specs.Vector.{opened}
 
 times : ℕ → List ℕ → List ℕ

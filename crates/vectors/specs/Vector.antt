@@ -4,9 +4,9 @@ use Prim.Native.String.{String}
 use mathlib.Core.List.{List, [], _∷_}
 use mathlib.Core.Bool.{Bool, true, false, _&&_}
 use lib.Dec.{eqb}
-use Rattle.reader.specs.Bytes.{bytes, same}
-use Rattle.reader.specs.Listing.{Listing}
-use Rattle.reader.specs.Read.{Answer, listing, refusal, read}
+use Rattle.listings.specs.Bytes.{bytes, same}
+use Rattle.listings.specs.Listing.{Listing}
+use Rattle.listings.specs.Read.{Answer, listing, refusal, read}
 use Rattle.graph.specs.Build.{flowlist}
 use Rattle.graph.specs.Opened as wiring
 use Rattle.graph.specs.QuestionsOpened as questions

@@ -2,26 +2,25 @@
 use Prim.Native.Nat.{ℕ, _*_, _/_, _≤_, min}
 use mathlib.Core.Path.{_≡_, refl, sym, ap, subst, _∙_}
 use mathlib.Core.Bool.{Bool, true, false, _&&_}
-use mathlib.Core.List.{List, [], _∷_}
+use mathlib.Core.List.{List}
 use native.Mathlib.Omega.{arith}
 use native.Mathlib.Nat.{min-le-left, min-le-right}
 use lib.Dec.{leb}
 use lib.ListN.{length, replicate, length-replicate}
-use Rattle.reader.specs.Bytes.{pick}
-use Rattle.reader.specs.Listing.{Listing, total, count}
-use Rattle.reader.specs.Read.{Answer, listing, refusal, read}
-use Rattle.reader.specs.Records.{ReadAnswer, accepted, lineNumbers, lineRecs, recRows, argRows, padded, countsOf}
-use Rattle.reader.specs.Records.{refused as notRead, fitted as readFitted, answerOf as readAnswer, tableOf as readTable}
+use Rattle.listings.specs.Bytes.{pick}
+use Rattle.listings.specs.Listing.{Listing, total, count}
+use Rattle.listings.specs.Read.{Answer, listing, refusal, read}
+use Rattle.listings.specs.Records.{ReadAnswer, accepted, lineNumbers, lineRecs, recRows, argRows, padded, countsOf, refused as notRead, fitted as readFitted, answerOf as readAnswer, tableOf as readTable}
 use Rattle.reader.specs.Tables.{padded-length}
 use Rattle.reader.specs.Listed.{lineEntries, stmtEntries, argEntries}
 use Rattle.reader.specs.declared.listing.Listed.{Listed}
 use Rattle.reader.specs.ReadBack.{was-accepted, was-refused}
 use Rattle.reader.specs.declared.listing.Listed.the-variants as listed
 use Rattle.graph.specs.Build.{Capacity, Built, graph, refused, edgeCount, fitted, builtOf, build}
-use Rattle.wiring.specs.HoldsListing.{HoldsListing}
-use Rattle.wiring.specs.Reading.{readBy, FittingRead, Fits, read-fits}
-use Rattle.wiring.specs.Room.{stmtRoom, StmtsFit, room-fits}
-use Rattle.wiring.specs.GraphTables.{Sizes, sizesOf, capacity, answerOf, tableOf, Answered, edgesFitted, Zeroed, countTable, lineTable, stmtTable, argTable, entryTable, fallTable, linksTable, listTable, returnTable, succTable, predTable}
+use Rattle.passes.specs.HoldsListing.{HoldsListing}
+use Rattle.passes.specs.Reading.{readBy, FittingRead, Fits, read-fits}
+use Rattle.passes.specs.Room.{stmtRoom, StmtsFit, room-fits}
+use Rattle.wiring.specs.GraphTables.{Sizes, sizesOf, capacity, answerOf, tableOf, Answered, edgesFitted, Zeroed}
 use Rattle.wiring.specs.declared.build.Built.{Built as BuiltAnswer}
 use Rattle.wiring.specs.declared.build.Built.the-variants as answer
 

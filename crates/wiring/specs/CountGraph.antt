@@ -1,35 +1,36 @@
 -- The edges of a graph counted, before any is written: the lists that skipping paths follow, the return targets, the RETURNs' sets. Assumes nothing.
-use Prim.Native.Nat.{ℕ, zero, suc, _+_, _*_, _-_, _/_, _≤_, _<_}
+use Prim.Native.Nat.{ℕ, zero, suc, _+_, _*_, _-_, _≤_, _<_}
 use mathlib.Core.Path.{_≡_, refl, sym, ap, _∙_}
 use mathlib.Core.Bool.{Bool, true, false}
-use mathlib.Core.List.{List, [], _∷_, _++_}
+use mathlib.Core.List.{List, _++_}
 use native.Mathlib.Omega.{arith}
 use borrow.Author.Tests.{eqb-true}
 use lib.Dec.{eqb}
 use lib.ListN.{length, getD, take, drop, replicate, take-append-drop, length-append}
 use lib.Seq.{length-take-le}
-use Rattle.reader.specs.Listing.{Listing}
-use Rattle.reader.specs.Records.{padded}
+use Rattle.listings.specs.Listing.{Listing}
+use Rattle.listings.specs.Records.{padded}
 use Rattle.reader.specs.Tables.{drop-zeros}
-use Rattle.graph.specs.Graph.{Wired, wire, skipSteps, base, returnTargets, regionReturnEdges, returnEdges, successors}
+use Rattle.graph.specs.Graph.{wire, skipSteps, returnTargets, regionReturnEdges, returnEdges, successors}
 use Rattle.graph.specs.GraphLaws.{nodeCount, lists-ok}
 use Rattle.graph.specs.Build.{edgeCount}
-use Rattle.wiring.specs.Sets.{membersOf}
-use Rattle.wiring.specs.ReturnSets.{setOf}
-use Rattle.wiring.specs.EdgeTable.{joinedLists, joined-snoc, listsTo, ListsStored}
-use Rattle.wiring.specs.Walk.{Stored}
-use Rattle.wiring.specs.Prepared.{Prepared, Roles, wordOf}
-use Rattle.wiring.specs.PreparedLaws.{prepared-roles, return-row}
-use Rattle.wiring.specs.ReturnTotals.{sumWhere, returnSize, sum-where-on, return-sum-le}
-use Rattle.wiring.specs.ReturnTargets.{TargetsListed, FallsFit, targets-are, roles-falls}
-use Rattle.wiring.specs.Regions.{ReturnRows, SetsClear, RegionsReady, RegionReturns}
-use Rattle.wiring.specs.Spread.{SpreadTo}
-use Rattle.wiring.specs.FillRows.{FillReady}
-use Rattle.wiring.specs.EdgeCount.{edge-count, edges-joined}
-use Rattle.wiring.specs.FinalLists.{ReturnRowsOnly, FinalTables, SkipsHeld}
-use Rattle.wiring.specs.SkipLists.{SkipsReady, SkipTable, skips-walk}
+use Rattle.passes.specs.Sets.{membersOf}
+use Rattle.passes.specs.ReturnSets.{setOf}
+use Rattle.passes.specs.EdgeTable.{joinedLists, joined-snoc, listsTo}
+use Rattle.passes.specs.Walk.{Stored}
+use Rattle.passes.specs.Prepared.{Prepared, Roles}
+use Rattle.tables.specs.Columns.{wordOf}
+use Rattle.passes.specs.PreparedLaws.{prepared-roles, return-row}
+use Rattle.passes.specs.ReturnTotals.{sumWhere, returnSize, sum-where-on}
+use Rattle.passes.specs.ReturnTargets.{TargetsListed, FallsFit, targets-are, roles-falls}
+use Rattle.passes.specs.Regions.{RegionsReady, RegionReturns}
+use Rattle.passes.specs.Spread.{SpreadTo}
+use Rattle.passes.specs.FillRows.{FillReady}
+use Rattle.passes.specs.EdgeCount.{edge-count, edges-joined}
+use Rattle.passes.specs.FinalLists.{ReturnRowsOnly, FinalTables}
+use Rattle.passes.specs.SkipLists.{SkipsReady, SkipTable, skips-walk}
 use Rattle.wiring.specs.WriteGraph.{SkipsStored}
-use Rattle.wiring.specs.Connecting.{no}
+use Rattle.passes.specs.Connecting.{no}
 
 -- ---- the RETURNs' sets
 

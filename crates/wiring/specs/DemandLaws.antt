@@ -1,5 +1,5 @@
 -- From what a build answers to what its tables hold. Assumes nothing.
-use Prim.Native.Nat.{ℕ, zero, suc, _≤_, _<_}
+use Prim.Native.Nat.{ℕ, _≤_, _<_}
 use mathlib.Core.Path.{_≡_, refl, sym, ap, subst, _∙_}
 use mathlib.Core.Bool.{Bool, true, false, _&&_}
 use mathlib.Core.List.{List, [], _∷_, _++_, List·Memᴰ}
@@ -9,12 +9,12 @@ use native.Mathlib.Omega.{arith}
 use borrow.Author.Tests.{leb-true, le-leb}
 use lib.Dec.{leb}
 use lib.ListN.{length, getD, getElem?}
-use Rattle.reader.specs.Every.{All}
-use Rattle.reader.specs.Listing.{Lines, Listing, total, count}
-use Rattle.reader.specs.ListingText.{InForm}
-use Rattle.reader.specs.Records.{padded, lineRecs}
-use Rattle.reader.specs.ReadingRecords.{numbers-count, lines-length}
-use Rattle.reader.specs.RecordLaws.{recs-length}
+use Rattle.listings.specs.Every.{All}
+use Rattle.listings.specs.Listing.{Lines, Listing, total, count}
+use Rattle.listings.specs.ListingText.{InForm}
+use Rattle.listings.specs.Records.{padded, lineRecs}
+use Rattle.listings.specs.ReadingRecords.{numbers-count, lines-length}
+use Rattle.listings.specs.RecordLaws.{recs-length}
 use Rattle.reader.specs.Tables.{padded-length}
 use Rattle.graph.specs.Members.{Ascending, all-map, past}
 use Rattle.graph.specs.Adding.{nodeNumber, decode-number}
@@ -26,20 +26,19 @@ use Rattle.graph.specs.Build.{Capacity, graph, refused, edgeCount, fitted}
 use Rattle.graph.specs.Run.{State, run}
 use Rattle.graph.specs.ReturnLists.{Returns}
 use Rattle.graph.specs.Demand3.{IsReturn, demand3}
-use Rattle.wiring.specs.EdgeTable.{startOf, length-rows, listRows, lists-at}
-use Rattle.wiring.specs.Predecessors.{predsOf, preds-total, successor-lists, all-lists}
-use Rattle.wiring.specs.ReturnTargets.{continuationEntry}
-use Rattle.wiring.specs.LineEntries.{entryNumbers, entryRows, numbers-length, entries-length}
-use Rattle.wiring.specs.LineSearch.{numbersOf, EntryTable, entry-table, entries-held}
-use Rattle.wiring.specs.Held.{lines-held}
-use Rattle.wiring.specs.FallLaws.{rows-length}
-use Rattle.wiring.specs.TableReads.{fall-of}
-use Rattle.wiring.specs.Prepared.{fallEntry, wordOf}
-use Rattle.wiring.specs.Room.{StmtsFit}
+use Rattle.passes.specs.EdgeTable.{startOf, length-rows, listRows, lists-at}
+use Rattle.passes.specs.Predecessors.{predsOf, preds-total, successor-lists, all-lists}
+use Rattle.passes.specs.ReturnTargets.{continuationEntry}
+use Rattle.passes.specs.LineEntries.{entryNumbers, entryRows, numbers-length, entries-length}
+use Rattle.passes.specs.LineSearch.{numbersOf, EntryTable, entry-table, entries-held}
+use Rattle.passes.specs.Held.{lines-held}
+use Rattle.passes.specs.FallLaws.{rows-length}
+use Rattle.passes.specs.TableReads.{fall-of}
+use Rattle.tables.specs.Columns.{fallEntry, wordOf, succPart, predPart, entryNode, entriesIn}
+use Rattle.passes.specs.Room.{StmtsFit}
 use Rattle.wiring.specs.GraphTables.{Sizes, Answered, tableOf, lineTable, stmtTable, entryTable, fallTable, listTable, returnTable, succTable, predTable}
-use Rattle.wiring.specs.PrintedTables.{succPart, predPart}
-use Rattle.wiring.specs.GraphHeld.{GraphHeld}
-use Rattle.wiring.specs.PrintLaws.{node-count, reads, succ-part, pred-part, continuation-is}
+use Rattle.passes.specs.GraphHeld.{GraphHeld}
+use Rattle.passes.specs.GraphReads.{node-count, reads, succ-part, pred-part, continuation-is}
 use Rattle.wiring.specs.declared.build.Built.{Built as BuiltAnswer}
 use Rattle.wiring.specs.WriteGraph.{edges-are, few-targets}
 
@@ -138,18 +137,6 @@ graph-held L s c l t a e f k i r u p x ok hl hn he w =
     }
 
 -- ---- line entries, continuations
-
--- a node or none, from an entry: one more than the node, or 0
-abbrev pub entryNode : ℕ → Option ℕ
-entryNode zero = none
-entryNode (suc a) = some a
-
--- the first k lines with their entries, as the tables list them
-unfoldable pub entriesIn : ℕ → List ℕ → List ℕ → Entries
-entriesIn zero lines entries = []
-entriesIn (suc k) [] entries = []
-entriesIn (suc k) (n ∷ lines) [] = []
-entriesIn (suc k) (n ∷ lines) (e ∷ entries) = (n, entryNode e) ∷ entriesIn k lines entries
 
 entries-listed : (es : Entries) (more rest : List ℕ) → entriesIn (length es) (numbersOf es ++ more) (entryNumbers es ++ rest) ≡ es
 unfolding entriesIn numbersOf entryNumbers

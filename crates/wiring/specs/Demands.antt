@@ -11,11 +11,11 @@ use native.Mathlib.Omega.{arith}
 use native.Mathlib.Decide.{decLe}
 use native.Mathlib.Nat.{min-le-left, min-le-right, le-min}
 use lib.ListN.{length, getD, getElem?, take, replicate}
-use Rattle.reader.specs.Every.{All}
-use Rattle.reader.specs.Listing.{Listing, total, count}
-use Rattle.reader.specs.ListingText.{InForm, listingText}
-use Rattle.reader.specs.Read.{Answer, listing, refusal, read}
-use Rattle.reader.specs.Records.{handlerNumber, padded}
+use Rattle.listings.specs.Every.{All}
+use Rattle.listings.specs.Listing.{Listing, total, count}
+use Rattle.listings.specs.ListingText.{InForm, listingText}
+use Rattle.listings.specs.Read.{Answer, listing, refusal, read}
+use Rattle.listings.specs.Records.{handlerNumber, padded}
 use Rattle.graph.specs.Nodes.{Node}
 use Rattle.graph.specs.NodeRecords.{stmtNumber}
 use Rattle.graph.specs.Graph.{wire, role, returns, successors, predecessors, continuation, returnTargets}
@@ -25,15 +25,14 @@ use Rattle.graph.specs.ReturnLists.{Returns}
 use Rattle.graph.specs.Run.{State, run}
 use Rattle.graph.specs.Build.{Built, graph, refused, edgeCount, fitted, build, builtOf}
 use Rattle.graph.specs.Theorems.{accepted, in-form}
-use Rattle.wiring.specs.Prepared.{wordOf}
-use Rattle.wiring.specs.Room.{StmtsFit, room-fits, fits-room}
-use Rattle.wiring.specs.ReturnTargets.{continuationEntry}
-use Rattle.wiring.specs.PrintedTables.{lineOf, pathIn, succPart, predPart}
+use Rattle.tables.specs.Columns.{wordOf, lineOf, pathIn, succPart, predPart, entriesIn}
+use Rattle.passes.specs.Room.{StmtsFit, room-fits, fits-room}
+use Rattle.passes.specs.ReturnTargets.{continuationEntry}
 use Rattle.wiring.specs.GraphTables.{Sizes, capacity, Answered, answerOf, tableOf, countTable, lineTable, stmtTable, argTable, entryTable, fallTable, linksTable, listTable, returnTable, succTable, predTable}
-use Rattle.wiring.specs.OpenerLaws.{in-range}
-use Rattle.wiring.specs.GraphHeld.{GraphHeld}
-use Rattle.wiring.specs.PrintLaws.{reads, returns-are}
-use Rattle.wiring.specs.DemandLaws.{fitted-21, fitted-22, fitted-23, fitted-graph, graph-held, nodes-total, entriesIn, held-entries, held-continuation, held-succ, held-pred, lists-land, list-ascends, list-exactly}
+use Rattle.passes.specs.OpenerLaws.{in-range}
+use Rattle.passes.specs.GraphHeld.{GraphHeld}
+use Rattle.passes.specs.GraphReads.{reads, returns-are}
+use Rattle.wiring.specs.DemandLaws.{fitted-21, fitted-22, fitted-23, fitted-graph, graph-held, nodes-total, held-entries, held-continuation, held-succ, held-pred, lists-land, list-ascends, list-exactly}
 use Rattle.wiring.specs.declared.build.Built.{Built as BuiltAnswer}
 use Rattle.wiring.specs.declared.build.Built.the-variants as answer
 

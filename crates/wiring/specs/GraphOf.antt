@@ -5,16 +5,16 @@ use mathlib.Core.Bool.{Bool, true, false, _&&_}
 use mathlib.Core.List.{List}
 use lib.Dec.{leb}
 use lib.ListN.{length, replicate}
-use Rattle.reader.specs.Bytes.{pick}
-use Rattle.reader.specs.Listing.{Listing, count, total}
-use Rattle.reader.specs.Records.{padded, countsOf}
+use Rattle.listings.specs.Bytes.{pick}
+use Rattle.listings.specs.Listing.{Listing, count, total}
+use Rattle.listings.specs.Records.{padded, countsOf}
 use Rattle.graph.specs.Graph.{wire}
 use Rattle.graph.specs.Build.{Built, graph, refused, edgeCount}
-use Rattle.wiring.specs.LineEntries.{entryRows}
-use Rattle.wiring.specs.Falls.{fallRows}
-use Rattle.wiring.specs.Prepared.{linkTable}
-use Rattle.wiring.specs.HoldsListing.{HoldsListing}
-use Rattle.wiring.specs.Preparing.{PrepareReady, PreparedTo}
+use Rattle.passes.specs.LineEntries.{entryRows}
+use Rattle.passes.specs.Falls.{fallRows}
+use Rattle.passes.specs.Prepared.{linkTable}
+use Rattle.passes.specs.HoldsListing.{HoldsListing}
+use Rattle.passes.specs.Preparing.{PrepareReady, PreparedTo}
 use Rattle.wiring.specs.Wiring.{WireHeld, WireReady, WiredGraph, WiringDone, WiredTo}
 use Rattle.wiring.specs.GraphTables.{Zeroed, Sizes, sizesOf, answerOf, tableOf, Answered, edgesFitted, countTable, lineTable, stmtTable, argTable, entryTable, fallTable, linksTable, listTable, returnTable, succTable, predTable}
 use Rattle.wiring.specs.BuildLaws.{GraphReady, GraphMade, all-zero}

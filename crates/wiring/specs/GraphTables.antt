@@ -5,18 +5,18 @@ use mathlib.Core.Bool.{_&&_}
 use mathlib.Core.List.{List, [], _∷_}
 use lib.Dec.{leb}
 use lib.ListN.{length, replicate}
-use Rattle.reader.specs.Bytes.{pick}
-use Rattle.reader.specs.Listing.{Listing, total, count}
-use Rattle.reader.specs.Records.{lineRecs, lineNumbers, recRows, argRows, handlerNumber, padded}
+use Rattle.listings.specs.Bytes.{pick}
+use Rattle.listings.specs.Listing.{Listing, total, count}
+use Rattle.listings.specs.Records.{lineRecs, lineNumbers, recRows, argRows, handlerNumber, padded}
 use Rattle.graph.specs.Graph.{wire, allSuccessors, returnTargets}
 use Rattle.graph.specs.GraphLaws.{nodeCount}
 use Rattle.graph.specs.Build.{Capacity, Built, graph, refused, edgeCount}
-use Rattle.wiring.specs.LineEntries.{entryRows}
-use Rattle.wiring.specs.Falls.{fallRows}
-use Rattle.wiring.specs.EdgeTable.{joinedLists, listRows}
-use Rattle.wiring.specs.Predecessors.{predsOf}
-use Rattle.wiring.specs.Prepared.{linkTable}
-use Rattle.wiring.specs.Room.{stmtRoom}
+use Rattle.passes.specs.LineEntries.{entryRows}
+use Rattle.passes.specs.Falls.{fallRows}
+use Rattle.passes.specs.EdgeTable.{joinedLists, listRows}
+use Rattle.passes.specs.Predecessors.{predsOf}
+use Rattle.passes.specs.Prepared.{linkTable}
+use Rattle.passes.specs.Room.{stmtRoom}
 use Rattle.wiring.specs.declared.build.Built.{Built as BuiltAnswer}
 use Rattle.wiring.specs.declared.build.Built.the-variants as answer
 

@@ -8,10 +8,10 @@ use native.Mathlib.Nat.{min-le-left, min-le-right}
 use borrow.Author.Tests.{leb-true, le-leb, lt-leb}
 use lib.Dec.{leb}
 use lib.ListN.{length}
-use Rattle.reader.specs.Listing.{Listing}
+use Rattle.listings.specs.Listing.{Listing}
 use Rattle.graph.specs.Build.{edgeCount}
 use Rattle.wiring.specs.Wiring.{WireHeld, WireReady, WiredGraph, WiringDone}
-use Rattle.wiring.specs.Preparing.{FramesMade, with-frames}
+use Rattle.passes.specs.Preparing.{FramesMade, with-frames}
 use Rattle.wiring.specs.CountGraph.{CountReady, CountedTo, GraphCounted}
 use Rattle.wiring.specs.WriteGraph.{WriteHeld, WriteReady, WrittenGraph}
 

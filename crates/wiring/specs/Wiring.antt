@@ -5,10 +5,10 @@ use mathlib.Core.Bool.{Bool, true, _&&_}
 use mathlib.Core.List.{List}
 use lib.Dec.{leb}
 use lib.ListN.{length, replicate}
-use Rattle.reader.specs.Listing.{Listing}
-use Rattle.reader.specs.Records.{padded, countsOf}
+use Rattle.listings.specs.Listing.{Listing}
+use Rattle.listings.specs.Records.{padded, countsOf}
 use Rattle.graph.specs.Build.{edgeCount}
-use Rattle.wiring.specs.Prepared.{LinksPrepared}
+use Rattle.passes.specs.Prepared.{LinksPrepared}
 use Rattle.wiring.specs.GraphTables.{countTable, listTable, returnTable, succTable, predTable}
 
 -- the tables before, where the lists are zero

@@ -7,22 +7,23 @@ use mathlib.Core.Logic.{_⊎_, inl, inr}
 use native.Mathlib.Omega.{arith}
 use lib.ListN.{length, length-append, length-drop, getD, getD-replicate, set, drop, replicate}
 use lib.Seq.{ext-getD}
-use Rattle.reader.specs.Listing.{Listing}
-use Rattle.reader.specs.Records.{padded, countsOf}
+use Rattle.listings.specs.Listing.{Listing}
+use Rattle.listings.specs.Records.{padded, countsOf}
 use Rattle.reader.specs.Tables.{drop-zeros}
 use Rattle.graph.specs.Lists.{each, below}
 use Rattle.graph.specs.Distinct.{dist[], distinct-all, few}
 use Rattle.graph.specs.Graph.{Wired, wire, skipSteps, allSuccessors, continuation, returnTargets}
 use Rattle.graph.specs.GraphLaws.{nodeCount, target-ids}
 use Rattle.graph.specs.Build.{edgeCount}
-use Rattle.wiring.specs.Compare.{eq-or, lt-or}
-use Rattle.wiring.specs.Clearing.{SetsCleared}
-use Rattle.wiring.specs.EdgeTable.{joinedLists, listRows, predCount, columns-past, ListsStored, length-lists}
-use Rattle.wiring.specs.Predecessors.{NodeLists, predsOf, all-lists, successor-lists}
-use Rattle.wiring.specs.PredecessorLists.{Ready, Written, Successors, stored-successors}
-use Rattle.wiring.specs.EdgeCount.{edges-joined}
-use Rattle.wiring.specs.FinalLists.{FinalTables, SkipsHeld, WritesReady, WritesDone}
-use Rattle.wiring.specs.PreparedLaws.{return-row}
+use Rattle.passes.specs.Compare.{eq-or, lt-or}
+use Rattle.passes.specs.Clearing.{SetsCleared}
+use Rattle.passes.specs.EdgeTable.{joinedLists, listRows, columns-past, ListsStored, length-lists}
+use Rattle.tables.specs.Columns.{predCount}
+use Rattle.passes.specs.Predecessors.{NodeLists, predsOf, all-lists, successor-lists}
+use Rattle.passes.specs.PredecessorLists.{Ready, Written, Successors, stored-successors}
+use Rattle.passes.specs.EdgeCount.{edges-joined}
+use Rattle.passes.specs.FinalLists.{FinalTables, SkipsHeld, WritesReady, WritesDone}
+use Rattle.passes.specs.PreparedLaws.{return-row}
 use Rattle.wiring.specs.GraphTables.{countTable, listTable, returnTable, succTable, predTable}
 use Rattle.wiring.specs.Wiring.{WiredGraph}
 

@@ -8,7 +8,7 @@ use reader::listing::Listed;
 use reader::tables::zero16;
 use reader::tables::zero64;
 ghost use mathlib.Core.Path.{_≡_};
-ghost use lib.ListN.{length, replicate};
+ghost use lib.ListN.{replicate};
 ghost use Rattle.graph.specs.Build.{build as builtBy};
 ghost use Rattle.wiring.specs.GraphTables.{Zeroed, sizesOf, capacity, Answered};
 ghost use Rattle.wiring.specs.BuildLaws.{GraphReady, GraphMade};

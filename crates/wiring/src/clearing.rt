@@ -3,7 +3,7 @@ use crate::return_sets::RETURN;
 use reader::tables::zero64;
 ghost use Prim.Native.Nat.{_+_, _*_, _≤_, _<_};
 ghost use lib.ListN.{length};
-ghost use Rattle.wiring.specs.Clearing.{SetCleared, SetsCleared};
+ghost use Rattle.passes.specs.Clearing.{SetCleared, SetsCleared};
 
 // Clears the set of node i, where that is a RETURN.
 fn clear_set(stmts: &[u16], i: usize, sets: &mut [u64])

@@ -4,15 +4,15 @@ use crate::sets::insert;
 use crate::sets::join;
 use crate::sets::members;
 use crate::sets::no_words;
-use crate::widths::wide;
 use reader::tables::zero64;
+use tables::widths::wide;
 ghost use mathlib.Core.Path.{_≡_};
 ghost use Prim.Native.Nat.{_+_, _*_, _≤_, _<_};
 ghost use lib.ListN.{length, take};
 ghost use Rattle.graph.specs.EdgeBounds.{Ids};
-ghost use Rattle.wiring.specs.Sets.{bit};
-ghost use Rattle.wiring.specs.ReturnSets.{setOf};
-ghost use Rattle.wiring.specs.Closure.{Closed, RowIs, RowJoined, RowsJoined, RowReached, RowListed};
+ghost use Rattle.passes.specs.Sets.{bit};
+ghost use Rattle.passes.specs.ReturnSets.{setOf};
+ghost use Rattle.passes.specs.Closure.{Closed, RowIs, RowJoined, RowsJoined, RowReached, RowListed};
 
 // 1 where row i has node j, else 0.
 fn row_bit(rows: &[u64], i: usize, j: usize) -> u64

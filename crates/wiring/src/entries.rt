@@ -1,13 +1,13 @@
 // Line entries: the node where each line enters, and the search by line number.
 use crate::widths::narrow;
-use crate::widths::wide;
 use reader::tables::LINE;
 use reader::tables::STMT_ENTRIES;
+use tables::widths::wide;
 ghost use mathlib.Core.Path.{_≡_};
 ghost use Prim.Native.Nat.{_*_, _≤_};
 ghost use lib.ListN.{length, set};
-ghost use Rattle.wiring.specs.LineEntries.{entryOr, FirstStored, EntriesFilled, EntriesComputed};
-ghost use Rattle.wiring.specs.LineSearch.{LineFound, EntryFound};
+ghost use Rattle.passes.specs.LineEntries.{entryOr, FirstStored, EntriesFilled, EntriesComputed};
+ghost use Rattle.passes.specs.LineSearch.{LineFound, EntryFound};
 
 // Stores x at l; a line index that no line has stores nothing.
 fn store(entries: &mut [u16], l: usize, x: u16)

@@ -1,7 +1,6 @@
 // Where statements fall and where branches lead.
 use crate::entries::entry_of;
 use crate::widths::narrow;
-use crate::widths::wide;
 use reader::tables::END;
 use reader::tables::FORM1;
 use reader::tables::FORM2;
@@ -9,14 +8,15 @@ use reader::tables::NUMBER1;
 use reader::tables::NUMBER2;
 use reader::tables::SECOND;
 use reader::tables::STMT_ENTRIES;
+use tables::widths::wide;
 ghost use mathlib.Core.Path.{_≡_};
 ghost use mathlib.Core.Bool.{true, false};
 ghost use mathlib.Core.List.{[], _∷_};
 ghost use Prim.Native.Nat.{_+_, _*_, _≤_, _<_};
 ghost use lib.ListN.{length};
 ghost use lib.Seq.{sets};
-ghost use Rattle.wiring.specs.Falls.{targetOf, BranchLed, RowConnected, StmtConnected, BranchConnected, LinesConnected, AllLines};
-ghost use Rattle.wiring.specs.Connecting.{startOf};
+ghost use Rattle.passes.specs.Falls.{targetOf, BranchLed, RowConnected, StmtConnected, BranchConnected, LinesConnected, AllLines};
+ghost use Rattle.passes.specs.Connecting.{startOf};
 
 // Forms of a branch.
 const NO_BRANCH: u16 = 0;

@@ -1,14 +1,14 @@
 // The rows of arguments, filled with where the nodes step on a skipping path, for the closure.
-use crate::calls::is_call;
 use crate::closure::put_row;
 use crate::fors::NEXT;
 use crate::list_of::list_of;
 use crate::return_sets::RETURN;
 use crate::skip_lists::put_fall;
+use tables::calls::is_call;
 ghost use mathlib.Core.Path.{_≡_};
 ghost use Prim.Native.Nat.{_*_, _<_};
 ghost use lib.ListN.{length};
-ghost use Rattle.wiring.specs.FillRows.{SkipReady, SkipMade, inPass, RowReady, RowFilled, PassReady, PassFilled, FillReady, RowsFilled};
+ghost use Rattle.passes.specs.FillRows.{SkipReady, SkipMade, inPass, RowReady, RowFilled, PassReady, PassFilled, FillReady, RowsFilled};
 
 // Where a skipping path steps from node i: from a call where it falls, from a RETURN nowhere, else to its list.
 fn skip_list(

@@ -1,17 +1,17 @@
 // The successor lists of the graph, in node order.
-use crate::calls::is_call;
 use crate::list_of::list_of;
 use crate::return_sets::RETURN;
 use crate::sets::members;
 use crate::store::append_list;
 use crate::store::move_list;
 use crate::store::store_list;
+use tables::calls::is_call;
 ghost use mathlib.Core.Path.{_≡_};
 ghost use mathlib.Core.Bool.{true};
 ghost use Prim.Native.Nat.{_+_, _*_, _≤_, _<_};
 ghost use lib.ListN.{length};
-ghost use Rattle.wiring.specs.NodeList.{ListIs};
-ghost use Rattle.wiring.specs.FinalLists.{returnList, WriteReady, WriteDone, WritesReady, WritesDone};
+ghost use Rattle.passes.specs.NodeList.{ListIs};
+ghost use Rattle.passes.specs.FinalLists.{returnList, WriteReady, WriteDone, WritesReady, WritesDone};
 
 // Where RETURN i leads goes into the buffer: with handlers all return targets, without them the members of its set.
 fn return_list(

@@ -5,19 +5,19 @@ use crate::stacks::FrameStack;
 use crate::stacks::below;
 use crate::stacks::newest;
 use crate::widths::narrow;
-use crate::widths::wide;
+use tables::widths::wide;
 ghost use mathlib.Core.Path.{_≡_};
 ghost use mathlib.Core.Bool.{true};
 ghost use Prim.Native.Nat.{_+_, _*_, _/_, _≤_, _<_};
 ghost use lib.Dec.{eqb};
 ghost use lib.ListN.{length, getD, replicate};
-ghost use Rattle.wiring.specs.ListedNodes.{SlotsCounted, AllCounted};
-ghost use Rattle.wiring.specs.FrameStacks.{HoldsBelow, TopIs};
-ghost use Rattle.wiring.specs.ForStack.{movesFors, Sought, SlotFound, ForPushed, SlotsPopped, NodeLinked};
-ghost use Rattle.wiring.specs.Sets.{bit};
-ghost use Rattle.wiring.specs.NotedKeys.{noteOf, KeysNoted};
-ghost use Rattle.wiring.specs.ForLinks.{ForsLinked};
-ghost use Rattle.wiring.specs.Dispatched.{isDispatched, DispatchedTo, DispatchedOne};
+ghost use Rattle.passes.specs.ListedNodes.{SlotsCounted, AllCounted};
+ghost use Rattle.passes.specs.FrameStacks.{HoldsBelow, TopIs};
+ghost use Rattle.passes.specs.ForStack.{movesFors, Sought, SlotFound, ForPushed, SlotsPopped, NodeLinked};
+ghost use Rattle.passes.specs.Sets.{bit};
+ghost use Rattle.passes.specs.NotedKeys.{noteOf, KeysNoted};
+ghost use Rattle.passes.specs.ForLinks.{ForsLinked};
+ghost use Rattle.passes.specs.Dispatched.{isDispatched, DispatchedTo, DispatchedOne};
 
 // Numbers of opening words.
 pub(crate) const FOR: u16 = 13;

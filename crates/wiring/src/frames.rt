@@ -2,82 +2,20 @@
 use crate::stacks::FrameStack;
 use crate::stacks::newest;
 use crate::widths::narrow;
-use crate::widths::wide;
+use passes::moves::ELSE;
+use passes::moves::EXIT;
+use passes::moves::EXITIF;
+use passes::moves::FrameMove;
+use passes::moves::do_move;
+use passes::moves::loop_move;
+use passes::moves::moves;
+use tables::widths::wide;
 ghost use mathlib.Core.Path.{_≡_};
 ghost use Prim.Native.Nat.{_+_, _*_, _≤_, _<_};
 ghost use lib.ListN.{length, getD};
-ghost use Rattle.wiring.specs.FrameStacks.{HoldsBelow};
-ghost use Rattle.wiring.specs.Frames.{loopMove, doMove, Framed};
-ghost use Rattle.wiring.specs.FramePass.{moveOf, movesStack, FrameMet, FrameMoved, AllZero, MetBelow, MetFrames, linked};
-
-// The words that move one of the two stacks follow each other in the table of opening words.
-const REPEAT: u16 = 15;
-
-const UNTIL: u16 = 17;
-
-pub(crate) const EXIT: u16 = 19;
-
-pub(crate) const EXITIF: u16 = 20;
-
-pub(crate) const DOIF: u16 = 21;
-
-pub(crate) const ELSE: u16 = 22;
-
-const DONE: u16 = 23;
-
-// What a statement does to a stack.
-pub enum FrameMove {
-    Stays,
-    Opens,
-    Closes,
-    Joins,
-}
-
-// REPEAT and LOOP open, UNTIL and ENDLOOP close, EXIT and EXITIF join.
-fn loop_move(word: u16) -> FrameMove
-    ensures { λ r. ⌜ moveOf r ≡ loopMove word ⌝ }
-{
-    if word < REPEAT {
-        return FrameMove::Stays;
-    }
-    if word < UNTIL {
-        return FrameMove::Opens;
-    }
-    if word < EXIT {
-        return FrameMove::Closes;
-    }
-    if word < DOIF {
-        return FrameMove::Joins;
-    }
-    FrameMove::Stays
-}
-
-fn do_move(word: u16) -> FrameMove
-    ensures { λ r. ⌜ moveOf r ≡ doMove word ⌝ }
-{
-    if word == DOIF {
-        return FrameMove::Opens;
-    }
-    if word == ELSE {
-        return FrameMove::Joins;
-    }
-    if word == DONE {
-        return FrameMove::Closes;
-    }
-    FrameMove::Stays
-}
-
-// Whether the stack is changed.
-fn moves(m: FrameMove) -> bool
-    ensures { λ r. ⌜ r ≡ movesStack (moveOf m) ⌝ }
-{
-    match m {
-        FrameMove::Stays => false,
-        FrameMove::Opens => true,
-        FrameMove::Closes => true,
-        FrameMove::Joins => false,
-    }
-}
+ghost use Rattle.passes.specs.FrameStacks.{HoldsBelow};
+ghost use Rattle.passes.specs.Frames.{Framed};
+ghost use Rattle.passes.specs.FramePass.{moveOf, FrameMet, FrameMoved, AllZero, MetFrames, linked};
 
 // Node i writes which frame it closes or joins.
 fn meet_frame(words: &[u64; 64], m: FrameMove, i: usize, frames: &mut [u16])

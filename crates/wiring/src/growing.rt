@@ -1,7 +1,7 @@
 // A node's list while it grows in a part that has room for all nodes.
-use super::lists::holds;
+use tables::lists::holds;
 ghost use Rattle.graph.specs.Adding.{decode};
-ghost use Rattle.wiring.specs.Growing.{RoomFor, Grows};
+ghost use Rattle.passes.specs.Growing.{RoomFor, Grows};
 
 // Adds the node t - 1 once, where t is not 0. The list may fill the part if that node is in it.
 pub(crate) fn add_node(l: &mut [u16], n: usize, t: u16) -> usize

@@ -1,15 +1,15 @@
 // Where the line numbers lead that statements name.
 use crate::entries::entry_of;
-use crate::widths::wide;
 use reader::tables::ARG_ENTRIES;
 use reader::tables::COUNT;
 use reader::tables::STMT_ENTRIES;
 use reader::tables::WORD;
+use tables::widths::wide;
 ghost use mathlib.Core.Path.{_≡_};
 ghost use Prim.Native.Nat.{_*_, _≤_};
 ghost use lib.ListN.{length};
-ghost use Rattle.wiring.specs.LineSearch.{EntryFound};
-ghost use Rattle.wiring.specs.Jumps.{namesLines, jumpCount, RowLinked, JumpsLinked};
+ghost use Rattle.passes.specs.LineSearch.{EntryFound};
+ghost use Rattle.passes.specs.Jumps.{namesLines, jumpCount, RowLinked, JumpsLinked};
 
 // Opening words, by their numbers in the table.
 const GOTO: u16 = 7;

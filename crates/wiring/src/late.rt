@@ -2,13 +2,13 @@
 ghost use mathlib.Core.Path.{_≡_};
 ghost use lib.ListN.{length};
 ghost use Rattle.graph.specs.Adding.{Added};
-ghost use Rattle.wiring.specs.Late.{FitsPart, fallFrom, FallFitsFrom, ElsesFit, ElsesAdded, DoifFits, DoifAdded, closerFrom, CloserFits, joinsWord, LateReady, LateAdded};
-use crate::frames::DOIF;
-use crate::frames::ELSE;
-use crate::frames::EXIT;
-use crate::frames::EXITIF;
+ghost use Rattle.passes.specs.Late.{FitsPart, fallFrom, FallFitsFrom, ElsesFit, ElsesAdded, DoifFits, DoifAdded, closerFrom, CloserFits, joinsWord, LateReady, LateAdded};
 use crate::growing::add_node;
-use crate::widths::wide;
+use passes::moves::DOIF;
+use passes::moves::ELSE;
+use passes::moves::EXIT;
+use passes::moves::EXITIF;
+use tables::widths::wide;
 
 // Adds where the node c - 1 falls, where c is not 0.
 fn add_fall(falls: &[u16], c: usize, part: &mut [u16], n: usize) -> usize

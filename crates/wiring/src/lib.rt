@@ -1,6 +1,5 @@
 // The wiring: the records of a listing to its graph.
 pub mod build;
-pub mod calls;
 pub mod clearing;
 pub mod closure;
 pub mod entries;
@@ -13,7 +12,6 @@ pub mod growing;
 pub mod jumps;
 pub mod late;
 pub mod list_of;
-pub mod lists;
 pub mod nexts;
 pub mod predecessors;
 pub mod prepare;

@@ -1,24 +1,24 @@
 // A node's list, each edge once: what its statement adds, then what later nodes add, then an orphan NEXT's bodies.
 use crate::fors::FOR;
 use crate::fors::NEXT;
-use crate::frames::ELSE;
-use crate::frames::EXIT;
 use crate::growing::add_node;
 use crate::late::add_late;
 use crate::nexts::add_link;
 use crate::nexts::add_orphan;
 use crate::nexts::add_popped;
-use crate::widths::wide;
+use passes::moves::ELSE;
+use passes::moves::EXIT;
+use tables::widths::wide;
 ghost use mathlib.Core.Path.{_≡_};
 ghost use Prim.Native.Nat.{_+_, _*_, _≤_};
 ghost use lib.ListN.{length, take, getD};
 ghost use Rattle.graph.specs.Lists.{each};
 ghost use Rattle.graph.specs.Adding.{decode};
-ghost use Rattle.wiring.specs.Growing.{Grows};
-ghost use Rattle.wiring.specs.NextBodies.{PoppedRoom};
-ghost use Rattle.wiring.specs.AddRoom.{RoomToAdd};
-ghost use Rattle.wiring.specs.EntryOrder.{Rises, EntryRoom, EntryAdded};
-ghost use Rattle.wiring.specs.NodeList.{runEdges, jumpEdges, nextEdges, untilEdges, fallsWord, blockEdges, ownEdges, OwnRoom, ListReady, ListMade};
+ghost use Rattle.passes.specs.Growing.{Grows};
+ghost use Rattle.passes.specs.NextBodies.{PoppedRoom};
+ghost use Rattle.passes.specs.AddRoom.{RoomToAdd};
+ghost use Rattle.passes.specs.EntryOrder.{Rises, EntryRoom, EntryAdded};
+ghost use Rattle.passes.specs.NodeList.{runEdges, jumpEdges, nextEdges, untilEdges, fallsWord, blockEdges, ownEdges, OwnRoom, ListReady, ListMade};
 
 // Numbers of opening words; those of IF, IFELSE and RCOMP are below that of GOTO.
 const GOTO: u16 = 7;

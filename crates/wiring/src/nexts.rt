@@ -1,16 +1,16 @@
 // What a NEXT's list gets of FORs: the bodies of those that it pops, and of the dispatched ones that an orphan's slots select.
 use crate::fors::NEXT;
 use crate::growing::add_node;
-use crate::widths::wide;
+use tables::widths::wide;
 ghost use mathlib.Core.Path.{_≡_};
 ghost use Prim.Native.Nat.{_+_, _*_, _≤_, _<_};
 ghost use lib.ListN.{length, take, getD};
 ghost use Rattle.graph.specs.Lists.{each};
-ghost use Rattle.wiring.specs.ListedNodes.{SlotsCounted};
-ghost use Rattle.wiring.specs.ForLinks.{poppedBy};
-ghost use Rattle.wiring.specs.Growing.{Grows};
-ghost use Rattle.wiring.specs.AddedAgain.{AllIn};
-ghost use Rattle.wiring.specs.NextBodies.{bodyAt, linkBody, selectsKey, selectedBody, slotBodies, cameBefore, orphanBodies, LinksRoom, PoppedRoom, SelectRoom, LinkRoom, ForRoom};
+ghost use Rattle.passes.specs.ListedNodes.{SlotsCounted};
+ghost use Rattle.passes.specs.ForLinks.{poppedBy};
+ghost use Rattle.passes.specs.Growing.{Grows};
+ghost use Rattle.passes.specs.AddedAgain.{AllIn};
+ghost use Rattle.passes.specs.NextBodies.{bodyAt, linkBody, selectsKey, selectedBody, slotBodies, cameBefore, orphanBodies, LinksRoom, PoppedRoom, SelectRoom, LinkRoom, ForRoom};
 
 // A NEXT's mark.
 const ORPHAN: u16 = 1;

@@ -1,11 +1,11 @@
 // The predecessor lists, by counting: how many each node has, where its list begins, then the lists in node order.
-use crate::widths::wide;
+use tables::widths::wide;
 ghost use Prim.Native.Nat.{_*_, _<_, _≤_};
 ghost use lib.ListN.{length};
-ghost use Rattle.wiring.specs.EdgeTable.{predCount};
-ghost use Rattle.wiring.specs.Counting.{sumTo};
-ghost use Rattle.wiring.specs.Predecessors.{Countable, Counted, Started, Fillable, Placed};
-ghost use Rattle.wiring.specs.PredecessorLists.{FillReady, FilledTo, Ready, Written};
+ghost use Rattle.tables.specs.Columns.{predCount};
+ghost use Rattle.passes.specs.Counting.{sumTo};
+ghost use Rattle.passes.specs.Predecessors.{Countable, Counted, Started, Fillable, Placed};
+ghost use Rattle.passes.specs.PredecessorLists.{FillReady, FilledTo, Ready, Written};
 
 // Each edge counts for the node that it leads to.
 fn count_edges(succ: &[u16], edges: usize, lists: &mut [u16], nodes: usize)

@@ -3,7 +3,7 @@ use crate::entries::compute_line_after;
 use crate::falls::connect_lines;
 use crate::fors::link_fors;
 use crate::jumps::link_jumps;
-ghost use Rattle.wiring.specs.Preparing.{PrepareReady, PreparedTo};
+ghost use Rattle.passes.specs.Preparing.{PrepareReady, PreparedTo};
 
 // Answers whether each inner statement was found (27 if not).
 pub(crate) fn prepare(

@@ -8,7 +8,8 @@ use reader::tables::zero64;
 ghost use mathlib.Core.Path.{_≡_};
 ghost use Prim.Native.Nat.{_*_, _≤_};
 ghost use lib.ListN.{length};
-ghost use Rattle.wiring.specs.Reading.{clearedBehind, FittingRead};
+ghost use Rattle.tables.specs.Stores.{clearedBehind};
+ghost use Rattle.passes.specs.Reading.{FittingRead};
 
 // The entries from `at` on become zero.
 pub(crate) fn clear_behind(t: &mut [u16], at: usize)

@@ -1,7 +1,5 @@
 // Where RETURNs go back to without handlers: one walk for each entry that is called, and the continuations of its calls joined into
 // the set of each RETURN that the walk lists.
-use crate::calls::is_call;
-use crate::lists::holds;
 use crate::return_sets::join_returns;
 use crate::sets::insert;
 use crate::sets::no_words;
@@ -10,16 +8,18 @@ use crate::spans::span_calls;
 use crate::walk::no_work;
 use crate::walk::region;
 use crate::widths::narrow;
-use crate::widths::wide;
+use tables::calls::is_call;
+use tables::lists::holds;
+use tables::widths::wide;
 ghost use mathlib.Core.Path.{_≡_};
 ghost use Prim.Native.Nat.{_+_, _*_, _≤_, _<_};
 ghost use lib.ListN.{length};
-ghost use Rattle.reader.specs.Every.{All};
+ghost use Rattle.listings.specs.Every.{All};
 ghost use Rattle.graph.specs.Lists.{each};
 ghost use Rattle.graph.specs.Adding.{decode};
-ghost use Rattle.wiring.specs.Sets.{oneIf, Put};
-ghost use Rattle.wiring.specs.Prepared.{callWord, wordOf};
-ghost use Rattle.wiring.specs.Regions.{callsBelow, backFrom, CallFits, EntryCalls, SetAdded, ListedJoined, EntryJoined, EntriesJoined, EntriesReady, RegionsReady, RegionReturns};
+ghost use Rattle.passes.specs.Sets.{oneIf, Put};
+ghost use Rattle.tables.specs.Columns.{callWord, wordOf};
+ghost use Rattle.passes.specs.Regions.{callsBelow, backFrom, CallFits, EntryCalls, SetAdded, ListedJoined, EntryJoined, EntriesJoined, EntriesReady, RegionsReady, RegionReturns};
 
 // Puts node i behind the first m entries, if it is a call.
 fn list_call(stmts: &[u16], i: usize, calls: &mut [u16], m: usize) -> usize

@@ -1,11 +1,11 @@
 // The sets of the RETURNs, 64 words a node: where each returns to.
 use crate::sets::join;
-use crate::widths::wide;
+use tables::widths::wide;
 ghost use mathlib.Core.Path.{_≡_};
 ghost use mathlib.Core.List.{[], _∷_};
 ghost use Prim.Native.Nat.{_*_, _≤_};
 ghost use lib.ListN.{length};
-ghost use Rattle.wiring.specs.ReturnSets.{ReturnsJoined};
+ghost use Rattle.passes.specs.ReturnSets.{ReturnsJoined};
 
 // The number of `return` in the table of opening words.
 pub(crate) const RETURN: u16 = 9;

@@ -1,12 +1,12 @@
 // The return targets: where the calls continue, in the order in which the calls stand, each once.
-use crate::calls::is_call;
 use crate::walk::no_marks;
-use crate::widths::wide;
+use tables::calls::is_call;
+use tables::widths::wide;
 ghost use mathlib.Core.Path.{_≡_};
 ghost use Prim.Native.Nat.{_+_, _*_, _≤_, _<_};
 ghost use lib.ListN.{length};
 ghost use Rattle.graph.specs.Adding.{decode};
-ghost use Rattle.wiring.specs.ReturnTargets.{continuationNumber, FallsFit, Marking, TargetsAdded, TargetsListed};
+ghost use Rattle.passes.specs.ReturnTargets.{continuationNumber, FallsFit, Marking, TargetsAdded, TargetsListed};
 
 // Where node i continues if it is a call: one more than the node, or 0.
 fn continuation(stmts: &[u16], falls: &[u16], i: usize) -> u16

@@ -5,9 +5,9 @@ ghost use mathlib.Core.Path.{_≡_};
 ghost use Prim.Native.Nat.{_+_, _*_, _≤_, _<_};
 ghost use lib.Dec.{eqb};
 ghost use lib.ListN.{length};
-ghost use Rattle.reader.specs.Bytes.{pick};
-ghost use Rattle.wiring.specs.Prepared.{wordOf};
-ghost use Rattle.wiring.specs.ReturnTotals.{sumWhere, returnSize};
+ghost use Rattle.listings.specs.Bytes.{pick};
+ghost use Rattle.tables.specs.Columns.{wordOf};
+ghost use Rattle.passes.specs.ReturnTotals.{sumWhere, returnSize};
 
 // How many edges node i has as a RETURN: none where it is no RETURN.
 fn return_size(handlers: bool, stmts: &[u16], sets: &[u64], i: usize, targets: usize) -> usize

@@ -3,7 +3,7 @@ use reader::tables::ARG_ENTRIES;
 use reader::tables::STMT_ENTRIES;
 ghost use mathlib.Core.Path.{_≡_};
 ghost use Prim.Native.Nat.{min};
-ghost use Rattle.wiring.specs.Room.{stmtRoom};
+ghost use Rattle.passes.specs.Room.{stmtRoom};
 
 fn least(a: usize, b: usize) -> usize
     ensures { λ r. ⌜ r ≡ min a b ⌝ }

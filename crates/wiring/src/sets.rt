@@ -4,7 +4,7 @@ ghost use mathlib.Core.Path.{_≡_};
 ghost use Prim.Native.Nat.{_+_, _/_, _≤_, _<_, _^_};
 ghost use lib.Dec.{eqb};
 ghost use lib.ListN.{length, replicate};
-ghost use Rattle.wiring.specs.Sets.{inserted, joined, oneIf, wordMembers, membersOf, Put};
+ghost use Rattle.passes.specs.Sets.{inserted, joined, oneIf, wordMembers, membersOf, Put};
 
 // In a function of its own, so that no other proof sees the 64 zeros.
 pub(crate) fn no_words() -> [u64; 64]

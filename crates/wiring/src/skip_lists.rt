@@ -1,12 +1,12 @@
 // The lists that skipping paths follow, stored for the walks through regions.
-use crate::calls::is_call;
 use crate::list_of::list_of;
 use crate::store::append_list;
+use tables::calls::is_call;
 ghost use Prim.Native.Nat.{_*_, _≤_, _<_};
 ghost use lib.ListN.{length, take};
-ghost use Rattle.wiring.specs.Prepared.{fallEntry};
-ghost use Rattle.wiring.specs.NodeList.{ListIs};
-ghost use Rattle.wiring.specs.SkipLists.{skipList, SkipReady, SkipDone, SkipsReady, SkipsDone};
+ghost use Rattle.tables.specs.Columns.{fallEntry};
+ghost use Rattle.passes.specs.NodeList.{ListIs};
+ghost use Rattle.passes.specs.SkipLists.{skipList, SkipReady, SkipDone, SkipsReady, SkipsDone};
 
 // The edges that a graph may have.
 pub(crate) const MOST_EDGES: usize = 32768;

@@ -1,16 +1,16 @@
 // Where in the list of calls those of an entry stand, from the first of them to behind the last: 2 entries a node, both 0 where no call has
 // it among its targets. So the calls of an entry are looked for among few.
 use crate::widths::narrow;
-use crate::widths::wide;
+use tables::widths::wide;
 ghost use mathlib.Core.Path.{_≡_};
 ghost use Prim.Native.Nat.{ℕ, _≤_, _<_};
 ghost use lib.ListN.{length, replicate};
-ghost use Rattle.reader.specs.Every.{All};
+ghost use Rattle.listings.specs.Every.{All};
 ghost use Rattle.graph.specs.Lists.{each};
 ghost use Rattle.graph.specs.Adding.{decode};
-ghost use Rattle.wiring.specs.Prepared.{linkEntries};
-ghost use Rattle.wiring.specs.Regions.{TargetsFit};
-ghost use Rattle.wiring.specs.Spans.{SpansGrow, Spanned, firstOf};
+ghost use Rattle.passes.specs.Prepared.{linkEntries};
+ghost use Rattle.passes.specs.Regions.{TargetsFit};
+ghost use Rattle.passes.specs.Spans.{SpansGrow, Spanned, firstOf};
 
 // In a function of its own, so that no other proof sees the zeros.
 pub(crate) fn no_spans() -> [u16; 8192]

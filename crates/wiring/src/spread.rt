@@ -8,12 +8,12 @@ use crate::regions::list_calls;
 use crate::spans::no_spans;
 use crate::spans::span_calls;
 use crate::walk::no_work;
-use crate::widths::wide;
+use tables::widths::wide;
 ghost use mathlib.Core.Path.{_≡_};
 ghost use Prim.Native.Nat.{_<_};
 ghost use lib.ListN.{length};
-ghost use Rattle.wiring.specs.FillRows.{FillReady};
-ghost use Rattle.wiring.specs.Spread.{EntrySpread, EntriesSpread, RegionsSpread, SpreadEntriesReady, SpreadRegionsReady, SpreadTo};
+ghost use Rattle.passes.specs.FillRows.{FillReady};
+ghost use Rattle.passes.specs.Spread.{EntrySpread, EntriesSpread, RegionsSpread, SpreadEntriesReady, SpreadRegionsReady, SpreadTo};
 
 // The entry e, if it is called: its region by its closed row, listed in `work`.
 fn join_spread(

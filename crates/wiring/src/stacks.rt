@@ -4,7 +4,7 @@ use crate::sets::no_words;
 ghost use mathlib.Core.Path.{_≡_};
 ghost use mathlib.Core.List.{[]};
 ghost use Prim.Native.Nat.{_-_, _^_, _≤_, _<_};
-ghost use Rattle.wiring.specs.FrameStacks.{Holds, HoldsBelow, Highest, Room, Pushed, PoppedTo, BelowIs, CutAt, TopIs};
+ghost use Rattle.passes.specs.FrameStacks.{Holds, HoldsBelow, Highest, Room, Pushed, PoppedTo, BelowIs, CutAt, TopIs};
 
 // The frame of opener i is bit i % 64 of word i / 64.
 pub struct FrameStack {

@@ -1,10 +1,11 @@
 // A node's list goes into its own part of the edge table.
-use crate::widths::wide;
+use tables::widths::wide;
 ghost use mathlib.Core.Path.{_≡_};
 ghost use mathlib.Core.List.{_++_};
 ghost use Prim.Native.Nat.{_+_, _*_, _<_, _≤_};
 ghost use lib.ListN.{length, take, drop};
-ghost use Rattle.wiring.specs.EdgeTable.{Appended, succStart, succCount};
+ghost use Rattle.passes.specs.EdgeTable.{Appended};
+ghost use Rattle.tables.specs.Columns.{succStart, succCount};
 
 // The first count entries of a list go to the front of the part; what stands behind them stays.
 pub(crate) fn store_list(part: &mut [u16], list: &[u16], count: usize)

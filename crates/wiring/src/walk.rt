@@ -1,11 +1,11 @@
 // The walk through a region: a mark for each of 4,096 statements, and a list of the marked nodes, whose end is the worklist.
 use crate::widths::narrow;
-use crate::widths::wide;
+use tables::widths::wide;
 ghost use mathlib.Core.Path.{_≡_};
 ghost use mathlib.Core.Bool.{false};
 ghost use Prim.Native.Nat.{_<_, _≤_};
 ghost use lib.ListN.{length, replicate};
-ghost use Rattle.wiring.specs.Walk.{Stored, storedList, RegionListed, Markable, ListMarked};
+ghost use Rattle.passes.specs.Walk.{Stored, storedList, RegionListed, Markable, ListMarked};
 
 // Marks the nodes of a list, and puts those that had no mark behind the `count` nodes of `work`. A node comes there with its mark, so the
 // free marks leave room.

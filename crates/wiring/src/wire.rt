@@ -15,7 +15,7 @@ ghost use Prim.Native.Nat.{min};
 ghost use lib.Dec.{leb};
 ghost use lib.ListN.{length, replicate};
 ghost use Rattle.wiring.specs.CountGraph.{ReturnsReady, ReturnsFound, CountReady, CountedTo};
-ghost use Rattle.wiring.specs.Preparing.{FramesMade};
+ghost use Rattle.passes.specs.Preparing.{FramesMade};
 ghost use Rattle.wiring.specs.Wiring.{WireReady, WiredTo};
 
 // How many edges the graph has, and how many return targets.

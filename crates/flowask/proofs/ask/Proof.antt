@@ -1,6 +1,6 @@
 -- `ask`: by the length of the text. Assumes nothing.
 use borrow.Author.Needs.{needs}
-use Rattle.wiring.specs.Printing.{puts-is}
+use Rattle.formatting.specs.Printing.{puts-is}
 use Rattle.flowask.specs.Limits.{too-long, not-too-long}
 use Rattle.flowask.proofs.ask.Statement.{statement}
 use Rattle.flowask.proofs.ask.Tie as tie

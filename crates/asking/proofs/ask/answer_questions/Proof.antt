@@ -1,7 +1,7 @@
 -- `answer_questions`: none, or those behind the row `(questions`. Assumes nothing.
 use borrow.Author.Needs.{needs}
 use native.Mathlib.Omega.{arith}
-use Rattle.asking.specs.AnswersAt.{answerAt}
+use Rattle.answers.specs.AnswersAt.{answerAt}
 use Rattle.asking.specs.Asked.{none-asked, some-asked}
 use Rattle.asking.proofs.ask.answer_questions.Statement.{statement}
 use Rattle.asking.proofs.ask.answer_questions.Tie as tie

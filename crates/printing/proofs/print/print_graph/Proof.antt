@@ -2,9 +2,10 @@
 use borrow.Author.Needs.{needs}
 use mathlib.Core.Path.{_∙_}
 use lib.ListN.{take}
-use Rattle.reader.specs.Bytes.{bytes}
-use Rattle.wiring.specs.Printing.{puts-is}
-use Rattle.wiring.specs.PrintLaws.{nodes-readable, graph-text, puts-graph}
+use Rattle.listings.specs.Bytes.{bytes}
+use Rattle.formatting.specs.Printing.{puts-is}
+use Rattle.passes.specs.GraphReads.{nodes-readable}
+use Rattle.printing.specs.PrintLaws.{graph-text, puts-graph}
 use Rattle.printing.proofs.print.print_graph.Statement.{statement}
 use Rattle.printing.proofs.print.print_graph.Tie as tie
 

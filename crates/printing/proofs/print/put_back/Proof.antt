@@ -1,9 +1,9 @@
 -- `put_back`: a row for a call, none for another node. Assumes nothing.
 use borrow.Author.Needs.{needs}
 use mathlib.Core.Path.{sym, _∙_}
-use Rattle.reader.specs.Bytes.{bytes}
-use Rattle.wiring.specs.Prepared.{wordOf}
-use Rattle.wiring.specs.PrintedTables.{puts-back, puts-no-back}
+use Rattle.listings.specs.Bytes.{bytes}
+use Rattle.tables.specs.Columns.{wordOf}
+use Rattle.printing.specs.PrintedTables.{puts-back, puts-no-back}
 use Rattle.printing.proofs.print.put_back.Statement.{statement}
 use Rattle.printing.proofs.print.put_back.Tie as tie
 

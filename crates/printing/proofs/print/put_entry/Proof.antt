@@ -1,7 +1,7 @@
 -- `put_entry`: the row of that line. Assumes nothing.
 use borrow.Author.Needs.{needs}
-use Rattle.reader.specs.Bytes.{bytes}
-use Rattle.wiring.specs.PrintedTables.{puts-entry}
+use Rattle.listings.specs.Bytes.{bytes}
+use Rattle.printing.specs.PrintedTables.{puts-entry}
 use Rattle.printing.proofs.print.put_entry.Statement.{statement}
 use Rattle.printing.proofs.print.put_entry.Tie as tie
 

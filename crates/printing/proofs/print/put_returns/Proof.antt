@@ -3,8 +3,8 @@ use borrow.Author.Needs.{needs}
 use mathlib.Core.Path.{sym}
 use lib.ListN.{take}
 use lib.Seq.{length-take-le}
-use Rattle.reader.specs.Bytes.{bytes}
-use Rattle.wiring.specs.PrintedTables.{puts-returns}
+use Rattle.listings.specs.Bytes.{bytes}
+use Rattle.printing.specs.PrintedTables.{puts-returns}
 use Rattle.printing.proofs.print.put_returns.Statement.{statement}
 use Rattle.printing.proofs.print.put_returns.Tie as tie
 

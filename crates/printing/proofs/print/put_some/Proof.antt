@@ -1,6 +1,6 @@
 -- `put_some`: a row, or nothing. Assumes nothing.
 use borrow.Author.Needs.{needs}
-use Rattle.wiring.specs.PrintedTables.{puts-zero, puts-some}
+use Rattle.printing.specs.PrintedTables.{puts-zero, puts-some}
 use Rattle.printing.proofs.print.put_some.Statement.{statement}
 use Rattle.printing.proofs.print.put_some.Tie as tie
 

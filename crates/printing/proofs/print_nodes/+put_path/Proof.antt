@@ -3,13 +3,13 @@ use borrow.Author.Needs.{needs}
 use borrow.Fn.Kinds.{In}
 use borrow.Fn.PlainCycle.{Measures, is, falls, and}
 use Prim.Native.Nat.{ℕ, _<_}
-use Rattle.wiring.specs.PrintedTables.{holder-in, path-top, path-first, path-next}
+use Rattle.printing.specs.PrintedTables.{holder-in, path-top, path-first, path-next}
 use Rattle.printing.proofs.print_nodes.put_path.Reads as put-path
 use Rattle.printing.proofs.print_nodes.put_path.Kinds as put-path-kinds
 use Rattle.printing.proofs.print_nodes.+put_path.Lts-put_path as put-path-lts
-use Rattle.printing.proofs.print_numbers.put_decimal.Reads as put-decimal-reads
-use Rattle.printing.proofs.print_numbers.put_number.Reads as put-number-reads
-use Rattle.wiring.proofs.widths.wide.Reads as wide-reads
+use Rattle.formatting.proofs.print_numbers.put_decimal.Reads as put-decimal-reads
+use Rattle.formatting.proofs.print_numbers.put_number.Reads as put-number-reads
+use Rattle.tables.proofs.widths.wide.Reads as wide-reads
 use Rattle.printing.proofs.print_nodes.+put_path.{statement}
 use Rattle.printing.proofs.print_nodes.+put_path.Tie.{close}
 

@@ -1,7 +1,7 @@
 -- `put_head`: the three pieces. Assumes nothing.
 use borrow.Author.Needs.{needs}
-use Rattle.reader.specs.Bytes.{bytes}
-use Rattle.wiring.specs.PrintedTables.{puts-head}
+use Rattle.listings.specs.Bytes.{bytes}
+use Rattle.printing.specs.PrintedTables.{puts-head}
 use Rattle.printing.proofs.print_nodes.put_head.Statement.{statement}
 use Rattle.printing.proofs.print_nodes.put_head.Tie as tie
 

@@ -1,6 +1,6 @@
 -- `put_list`: the word, then the part. Assumes nothing.
 use borrow.Author.Needs.{needs}
-use Rattle.wiring.specs.PrintedTables.{puts-list}
+use Rattle.printing.specs.PrintedTables.{puts-list}
 use Rattle.printing.proofs.print_nodes.put_list.Statement.{statement}
 use Rattle.printing.proofs.print_nodes.put_list.Tie as tie
 

@@ -1,7 +1,7 @@
 -- `put_lists`: the parts that the row names. Assumes nothing.
 use borrow.Author.Needs.{needs}
-use Rattle.reader.specs.Bytes.{bytes}
-use Rattle.wiring.specs.PrintedTables.{puts-lists}
+use Rattle.listings.specs.Bytes.{bytes}
+use Rattle.printing.specs.PrintedTables.{puts-lists}
 use Rattle.printing.proofs.print_nodes.put_lists.Statement.{statement}
 use Rattle.printing.proofs.print_nodes.put_lists.Tie as tie
 

@@ -1,7 +1,7 @@
 -- `put_node`: the three pieces of the row. Assumes nothing.
 use borrow.Author.Needs.{needs}
 use native.Mathlib.Omega.{arith}
-use Rattle.wiring.specs.PrintedTables.{puts-node}
+use Rattle.printing.specs.PrintedTables.{puts-node}
 use Rattle.printing.proofs.print_nodes.put_node.Statement.{statement}
 use Rattle.printing.proofs.print_nodes.put_node.Tie as tie
 

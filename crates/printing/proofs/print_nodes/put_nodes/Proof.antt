@@ -5,8 +5,8 @@ use native.Mathlib.Omega.{arith}
 use mathlib.Core.Path.{_≡_, refl}
 use lib.ListN.{length}
 use Rattle.graph.specs.Lists.{each, below}
-use Rattle.wiring.specs.Printing.{Puts, below-start, below-on, below-end}
-use Rattle.wiring.specs.PrintedTables.{nodeText}
+use Rattle.formatting.specs.Printing.{Puts, below-start, below-on, below-end}
+use Rattle.printing.specs.PrintedTables.{nodeText}
 use Rattle.printing.proofs.print_nodes.put_nodes.Statement.{statement}
 use Rattle.printing.proofs.print_nodes.put_nodes.Tie as tie
 

@@ -4,7 +4,7 @@ use native.Mathlib.Omega.{arith}
 use mathlib.Core.Path.{ap, _∙_}
 use Prim.Native.Nat.{suc, _-_, _≤_}
 use lib.ListN.{length}
-use Rattle.reader.specs.Scan.{next-more}
+use Rattle.listings.specs.Scan.{next-more}
 use Rattle.reader.specs.Machine.{stepRow}
 use Rattle.reader.specs.FillLoop.{Accepts, Fills, zeroed-start, fills-bounded, fills-long, fills-last, fills-formed, fills-refused, fills-ready, fills-taken, filled}
 use Rattle.reader.proofs.fill.fill.Statement.{statement}

@@ -1,5 +1,5 @@
 -- By the flag. Assumes nothing.
-use Rattle.reader.specs.Records.{handlerNumber}
+use Rattle.listings.specs.Records.{handlerNumber}
 use Rattle.reader.proofs.listing.handler_number.Statement.{statement}
 use Rattle.reader.proofs.listing.handler_number.Tie as tie
 

@@ -1,6 +1,6 @@
 -- `start_state`: the state of the first reading. Assumes nothing.
 use mathlib.Core.Path.{refl}
-use Rattle.reader.specs.Read.{start}
+use Rattle.listings.specs.Read.{start}
 use Rattle.reader.specs.Machine.{asState, branchCode, lastCode, openConds, packed, positionCode, stateAt, wordCode}
 use Rattle.reader.proofs.machine.start_state.Statement.{statement}
 use Rattle.reader.proofs.machine.start_state.Tie as tie

@@ -3,7 +3,7 @@ use borrow.Author.Needs.{needs}
 use mathlib.Core.Path.{sym, ap, _∙_}
 use mathlib.Core.Bool.{Bool}
 use Prim.Native.Nat.{_-_}
-use Rattle.reader.specs.Rows.{parseName, parseNumber}
+use Rattle.listings.specs.Rows.{parseName, parseNumber}
 use Rattle.reader.specs.Operands.{entryBy, numberAnswer, keyAnswer, number-answer, key-answer}
 use Rattle.reader.proofs.operands.entry_of.Statement.{statement}
 use Rattle.reader.proofs.operands.entry_of.Tie as tie

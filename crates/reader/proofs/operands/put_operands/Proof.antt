@@ -5,9 +5,9 @@ use mathlib.Core.Path.{ap, _∙_}
 use mathlib.Core.List.{[]}
 use Prim.Native.Nat.{_-_}
 use lib.ListN.{length}
-use Rattle.reader.specs.Rows.{split}
-use Rattle.reader.specs.WordTable.{kindAt}
-use Rattle.reader.specs.Scan.{after}
+use Rattle.listings.specs.Rows.{split}
+use Rattle.listings.specs.WordTable.{kindAt}
+use Rattle.listings.specs.Scan.{after}
 use Rattle.reader.specs.Operands.{row-alone, row-words, row-room, entries-for, entries-next, entries-numbers, for-room, slots-room, numbers-room, put-by}
 use Rattle.reader.proofs.operands.put_operands.Statement.{statement}
 use Rattle.reader.proofs.operands.put_operands.Tie as tie

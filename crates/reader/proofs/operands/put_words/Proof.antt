@@ -3,10 +3,9 @@ use borrow.Author.Needs.{needs}
 use native.Mathlib.Omega.{arith}
 use mathlib.Core.Path.{_∙_}
 use Prim.Native.Nat.{suc, _+_, _-_, _≤_}
-use lib.ListN.{length}
-use Rattle.reader.specs.Scan.{pieceAt, next-last, next-more}
+use lib.ListN.{length, length-set}
+use Rattle.listings.specs.Scan.{pieceAt, next-last, next-more}
 use Rattle.reader.specs.Operands.{entryBy, Filling, filling-start, filling-room, filling-next, filling-last}
-use lib.ListN.{length-set}
 use Rattle.reader.proofs.operands.put_words.Statement.{statement}
 use Rattle.reader.proofs.operands.put_words.Tie as tie
 

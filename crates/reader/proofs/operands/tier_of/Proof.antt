@@ -2,7 +2,7 @@
 use borrow.Author.Needs.{needs}
 use mathlib.Core.Path.{sym, _∙_}
 use Prim.Native.Nat.{_-_}
-use Rattle.reader.specs.Bytes.{bytes}
+use Rattle.listings.specs.Bytes.{bytes}
 use Rattle.reader.specs.Operands.{tierEntry}
 use Rattle.reader.proofs.operands.tier_of.Statement.{statement}
 use Rattle.reader.proofs.operands.tier_of.Tie as tie

@@ -1,8 +1,8 @@
 -- By the kind: a number to go to, a statement, the module, a line. Assumes nothing.
 use borrow.Author.Needs.{needs}
 use mathlib.Core.Path.{_∙_, sym, ap}
-use Rattle.reader.specs.Rows.{split, single}
-use Rattle.reader.specs.WordTable.{kindAt}
+use Rattle.listings.specs.Rows.{split, single}
+use Rattle.listings.specs.WordTable.{kindAt}
 use Rattle.reader.specs.CodedRows.{toByNumber, lineByNumber, to-by-number, line-by-number}
 use Rattle.reader.specs.AcceptedRows.{open-module, open-line, closed-to, closed-simple}
 use Rattle.reader.proofs.rows.accepted_args.Statement.{statement}

@@ -2,7 +2,7 @@
 use borrow.Author.Needs.{needs}
 use mathlib.Core.Path.{_∙_, ap}
 use borrow.Author.Tests.{ne-eqb}
-use Rattle.reader.specs.Rows.{single, split}
+use Rattle.listings.specs.Rows.{single, split}
 use Rattle.reader.specs.CodedRows.{argsRow, line-by-number, lineByNumber, simpleBy, to-by-number, toByNumber}
 use Rattle.reader.proofs.rows.args_row.Statement.{statement}
 use Rattle.reader.proofs.rows.args_row.Tie as tie

@@ -5,9 +5,9 @@ use mathlib.Core.Path.{_∙_, _≡_, ap, sym}
 use mathlib.Core.Bool.{true}
 use Prim.Native.Nat.{ℕ}
 use borrow.Author.Tests.{not-false, not-true}
-use Rattle.reader.specs.Rows.{areWords, split}
-use Rattle.reader.specs.WordTable.{kindAt}
-use Rattle.reader.specs.Scan.{after}
+use Rattle.listings.specs.Rows.{areWords, split}
+use Rattle.listings.specs.WordTable.{kindAt}
+use Rattle.listings.specs.Scan.{after}
 use Rattle.reader.specs.CodedRows.{argsRow, bareRow, form-bad, form-more, form-one}
 use Rattle.reader.proofs.rows.form_row.Statement.{statement}
 use Rattle.reader.proofs.rows.form_row.Tie as tie

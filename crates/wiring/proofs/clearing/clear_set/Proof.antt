@@ -2,7 +2,7 @@
 use Prim.Native.Nat.{_+_, _-_, _*_}
 use mathlib.Core.Path.{_≡_}
 use native.Mathlib.Omega.{arith}
-use Rattle.wiring.specs.Clearing.{clear-other, clear-return}
+use Rattle.passes.specs.Clearing.{clear-other, clear-return}
 use borrow.Author.Needs.{needs}
 use Rattle.wiring.proofs.clearing.clear_set.Statement.{statement}
 use Rattle.wiring.proofs.clearing.clear_set.Tie as tie

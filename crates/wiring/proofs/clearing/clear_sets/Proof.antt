@@ -2,7 +2,7 @@
 use Prim.Native.Nat.{_-_, _≤_}
 use mathlib.Core.Path.{_≡_}
 use native.Mathlib.Omega.{arith}
-use Rattle.wiring.specs.Clearing.{SetsCleared, clear-none, clear-more}
+use Rattle.passes.specs.Clearing.{SetsCleared, clear-none, clear-more}
 use borrow.Author.Needs.{needs}
 use Rattle.wiring.proofs.clearing.clear_sets.Statement.{statement}
 use Rattle.wiring.proofs.clearing.clear_sets.Tie as tie

@@ -3,8 +3,8 @@ use borrow.Author.Needs.{needs}
 use Prim.Native.Nat.{_-_, _≤_}
 use mathlib.Core.Path.{_≡_}
 use native.Mathlib.Omega.{arith}
-use Rattle.wiring.specs.Closure.{RowsJoined}
-use Rattle.wiring.specs.ClosureLaws.{rows-none, rows-more}
+use Rattle.passes.specs.Closure.{RowsJoined}
+use Rattle.passes.specs.ClosureLaws.{rows-none, rows-more}
 use Rattle.wiring.proofs.closure.close_round.Statement.{statement}
 use Rattle.wiring.proofs.closure.close_round.Tie as tie
 

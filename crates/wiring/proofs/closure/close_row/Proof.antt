@@ -3,7 +3,7 @@ use Prim.Native.Nat.{_+_, _-_, _*_}
 use mathlib.Core.Path.{_≡_, _∙_, sym}
 use native.Mathlib.Omega.{arith}
 use lib.ListN.{length}
-use Rattle.wiring.specs.ClosureLaws.{row-kept, row-joined}
+use Rattle.passes.specs.ClosureLaws.{row-kept, row-joined}
 use borrow.Author.Needs.{needs}
 use Rattle.wiring.proofs.closure.close_row.Statement.{statement}
 use Rattle.wiring.proofs.closure.close_row.Tie as tie

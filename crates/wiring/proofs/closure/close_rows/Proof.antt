@@ -3,8 +3,8 @@ use borrow.Author.Needs.{needs}
 use Prim.Native.Nat.{_-_, _≤_}
 use mathlib.Core.Path.{refl}
 use native.Mathlib.Omega.{arith}
-use Rattle.wiring.specs.Closure.{ClosedTo}
-use Rattle.wiring.specs.ClosureLaws.{closed-none, closed-more, closed-end}
+use Rattle.passes.specs.Closure.{ClosedTo}
+use Rattle.passes.specs.ClosureLaws.{closed-none, closed-more, closed-end}
 use Rattle.wiring.proofs.closure.close_rows.Statement.{statement}
 use Rattle.wiring.proofs.closure.close_rows.Tie as tie
 

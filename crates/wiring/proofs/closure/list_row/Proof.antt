@@ -1,8 +1,8 @@
 -- `list_row`: the members of that set. Assumes nothing.
 use borrow.Author.Needs.{needs}
 use native.Mathlib.Omega.{arith}
-use Rattle.wiring.specs.ReturnTotals.{members-few}
-use Rattle.wiring.specs.ClosureLaws.{row-listed}
+use Rattle.passes.specs.ReturnTotals.{members-few}
+use Rattle.passes.specs.ClosureLaws.{row-listed}
 use Rattle.wiring.proofs.closure.list_row.Statement.{statement}
 use Rattle.wiring.proofs.closure.list_row.Tie as tie
 

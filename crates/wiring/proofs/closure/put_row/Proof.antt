@@ -4,8 +4,8 @@ use Prim.Native.Nat.{_-_, _≤_}
 use mathlib.Core.Path.{_≡_, _∙_, sym}
 use native.Mathlib.Omega.{arith}
 use lib.ListN.{take}
-use Rattle.wiring.specs.Closure.{RowIs}
-use Rattle.wiring.specs.ClosureLaws.{row-none, row-more, row-id}
+use Rattle.passes.specs.Closure.{RowIs}
+use Rattle.passes.specs.ClosureLaws.{row-none, row-more, row-id}
 use Rattle.wiring.proofs.closure.put_row.Statement.{statement}
 use Rattle.wiring.proofs.closure.put_row.Tie as tie
 

@@ -1,5 +1,5 @@
 -- `row_bit`: one bit of one word. Assumes nothing.
-use Rattle.wiring.specs.ClosureLaws.{row-bit}
+use Rattle.passes.specs.ClosureLaws.{row-bit}
 use borrow.Author.Needs.{needs}
 use Rattle.wiring.proofs.closure.row_bit.Statement.{statement}
 use Rattle.wiring.proofs.closure.row_bit.Tie as tie

@@ -3,8 +3,8 @@ use Prim.Native.Nat.{_+_, _-_, _*_}
 use mathlib.Core.Path.{_≡_, _∙_, ap}
 use native.Mathlib.Omega.{arith}
 use lib.ListN.{length}
-use Rattle.wiring.specs.ReturnSetLaws.{row-part, row-length}
-use Rattle.wiring.specs.ClosureLaws.{row-copied}
+use Rattle.passes.specs.ReturnSetLaws.{row-part, row-length}
+use Rattle.passes.specs.ClosureLaws.{row-copied}
 use borrow.Author.Needs.{needs}
 use Rattle.wiring.proofs.closure.row_copy.Statement.{statement}
 use Rattle.wiring.proofs.closure.row_copy.Tie as tie

@@ -3,7 +3,7 @@ use borrow.Author.Needs.{needs}
 use Prim.Native.Nat.{_+_, _-_, _*_}
 use mathlib.Core.Path.{_≡_}
 use native.Mathlib.Omega.{arith}
-use Rattle.wiring.specs.ClosureLaws.{return-reached, row-reached}
+use Rattle.passes.specs.ClosureLaws.{return-reached, row-reached}
 use Rattle.wiring.proofs.closure.row_region.Statement.{statement}
 use Rattle.wiring.proofs.closure.row_region.Tie as tie
 

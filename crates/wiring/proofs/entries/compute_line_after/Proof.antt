@@ -1,6 +1,6 @@
 -- `compute_line_after`: the first pass, then the second. Assumes nothing.
 use borrow.Author.Needs.{needs}
-use Rattle.wiring.specs.LineEntries.{entries-both}
+use Rattle.passes.specs.LineEntries.{entries-both}
 use Rattle.wiring.proofs.entries.compute_line_after.Statement.{statement}
 use Rattle.wiring.proofs.entries.compute_line_after.Tie as tie
 

@@ -1,6 +1,6 @@
 -- `entry_of`: the entry at the index found. Assumes nothing.
 use borrow.Author.Needs.{needs}
-use Rattle.wiring.specs.LineSearch.{entry-none, entry-some}
+use Rattle.passes.specs.LineSearch.{entry-none, entry-some}
 use Rattle.wiring.proofs.entries.entry_of.Statement.{statement}
 use Rattle.wiring.proofs.entries.entry_of.Tie as tie
 

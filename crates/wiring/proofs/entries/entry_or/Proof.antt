@@ -1,6 +1,6 @@
 -- `entry_or`: the entry that is there, or the next one. Assumes nothing.
 use borrow.Author.Needs.{needs}
-use Rattle.wiring.specs.LineEntries.{entry-kept}
+use Rattle.passes.specs.LineEntries.{entry-kept}
 use Rattle.wiring.proofs.entries.entry_or.Statement.{statement}
 use Rattle.wiring.proofs.entries.entry_or.Tie as tie
 

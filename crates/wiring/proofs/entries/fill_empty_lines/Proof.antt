@@ -5,9 +5,9 @@ use mathlib.Core.Path.{_≡_, refl}
 use native.Mathlib.Omega.{arith}
 use borrow.Author.Needs.{needs}
 use lib.ListN.{length, length-set}
-use Rattle.wiring.specs.LineEntries.{firstRows, Filled, filled-start, filled-down, filled-end}
-use Rattle.reader.specs.Listing.{Lines}
-use Rattle.reader.specs.Listing as listing
+use Rattle.passes.specs.LineEntries.{firstRows, Filled, filled-start, filled-down, filled-end}
+use Rattle.listings.specs.Listing.{Lines}
+use Rattle.listings.specs.Listing as listing
 use Rattle.wiring.proofs.entries.fill_empty_lines.Statement.{statement}
 use Rattle.wiring.proofs.entries.fill_empty_lines.Tie as tie
 

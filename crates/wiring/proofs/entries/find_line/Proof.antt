@@ -3,7 +3,7 @@ use Prim.Native.Nat.{_≤_, _+_, _-_, _/_}
 use native.Mathlib.Omega.{arith}
 use borrow.Author.Needs.{needs}
 use lib.ListN.{take}
-use Rattle.wiring.specs.LineSearch.{Ascending, Narrowed, narrow-start, line-here, narrow-low, narrow-high, line-none}
+use Rattle.passes.specs.LineSearch.{Ascending, Narrowed, narrow-start, line-here, narrow-low, narrow-high, line-none}
 use Rattle.wiring.proofs.entries.find_line.Statement.{statement}
 use Rattle.wiring.proofs.entries.find_line.Tie as tie
 

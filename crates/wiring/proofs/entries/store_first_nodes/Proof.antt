@@ -5,8 +5,8 @@ use mathlib.Core.Path.{_≡_, refl, _∙_}
 use native.Mathlib.Omega.{arith}
 use borrow.Author.Needs.{needs}
 use lib.ListN.{length, drop}
-use Rattle.wiring.specs.LineEntries.{firstNodes, first-start, first-down, first-end}
-use Rattle.reader.specs.Records.{Rec, recRows}
+use Rattle.passes.specs.LineEntries.{firstNodes, first-start, first-down, first-end}
+use Rattle.listings.specs.Records.{Rec, recRows}
 use Rattle.wiring.proofs.entries.store_first_nodes.Statement.{statement}
 use Rattle.wiring.proofs.entries.store_first_nodes.Tie as tie
 

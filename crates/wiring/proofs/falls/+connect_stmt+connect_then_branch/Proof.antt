@@ -7,12 +7,12 @@ use borrow.Author.Needs.{needs}
 use borrow.Fn.Kinds.{In}
 use borrow.Fn.PlainCycle.{Measures, is, falls, and}
 use lib.ListN.{length}
-use Rattle.wiring.specs.Connecting.{not-both, Gone, branch-start, branch-in, branch-step, branch-end, stmt-leaf, stmt-false, stmt-first, stmt-both}
-use Rattle.wiring.specs.Falls.{Spans}
-use Rattle.wiring.specs.LineSearch.{EntryTable}
+use Rattle.passes.specs.Connecting.{not-both, Gone, branch-start, branch-in, branch-step, branch-end, stmt-leaf, stmt-false, stmt-first, stmt-both}
+use Rattle.passes.specs.Falls.{Spans}
+use Rattle.passes.specs.LineSearch.{EntryTable}
 use Rattle.graph.specs.Nodes.{Entries}
-use Rattle.reader.specs.ListingText.{StmtsOk}
-use Rattle.reader.specs.Listing.{Stmts, size}
+use Rattle.listings.specs.ListingText.{StmtsOk}
+use Rattle.listings.specs.Listing.{Stmts, size}
 use Rattle.wiring.proofs.falls.connect_stmt.Reads as connect-stmt
 use Rattle.wiring.proofs.falls.connect_stmt.Kinds as connect-stmt-kinds
 use Rattle.wiring.proofs.falls.+connect_stmt+connect_then_branch.Lts-connect_stmt as connect-stmt-lts
@@ -23,7 +23,7 @@ use Rattle.wiring.proofs.falls.connect_row.Reads as connect-row-reads
 use Rattle.wiring.proofs.falls.out_of_order.Reads as out-of-order-reads
 use Rattle.wiring.proofs.falls.put_row.Reads as put-row-reads
 use Rattle.wiring.proofs.falls.target_of.Reads as target-of-reads
-use Rattle.wiring.proofs.widths.wide.Reads as wide-reads
+use Rattle.tables.proofs.widths.wide.Reads as wide-reads
 use Rattle.wiring.proofs.falls.+connect_stmt+connect_then_branch.{statement}
 use Rattle.wiring.proofs.falls.+connect_stmt+connect_then_branch.Tie.{close}
 

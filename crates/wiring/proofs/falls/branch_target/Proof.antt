@@ -1,6 +1,6 @@
 -- `branch_target`: each return is one form of a branch. Assumes nothing.
 use borrow.Author.Needs.{needs}
-use Rattle.wiring.specs.Connecting.{led-line, led-none, led-first, led-empty}
+use Rattle.passes.specs.Connecting.{led-line, led-none, led-first, led-empty}
 use Rattle.wiring.proofs.falls.branch_target.Statement.{statement}
 use Rattle.wiring.proofs.falls.branch_target.Tie as tie
 

@@ -5,12 +5,12 @@ use mathlib.Core.Path.{_≡_, refl, _∙_}
 use native.Mathlib.Omega.{arith}
 use borrow.Author.Needs.{needs}
 use lib.ListN.{length}
-use Rattle.wiring.specs.Connecting.{not-both, Ahead, ahead-start, ahead-down, ahead-end}
-use Rattle.wiring.specs.Falls.{fallRows}
-use Rattle.wiring.specs.LineSearch.{EntriesHeld, entry-table}
-use Rattle.wiring.specs.Held.{LinesHeld, StmtsHeld}
+use Rattle.passes.specs.Connecting.{not-both, Ahead, ahead-start, ahead-down, ahead-end}
+use Rattle.passes.specs.Falls.{fallRows}
+use Rattle.passes.specs.LineSearch.{EntriesHeld, entry-table}
+use Rattle.passes.specs.Held.{LinesHeld, StmtsHeld}
 use Rattle.graph.specs.Nodes as definition
-use Rattle.reader.specs.Listing.{Lines}
+use Rattle.listings.specs.Listing.{Lines}
 use Rattle.wiring.proofs.falls.connect_from_last.Statement.{statement}
 use Rattle.wiring.proofs.falls.connect_from_last.Tie as tie
 

@@ -2,7 +2,7 @@
 use native.Mathlib.Omega.{arith}
 use borrow.Author.Needs.{needs}
 use lib.ListN.{length-take}
-use Rattle.wiring.specs.Connecting.{lines-connected}
+use Rattle.passes.specs.Connecting.{lines-connected}
 use Rattle.wiring.proofs.falls.connect_lines.Statement.{statement}
 use Rattle.wiring.proofs.falls.connect_lines.Tie as tie
 

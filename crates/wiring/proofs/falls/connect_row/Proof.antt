@@ -1,7 +1,7 @@
 -- `connect_row`: the two branches, each where the record says that it is. Assumes nothing.
 use mathlib.Core.Path.{_∙_}
 use borrow.Author.Needs.{needs}
-use Rattle.wiring.specs.Connecting.{row-both}
+use Rattle.passes.specs.Connecting.{row-both}
 use Rattle.wiring.proofs.falls.connect_row.Statement.{statement}
 use Rattle.wiring.proofs.falls.connect_row.Tie as tie
 

@@ -1,7 +1,7 @@
 -- `out_of_order`: each return by the tests that led there. Assumes nothing.
 use mathlib.Core.Path.{sym}
 use native.Mathlib.Omega.{arith}
-use Rattle.wiring.specs.Connecting.{no}
+use Rattle.passes.specs.Connecting.{no}
 use Rattle.wiring.proofs.falls.out_of_order.Statement.{statement}
 use Rattle.wiring.proofs.falls.out_of_order.Tie as tie
 

@@ -3,7 +3,7 @@ use Prim.Native.Nat.{_*_}
 use native.Mathlib.Omega.{arith}
 use borrow.Author.Needs.{needs}
 use lib.ListN.{length-set}
-use Rattle.wiring.specs.FallLaws.{sets-three}
+use Rattle.passes.specs.FallLaws.{sets-three}
 use Rattle.wiring.proofs.falls.put_row.Statement.{statement}
 use Rattle.wiring.proofs.falls.put_row.Tie as tie
 

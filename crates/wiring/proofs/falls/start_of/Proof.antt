@@ -2,7 +2,7 @@
 use Prim.Native.Nat.{ℕ, _-_}
 use mathlib.Core.Path.{ap, _∙_}
 use borrow.Author.Needs.{needs}
-use Rattle.wiring.specs.Connecting.{start-at, start-none}
+use Rattle.passes.specs.Connecting.{start-at, start-none}
 use Rattle.wiring.proofs.falls.start_of.Statement.{statement}
 use Rattle.wiring.proofs.falls.start_of.Tie as tie
 

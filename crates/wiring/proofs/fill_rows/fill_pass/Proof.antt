@@ -4,8 +4,8 @@ use Prim.Native.Nat.{_-_, _≤_}
 use mathlib.Core.Path.{_≡_, refl, sym, _∙_}
 use native.Mathlib.Omega.{arith}
 use lib.ListN.{length}
-use Rattle.wiring.specs.FillRows.{PassFilled}
-use Rattle.wiring.specs.FillRowLaws.{pass-none, pass-ready, pass-more}
+use Rattle.passes.specs.FillRows.{PassFilled}
+use Rattle.passes.specs.FillRowLaws.{pass-none, pass-ready, pass-more}
 use Rattle.wiring.proofs.fill_rows.fill_pass.Statement.{statement}
 use Rattle.wiring.proofs.fill_rows.fill_pass.Tie as tie
 

@@ -5,9 +5,9 @@ use borrow.Author.Tests.{not-true, not-false}
 use mathlib.Core.Path.{_≡_, sym, _∙_, ap}
 use native.Mathlib.Omega.{arith}
 use lib.ListN.{length}
-use Rattle.wiring.specs.ReturnSetLaws.{row-part, row-length}
-use Rattle.wiring.specs.FillRows.{passes}
-use Rattle.wiring.specs.FillRowLaws.{row-left, row-filled, skip-fits}
+use Rattle.passes.specs.ReturnSetLaws.{row-part, row-length}
+use Rattle.passes.specs.FillRows.{passes}
+use Rattle.passes.specs.FillRowLaws.{row-left, row-filled, skip-fits}
 use Rattle.wiring.proofs.fill_rows.fill_row.Statement.{statement}
 use Rattle.wiring.proofs.fill_rows.fill_row.Tie as tie
 

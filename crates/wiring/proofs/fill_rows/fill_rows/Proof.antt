@@ -1,7 +1,7 @@
 -- `fill_rows`: the two passes. Assumes nothing.
 use borrow.Author.Needs.{needs}
 use mathlib.Core.Path.{sym}
-use Rattle.wiring.specs.FillRowLaws.{first-ready, second-ready, rows-filled}
+use Rattle.passes.specs.FillRowLaws.{first-ready, second-ready, rows-filled}
 use Rattle.wiring.proofs.fill_rows.fill_rows.Statement.{statement}
 use Rattle.wiring.proofs.fill_rows.fill_rows.Tie as tie
 

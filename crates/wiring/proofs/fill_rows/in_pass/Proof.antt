@@ -1,6 +1,6 @@
 -- `in_pass`: by the test of the word. Assumes nothing.
 use borrow.Author.Tests.{eq-eqb, ne-eqb}
-use Rattle.wiring.specs.FillRows.{inPass}
+use Rattle.passes.specs.FillRows.{inPass}
 use Rattle.wiring.proofs.fill_rows.in_pass.Statement.{statement}
 use Rattle.wiring.proofs.fill_rows.in_pass.Tie as tie
 

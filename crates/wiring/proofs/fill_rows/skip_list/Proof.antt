@@ -2,7 +2,7 @@
 use borrow.Author.Needs.{needs}
 use mathlib.Core.Path.{sym, _∙_}
 use Rattle.graph.specs.Graph.{wire}
-use Rattle.wiring.specs.FillRowLaws.{skip-return, skip-call, skip-other}
+use Rattle.passes.specs.FillRowLaws.{skip-return, skip-call, skip-other}
 use Rattle.wiring.proofs.fill_rows.skip_list.Statement.{statement}
 use Rattle.wiring.proofs.fill_rows.skip_list.Tie as tie
 

@@ -3,7 +3,7 @@ use Prim.Native.Nat.{_+_, _-_, _*_}
 use mathlib.Core.Path.{_≡_}
 use native.Mathlib.Omega.{arith}
 use borrow.Author.Needs.{needs}
-use Rattle.wiring.specs.FinalLists.{through-ready, through-done, back-ready, back-done}
+use Rattle.passes.specs.FinalLists.{through-ready, through-done, back-ready, back-done}
 use Rattle.wiring.proofs.final_lists.return_list.Statement.{statement}
 use Rattle.wiring.proofs.final_lists.return_list.Tie as tie
 

@@ -1,8 +1,8 @@
 -- `write_list`: the list of a RETURN or a call from the buffer, any other's from scratch. Assumes nothing.
 use mathlib.Core.Path.{sym, _∙_}
 use borrow.Author.Needs.{needs}
-use Rattle.wiring.specs.SkipLists.{list-kept}
-use Rattle.wiring.specs.FinalLists.{return-ready, return-fits, return-done, call-ready, call-inside, call-kept, call-fits, call-done, move-fits, move-done}
+use Rattle.passes.specs.SkipLists.{list-kept}
+use Rattle.passes.specs.FinalLists.{return-ready, return-fits, return-done, call-ready, call-inside, call-kept, call-fits, call-done, move-fits, move-done}
 use Rattle.wiring.proofs.final_lists.write_list.Statement.{statement}
 use Rattle.wiring.proofs.final_lists.write_list.Tie as tie
 

@@ -5,9 +5,9 @@ use native.Mathlib.Omega.{arith}
 use borrow.Author.Needs.{needs}
 use lib.ListN.{length}
 use Rattle.graph.specs.Graph.{successors}
-use Rattle.wiring.specs.EdgeTable.{length-lists}
-use Rattle.wiring.specs.SkipLists.{stored-next}
-use Rattle.wiring.specs.FinalLists.{Writing, writes-none, place-now, writes-fit, writes-done}
+use Rattle.passes.specs.EdgeTable.{length-lists}
+use Rattle.passes.specs.SkipLists.{stored-next}
+use Rattle.passes.specs.FinalLists.{Writing, writes-none, place-now, writes-fit, writes-done}
 use Rattle.wiring.proofs.final_lists.write_lists.Statement.{statement}
 use Rattle.wiring.proofs.final_lists.write_lists.Tie as tie
 

@@ -1,7 +1,7 @@
 -- `is_dispatched`: by word, tier and fall. Assumes nothing.
 use borrow.Author.Needs.{needs}
 use mathlib.Core.Path.{sym}
-use Rattle.wiring.specs.Dispatched.{not-for, not-tier, by-fall}
+use Rattle.passes.specs.Dispatched.{not-for, not-tier, by-fall}
 use Rattle.wiring.proofs.fors.is_dispatched.Statement.{statement}
 use Rattle.wiring.proofs.fors.is_dispatched.Tie as tie
 

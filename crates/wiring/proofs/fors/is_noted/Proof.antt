@@ -3,7 +3,7 @@ use borrow.Author.Needs.{needs}
 use mathlib.Core.Path.{ap}
 use Prim.Native.Nat.{ℕ}
 use lib.Dec.{eqb}
-use Rattle.wiring.specs.Sets.{bit}
+use Rattle.passes.specs.Sets.{bit}
 use Rattle.wiring.proofs.fors.is_noted.Statement.{statement}
 use Rattle.wiring.proofs.fors.is_noted.Tie as tie
 

@@ -6,12 +6,12 @@ use mathlib.Core.Logic.{⊎-elim}
 use mathlib.Core.List.{[]}
 use Prim.Native.Nat.{_-_, _≤_}
 use lib.ListN.{length}
-use Rattle.wiring.specs.ListedNodes.{AllCounted}
-use Rattle.wiring.specs.FrameStacks.{HoldsBelow}
-use Rattle.wiring.specs.ForStack.{NodeLinked}
-use Rattle.wiring.specs.ForStackLaws.{node-open, node-other}
-use Rattle.wiring.specs.ForLinkLaws.{GoingOn, going-start, going-on, going-end}
-use Rattle.wiring.specs.NotedKeys.{KeysNoted, none-noted}
+use Rattle.passes.specs.ListedNodes.{AllCounted}
+use Rattle.passes.specs.FrameStacks.{HoldsBelow}
+use Rattle.passes.specs.ForStack.{NodeLinked}
+use Rattle.passes.specs.ForStackLaws.{node-open, node-other}
+use Rattle.passes.specs.ForLinkLaws.{GoingOn, going-start, going-on, going-end}
+use Rattle.passes.specs.NotedKeys.{KeysNoted, none-noted}
 use Rattle.wiring.proofs.fors.link_fors.Statement.{statement}
 use Rattle.wiring.proofs.fors.link_fors.Tie as tie
 

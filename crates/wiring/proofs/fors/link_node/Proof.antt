@@ -4,9 +4,9 @@ use native.Mathlib.Omega.{arith}
 use mathlib.Core.Path.{_≡_}
 use Prim.Native.Nat.{_*_, _≤_}
 use lib.ListN.{getD}
-use Rattle.wiring.specs.ListedNodes.{SlotsCounted}
-use Rattle.wiring.specs.ForStackLaws.{node-for, node-next, must-next}
-use Rattle.wiring.specs.NotedKeys.{noted-slots}
+use Rattle.passes.specs.ListedNodes.{SlotsCounted}
+use Rattle.passes.specs.ForStackLaws.{node-for, node-next, must-next}
+use Rattle.passes.specs.NotedKeys.{noted-slots}
 use Rattle.wiring.proofs.fors.link_node.Statement.{statement}
 use Rattle.wiring.proofs.fors.link_node.Tie as tie
 

@@ -4,7 +4,7 @@ use native.Mathlib.Omega.{arith}
 use mathlib.Core.Path.{_≡_, refl, subst}
 use Prim.Native.Nat.{ℕ, _-_, _≤_}
 use lib.ListN.{length}
-use Rattle.wiring.specs.Dispatched.{DispatchedTo, dispatched-start, dispatched-on}
+use Rattle.passes.specs.Dispatched.{DispatchedTo, dispatched-start, dispatched-on}
 use Rattle.wiring.proofs.fors.list_dispatched.Statement.{statement}
 use Rattle.wiring.proofs.fors.list_dispatched.Tie as tie
 

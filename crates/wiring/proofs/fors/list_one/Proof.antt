@@ -1,7 +1,7 @@
 -- `list_one`: one more entry, or none. Assumes nothing.
 use borrow.Author.Needs.{needs}
 use mathlib.Core.Path.{sym, _∙_}
-use Rattle.wiring.specs.Dispatched.{dispatched-no, dispatched-yes}
+use Rattle.passes.specs.Dispatched.{dispatched-no, dispatched-yes}
 use Rattle.wiring.proofs.fors.list_one.Statement.{statement}
 use Rattle.wiring.proofs.fors.list_one.Tie as tie
 

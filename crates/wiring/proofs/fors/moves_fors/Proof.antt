@@ -1,6 +1,6 @@
 -- `moves_fors`: FOR, or else by the test for NEXT. Assumes nothing.
 use borrow.Author.Tests.{eq-eqb, ne-eqb}
-use Rattle.wiring.specs.ForStack.{movesFors}
+use Rattle.passes.specs.ForStack.{movesFors}
 use Rattle.wiring.proofs.fors.moves_fors.Statement.{statement}
 use Rattle.wiring.proofs.fors.moves_fors.Tie as tie
 

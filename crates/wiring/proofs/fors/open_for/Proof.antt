@@ -2,9 +2,9 @@
 use borrow.Author.Needs.{needs}
 use borrow.Author.Tests.{eqb-true}
 use mathlib.Core.Path.{refl, sym, _∙_}
-use Rattle.wiring.specs.FrameStackLaws.{room-below}
-use Rattle.wiring.specs.ForStackLaws.{push-new}
-use Rattle.wiring.specs.NotedKeys.{unnoted, noted-for, own-note, more-noted}
+use Rattle.passes.specs.FrameStackLaws.{room-below}
+use Rattle.passes.specs.ForStackLaws.{push-new}
+use Rattle.passes.specs.NotedKeys.{unnoted, noted-for, own-note, more-noted}
 use Rattle.wiring.proofs.fors.open_for.Statement.{statement}
 use Rattle.wiring.proofs.fors.open_for.Tie as tie
 

@@ -5,10 +5,10 @@ use mathlib.Core.Path.{_≡_, refl}
 use mathlib.Core.Logic.{⊎-elim}
 use Prim.Native.Nat.{_-_, _≤_}
 use lib.ListN.{length, getD}
-use Rattle.wiring.specs.FrameStacks.{HoldsBelow, TopIs}
-use Rattle.wiring.specs.ForStack.{SlotPopped}
-use Rattle.wiring.specs.ForStackLaws.{open-wider, open-few, slot-none, slot-cut, slot-top, slot-open, slot-fits, PoppingTo, popping-start, popping-on, popping-none, popping-end}
-use Rattle.wiring.specs.NotedKeys.{KeysNoted, noted-slot}
+use Rattle.passes.specs.FrameStacks.{HoldsBelow, TopIs}
+use Rattle.passes.specs.ForStack.{SlotPopped}
+use Rattle.passes.specs.ForStackLaws.{open-wider, open-few, slot-none, slot-cut, slot-top, slot-open, slot-fits, PoppingTo, popping-start, popping-on, popping-none, popping-end}
+use Rattle.passes.specs.NotedKeys.{KeysNoted, noted-slot}
 use Rattle.wiring.proofs.fors.pop_slots.Statement.{statement}
 use Rattle.wiring.proofs.fors.pop_slots.Tie as tie
 

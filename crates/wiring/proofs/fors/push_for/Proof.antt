@@ -1,8 +1,8 @@
 -- `push_for`: a frame of its name is cut with all above it, and the FOR is pushed. Assumes nothing.
 use borrow.Author.Needs.{needs}
 use native.Mathlib.Omega.{arith}
-use Rattle.wiring.specs.FrameStackLaws.{room-below}
-use Rattle.wiring.specs.ForStackLaws.{open-wider, sought-fits, push-new, push-cut, cut-open}
+use Rattle.passes.specs.FrameStackLaws.{room-below}
+use Rattle.passes.specs.ForStackLaws.{open-wider, sought-fits, push-new, push-cut, cut-open}
 use Rattle.wiring.proofs.fors.push_for.Statement.{statement}
 use Rattle.wiring.proofs.fors.push_for.Tie as tie
 

@@ -3,8 +3,8 @@ use borrow.Author.Needs.{needs}
 use native.Mathlib.Omega.{arith}
 use Prim.Native.Nat.{_/_, _≤_}
 use lib.ListN.{length}
-use Rattle.wiring.specs.FrameStackLaws.{top-le}
-use Rattle.wiring.specs.ForStackLaws.{Seeking, open-few, seek-start, seek-none, seek-here, seek-on}
+use Rattle.passes.specs.FrameStackLaws.{top-le}
+use Rattle.passes.specs.ForStackLaws.{Seeking, open-few, seek-start, seek-none, seek-here, seek-on}
 use Rattle.wiring.proofs.fors.seek.Statement.{statement}
 use Rattle.wiring.proofs.fors.seek.Tie as tie
 

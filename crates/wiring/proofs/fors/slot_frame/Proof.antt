@@ -1,8 +1,8 @@
 -- `slot_frame`: the newest, or the newest of a name, if its key is noted. Assumes nothing.
 use borrow.Author.Needs.{needs}
 use mathlib.Core.Path.{sym, _∙_}
-use Rattle.wiring.specs.ForStackLaws.{slot-any, slot-name}
-use Rattle.wiring.specs.NotedKeys.{unnoted}
+use Rattle.passes.specs.ForStackLaws.{slot-any, slot-name}
+use Rattle.passes.specs.NotedKeys.{unnoted}
 use Rattle.wiring.proofs.fors.slot_frame.Statement.{statement}
 use Rattle.wiring.proofs.fors.slot_frame.Tie as tie
 

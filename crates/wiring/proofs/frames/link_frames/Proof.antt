@@ -4,7 +4,7 @@ use Prim.Native.Nat.{_≤_, _-_}
 use mathlib.Core.Path.{_≡_, refl, _∙_}
 use native.Mathlib.Omega.{arith}
 use lib.ListN.{length}
-use Rattle.wiring.specs.LinkLaws.{Linking, linking-start, linking-back, linking-end}
+use Rattle.passes.specs.LinkLaws.{Linking, linking-start, linking-back, linking-end}
 use Rattle.wiring.proofs.frames.link_frames.Statement.{statement}
 use Rattle.wiring.proofs.frames.link_frames.Tie as tie
 

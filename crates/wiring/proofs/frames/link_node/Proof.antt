@@ -2,7 +2,7 @@
 use borrow.Author.Needs.{needs}
 use native.Mathlib.Omega.{arith}
 use lib.ListN.{length-set}
-use Rattle.wiring.specs.LinkLaws.{link-none, link-else, link-exit, link-exitif, link-closer}
+use Rattle.passes.specs.LinkLaws.{link-none, link-else, link-exit, link-exitif, link-closer}
 use Rattle.wiring.proofs.frames.link_node.Statement.{statement}
 use Rattle.wiring.proofs.frames.link_node.Tie as tie
 

@@ -2,9 +2,9 @@
 use mathlib.Core.Path.{ap}
 use native.Mathlib.Omega.{arith}
 use borrow.Author.Needs.{needs}
-use Rattle.wiring.specs.FramePass.{moveOf}
-use Rattle.wiring.specs.FrameStackLaws.{top-le}
-use Rattle.wiring.specs.FramePassLaws.{met-stays, met-opens, met-closes, met-joins}
+use Rattle.passes.specs.FramePass.{moveOf}
+use Rattle.passes.specs.FrameStackLaws.{top-le}
+use Rattle.passes.specs.FramePassLaws.{met-stays, met-opens, met-closes, met-joins}
 use Rattle.wiring.proofs.frames.meet_frame.Statement.{statement}
 use Rattle.wiring.proofs.frames.meet_frame.Tie as tie
 

@@ -5,8 +5,8 @@ use mathlib.Core.Path.{_≡_, refl, sym, _∙_}
 use mathlib.Core.Logic.{⊎-elim}
 use native.Mathlib.Omega.{arith}
 use lib.ListN.{length}
-use Rattle.wiring.specs.FramePass.{moveOf, FrameMoved}
-use Rattle.wiring.specs.FramePassLaws.{moved-none, Meeting, meeting-start, meeting-next, meeting-end}
+use Rattle.passes.specs.FramePass.{moveOf, FrameMoved}
+use Rattle.passes.specs.FramePassLaws.{moved-none, Meeting, meeting-start, meeting-next, meeting-end}
 use Rattle.wiring.proofs.frames.meet_frames.Statement.{statement}
 use Rattle.wiring.proofs.frames.meet_frames.Tie as tie
 

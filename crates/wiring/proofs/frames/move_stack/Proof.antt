@@ -1,9 +1,9 @@
 -- `move_stack`: one law for each move. Assumes nothing.
 use mathlib.Core.Path.{ap}
 use borrow.Author.Needs.{needs}
-use Rattle.wiring.specs.FramePass.{moveOf, movesStack}
-use Rattle.wiring.specs.FrameStackLaws.{room-below}
-use Rattle.wiring.specs.FramePassLaws.{moved-opens, moved-closes, moved-none}
+use Rattle.passes.specs.FramePass.{moveOf, movesStack}
+use Rattle.passes.specs.FrameStackLaws.{room-below}
+use Rattle.passes.specs.FramePassLaws.{moved-opens, moved-closes, moved-none}
 use Rattle.wiring.proofs.frames.move_stack.Statement.{statement}
 use Rattle.wiring.proofs.frames.move_stack.Tie as tie
 

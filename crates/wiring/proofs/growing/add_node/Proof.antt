@@ -3,7 +3,7 @@ use borrow.Author.Needs.{needs}
 use mathlib.Core.Path.{refl, sym, _∙_}
 use native.Mathlib.Omega.{arith}
 use lib.ListN.{length-take}
-use Rattle.wiring.specs.Growing.{grows-zero, grows-old, grows-new}
+use Rattle.passes.specs.Growing.{grows-zero, grows-old, grows-new}
 use Rattle.wiring.proofs.growing.add_node.Statement.{statement}
 use Rattle.wiring.proofs.growing.add_node.Tie as tie
 

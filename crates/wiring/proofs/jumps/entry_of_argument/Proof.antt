@@ -1,6 +1,6 @@
 -- `entry_of_argument`: no line has a number above 65535. Assumes nothing.
 use borrow.Author.Needs.{needs}
-use Rattle.wiring.specs.JumpLaws.{large-number}
+use Rattle.passes.specs.JumpLaws.{large-number}
 use Rattle.wiring.proofs.jumps.entry_of_argument.Statement.{statement}
 use Rattle.wiring.proofs.jumps.entry_of_argument.Tie as tie
 

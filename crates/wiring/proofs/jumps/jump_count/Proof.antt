@@ -1,7 +1,7 @@
 -- `jump_count`: each return by the tests that led there. Assumes nothing.
 use mathlib.Core.Path.{sym, _∙_}
 use borrow.Author.Needs.{needs}
-use Rattle.wiring.specs.JumpLaws.{count-in, count-many, count-none}
+use Rattle.passes.specs.JumpLaws.{count-in, count-many, count-none}
 use Rattle.wiring.proofs.jumps.jump_count.Statement.{statement}
 use Rattle.wiring.proofs.jumps.jump_count.Tie as tie
 

@@ -4,12 +4,12 @@ use mathlib.Core.Path.{_≡_, refl, _∙_}
 use native.Mathlib.Omega.{arith}
 use borrow.Author.Needs.{needs}
 use lib.ListN.{length, take, length-take, length-drop}
-use Rattle.wiring.specs.JumpLaws.{count-few, lent-length, jumps-start, jumps-lent, jumps-end}
-use Rattle.wiring.specs.Jumps.{linked}
-use Rattle.wiring.specs.LineSearch.{EntriesHeld}
-use Rattle.wiring.specs.Held.{LinesHeld, StmtsHeld, ArgsHeld}
+use Rattle.passes.specs.JumpLaws.{count-few, lent-length, jumps-start, jumps-lent, jumps-end}
+use Rattle.passes.specs.Jumps.{linked}
+use Rattle.passes.specs.LineSearch.{EntriesHeld}
+use Rattle.passes.specs.Held.{LinesHeld, StmtsHeld, ArgsHeld}
 use Rattle.graph.specs.Nodes as definition
-use Rattle.reader.specs.Listing.{Lines}
+use Rattle.listings.specs.Listing.{Lines}
 use Rattle.wiring.proofs.jumps.link_jumps.Statement.{statement}
 use Rattle.wiring.proofs.jumps.link_jumps.Tie as tie
 

@@ -5,9 +5,9 @@ use native.Mathlib.Omega.{arith}
 use borrow.Author.Needs.{needs}
 use lib.Seq.{sets}
 use lib.ListN.{length, take, length-set}
-use Rattle.wiring.specs.JumpLaws.{link-start, link-step, link-end}
-use Rattle.wiring.specs.Jumps.{linkRow}
-use Rattle.wiring.specs.LineSearch.{EntryTable}
+use Rattle.passes.specs.JumpLaws.{link-start, link-step, link-end}
+use Rattle.passes.specs.Jumps.{linkRow}
+use Rattle.passes.specs.LineSearch.{EntryTable}
 use Rattle.graph.specs.Nodes.{Entries}
 use Rattle.wiring.proofs.jumps.link_row.Statement.{statement}
 use Rattle.wiring.proofs.jumps.link_row.Tie as tie

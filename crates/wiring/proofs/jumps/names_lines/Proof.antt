@@ -1,5 +1,5 @@
 -- `names_lines`: each return by the tests that led there. Assumes nothing.
-use Rattle.wiring.specs.JumpLaws.{words-low, words-high, words-in}
+use Rattle.passes.specs.JumpLaws.{words-low, words-high, words-in}
 use Rattle.wiring.proofs.jumps.names_lines.Statement.{statement}
 use Rattle.wiring.proofs.jumps.names_lines.Tie as tie
 

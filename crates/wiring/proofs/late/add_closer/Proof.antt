@@ -1,7 +1,7 @@
 -- `add_closer`: nothing, or where the closer falls. Assumes nothing.
 use borrow.Author.Needs.{needs}
 use native.Mathlib.Omega.{arith}
-use Rattle.wiring.specs.ChainLaws.{closer-there, closer-fits, closer-none, closer-some}
+use Rattle.passes.specs.ChainLaws.{closer-there, closer-fits, closer-none, closer-some}
 use Rattle.wiring.proofs.late.add_closer.Statement.{statement}
 use Rattle.wiring.proofs.late.add_closer.Tie as tie
 

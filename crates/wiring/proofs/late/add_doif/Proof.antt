@@ -3,8 +3,8 @@ use borrow.Author.Needs.{needs}
 use mathlib.Core.Path.{sym, subst}
 use native.Mathlib.Omega.{arith}
 use lib.ListN.{length}
-use Rattle.wiring.specs.Late.{FallFitsFrom}
-use Rattle.wiring.specs.ChainLaws.{doif-elses, doif-closer}
+use Rattle.passes.specs.Late.{FallFitsFrom}
+use Rattle.passes.specs.ChainLaws.{doif-elses, doif-closer}
 use Rattle.wiring.proofs.late.add_doif.Statement.{statement}
 use Rattle.wiring.proofs.late.add_doif.Tie as tie
 

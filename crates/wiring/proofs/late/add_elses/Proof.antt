@@ -2,8 +2,8 @@
 use borrow.Author.Needs.{needs}
 use native.Mathlib.Omega.{arith}
 use lib.ListN.{length}
-use Rattle.wiring.specs.ChainLaws.{chainLeft, Walk, walk-start, walk-visit, walk-next, walk-end}
-use Rattle.wiring.specs.FitLaws.{fits-room, fits-next}
+use Rattle.passes.specs.ChainLaws.{chainLeft, Walk, walk-start, walk-visit, walk-next, walk-end}
+use Rattle.passes.specs.FitLaws.{fits-room, fits-next}
 use Rattle.wiring.proofs.late.add_elses.Statement.{statement}
 use Rattle.wiring.proofs.late.add_elses.Tie as tie
 

@@ -1,8 +1,8 @@
 -- `add_fall`: nothing, or the entry of the node. Assumes nothing.
 use borrow.Author.Needs.{needs}
 use native.Mathlib.Omega.{arith}
-use Rattle.wiring.specs.ChainLaws.{fall-fits, fall-none, fall-some}
-use Rattle.wiring.specs.FitLaws.{fits-room, fits-next}
+use Rattle.passes.specs.ChainLaws.{fall-fits, fall-none, fall-some}
+use Rattle.passes.specs.FitLaws.{fits-room, fits-next}
 use Rattle.wiring.proofs.late.add_fall.Statement.{statement}
 use Rattle.wiring.proofs.late.add_fall.Tie as tie
 

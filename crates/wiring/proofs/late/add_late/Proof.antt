@@ -2,7 +2,7 @@
 use borrow.Author.Needs.{needs}
 use mathlib.Core.Path.{sym, _∙_}
 use native.Mathlib.Omega.{arith}
-use Rattle.wiring.specs.LateLaws.{ready-stmt, ready-frame, ready-doif, ready-closer, late-doif, late-joined, late-none}
+use Rattle.passes.specs.LateLaws.{ready-stmt, ready-frame, ready-doif, ready-closer, late-doif, late-joined, late-none}
 use Rattle.wiring.proofs.late.add_late.Statement.{statement}
 use Rattle.wiring.proofs.late.add_late.Tie as tie
 

@@ -1,6 +1,6 @@
 -- `joins_frame`: by the tests that the word passes. Assumes nothing.
 use borrow.Author.Tests.{eq-eqb, ne-eqb}
-use Rattle.wiring.specs.Late.{joinsWord}
+use Rattle.passes.specs.Late.{joinsWord}
 use Rattle.wiring.proofs.late.joins_frame.Statement.{statement}
 use Rattle.wiring.proofs.late.joins_frame.Tie as tie
 

@@ -1,9 +1,9 @@
 -- `add_block`: by the word. Assumes nothing.
 use borrow.Author.Needs.{needs}
 use mathlib.Core.Path.{sym, _∙_}
-use Rattle.wiring.specs.Growing.{grows-none}
-use Rattle.wiring.specs.AddRoom.{room-one, room-as, grows-as}
-use Rattle.wiring.specs.NodeListLaws.{block-endloop, block-until, block-falls, block-stops, body-room}
+use Rattle.passes.specs.Growing.{grows-none}
+use Rattle.passes.specs.AddRoom.{room-one, room-as, grows-as}
+use Rattle.passes.specs.NodeListLaws.{block-endloop, block-until, block-falls, block-stops, body-room}
 use Rattle.wiring.proofs.list_of.add_block.Statement.{statement}
 use Rattle.wiring.proofs.list_of.add_block.Tie as tie
 

@@ -1,7 +1,7 @@
 -- `add_entry`: the last entry again, or one that is new. Assumes nothing.
 use borrow.Author.Needs.{needs}
 use mathlib.Core.Path.{refl}
-use Rattle.wiring.specs.EntryOrder.{entry-same, entry-fits, entry-more}
+use Rattle.passes.specs.EntryOrder.{entry-same, entry-fits, entry-more}
 use Rattle.wiring.proofs.list_of.add_entry.Statement.{statement}
 use Rattle.wiring.proofs.list_of.add_entry.Tie as tie
 

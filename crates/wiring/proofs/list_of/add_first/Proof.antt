@@ -1,6 +1,6 @@
 -- `add_first`: nothing, or one entry. Assumes nothing.
 use borrow.Author.Needs.{needs}
-use Rattle.wiring.specs.AddRoom.{first-none, first-room, first-one}
+use Rattle.passes.specs.AddRoom.{first-none, first-room, first-one}
 use Rattle.wiring.proofs.list_of.add_first.Statement.{statement}
 use Rattle.wiring.proofs.list_of.add_first.Tie as tie
 

@@ -1,9 +1,9 @@
 -- `add_jump`: the targets, and then where an ON falls. Assumes nothing.
 use borrow.Author.Needs.{needs}
 use mathlib.Core.Path.{_∙_}
-use Rattle.wiring.specs.Growing.{grows-both}
-use Rattle.wiring.specs.AddRoom.{room-one, room-first, room-next, room-as, grows-as}
-use Rattle.wiring.specs.NodeListLaws.{jump-parts, jump-only, jump-falls}
+use Rattle.passes.specs.Growing.{grows-both}
+use Rattle.passes.specs.AddRoom.{room-one, room-first, room-next, room-as, grows-as}
+use Rattle.passes.specs.NodeListLaws.{jump-parts, jump-only, jump-falls}
 use Rattle.wiring.proofs.list_of.add_jump.Statement.{statement}
 use Rattle.wiring.proofs.list_of.add_jump.Tie as tie
 

@@ -1,8 +1,8 @@
 -- `add_next`: the bodies, then where it falls. Assumes nothing.
 use borrow.Author.Needs.{needs}
-use Rattle.wiring.specs.Growing.{grows-both}
-use Rattle.wiring.specs.AddRoom.{room-one, room-next, room-as, grows-as}
-use Rattle.wiring.specs.NodeListLaws.{next-parts}
+use Rattle.passes.specs.Growing.{grows-both}
+use Rattle.passes.specs.AddRoom.{room-one, room-next, room-as, grows-as}
+use Rattle.passes.specs.NodeListLaws.{next-parts}
 use Rattle.wiring.proofs.list_of.add_next.Statement.{statement}
 use Rattle.wiring.proofs.list_of.add_next.Tie as tie
 

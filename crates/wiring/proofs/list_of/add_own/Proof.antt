@@ -2,8 +2,8 @@
 use borrow.Author.Needs.{needs}
 use mathlib.Core.Path.{sym}
 use lib.Seq.{length-take-le}
-use Rattle.wiring.specs.AddRoom.{room-as, grows-as}
-use Rattle.wiring.specs.NodeListLaws.{own-branches, own-run, own-jump, own-next, own-any, own-block}
+use Rattle.passes.specs.AddRoom.{room-as, grows-as}
+use Rattle.passes.specs.NodeListLaws.{own-branches, own-run, own-jump, own-next, own-any, own-block}
 use Rattle.wiring.proofs.list_of.add_own.Statement.{statement}
 use Rattle.wiring.proofs.list_of.add_own.Tie as tie
 

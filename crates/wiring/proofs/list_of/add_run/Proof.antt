@@ -2,8 +2,8 @@
 use borrow.Author.Needs.{needs}
 use mathlib.Core.Path.{sym}
 use lib.Seq.{length-take-le}
-use Rattle.wiring.specs.AddRoom.{room-as, grows-as}
-use Rattle.wiring.specs.NodeListLaws.{run-first, run-target}
+use Rattle.passes.specs.AddRoom.{room-as, grows-as}
+use Rattle.passes.specs.NodeListLaws.{run-first, run-target}
 use Rattle.wiring.proofs.list_of.add_run.Statement.{statement}
 use Rattle.wiring.proofs.list_of.add_run.Tie as tie
 

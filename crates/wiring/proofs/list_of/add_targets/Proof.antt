@@ -6,8 +6,8 @@ use Prim.Native.Nat.{_-_, _≤_}
 use lib.ListN.{length, take}
 use Rattle.graph.specs.Lists.{each}
 use Rattle.graph.specs.Adding.{decode}
-use Rattle.wiring.specs.Growing.{Grows, each-start, each-on, each-end}
-use Rattle.wiring.specs.AddRoom.{room-one, room-each}
+use Rattle.passes.specs.Growing.{Grows, each-start, each-on, each-end}
+use Rattle.passes.specs.AddRoom.{room-one, room-each}
 use Rattle.wiring.proofs.list_of.add_targets.Statement.{statement}
 use Rattle.wiring.proofs.list_of.add_targets.Tie as tie
 

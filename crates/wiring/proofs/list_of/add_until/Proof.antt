@@ -1,8 +1,8 @@
 -- `add_until`: nothing, or the body and then where it falls. Assumes nothing.
 use borrow.Author.Needs.{needs}
-use Rattle.wiring.specs.Growing.{grows-none, grows-both}
-use Rattle.wiring.specs.AddRoom.{room-one, room-first, room-next, room-as, grows-as}
-use Rattle.wiring.specs.NodeListLaws.{until-none, until-parts, body-room}
+use Rattle.passes.specs.Growing.{grows-none, grows-both}
+use Rattle.passes.specs.AddRoom.{room-one, room-first, room-next, room-as, grows-as}
+use Rattle.passes.specs.NodeListLaws.{until-none, until-parts, body-room}
 use Rattle.wiring.proofs.list_of.add_until.Statement.{statement}
 use Rattle.wiring.proofs.list_of.add_until.Tie as tie
 

@@ -1,5 +1,5 @@
 -- `falls_on`: by the word. Assumes nothing.
-use Rattle.wiring.specs.NodeListLaws.{exit-stops, else-stops, others-fall}
+use Rattle.passes.specs.NodeListLaws.{exit-stops, else-stops, others-fall}
 use Rattle.wiring.proofs.list_of.falls_on.Statement.{statement}
 use Rattle.wiring.proofs.list_of.falls_on.Tie as tie
 

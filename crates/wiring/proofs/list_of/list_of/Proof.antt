@@ -1,7 +1,7 @@
 -- `list_of`: own edges, late edges, an orphan's targets. Assumes nothing.
 use borrow.Author.Needs.{needs}
 use mathlib.Core.Path.{_∙_}
-use Rattle.wiring.specs.WholeList.{own-room, after-own, late-room, after-late, orphan-room, after-orphan, list-made}
+use Rattle.passes.specs.WholeList.{own-room, after-own, late-room, after-late, orphan-room, after-orphan, list-made}
 use Rattle.wiring.proofs.list_of.list_of.Statement.{statement}
 use Rattle.wiring.proofs.list_of.list_of.Tie as tie
 

@@ -1,7 +1,7 @@
 -- `add_link`: nothing, or where the FOR falls. Assumes nothing.
 use borrow.Author.Needs.{needs}
 use native.Mathlib.Omega.{arith}
-use Rattle.wiring.specs.NextBodies.{link-none, link-one, link-fit}
+use Rattle.passes.specs.NextBodies.{link-none, link-one, link-fit}
 use Rattle.wiring.proofs.nexts.add_link.Statement.{statement}
 use Rattle.wiring.proofs.nexts.add_link.Tie as tie
 

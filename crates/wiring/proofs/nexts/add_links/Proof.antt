@@ -5,8 +5,8 @@ use mathlib.Core.Path.{_≡_, refl}
 use Prim.Native.Nat.{_-_, _≤_}
 use lib.ListN.{length, take}
 use Rattle.graph.specs.Lists.{each}
-use Rattle.wiring.specs.Growing.{Grows, each-start, each-on, each-end}
-use Rattle.wiring.specs.NextBodies.{linkBody, link-room}
+use Rattle.passes.specs.Growing.{Grows, each-start, each-on, each-end}
+use Rattle.passes.specs.NextBodies.{linkBody, link-room}
 use Rattle.wiring.proofs.nexts.add_links.Statement.{statement}
 use Rattle.wiring.proofs.nexts.add_links.Tie as tie
 

@@ -2,7 +2,7 @@
 use borrow.Author.Needs.{needs}
 use mathlib.Core.Path.{sym, _∙_}
 use lib.Seq.{length-take-le}
-use Rattle.wiring.specs.NextBodies.{came-grows}
+use Rattle.passes.specs.NextBodies.{came-grows}
 use Rattle.wiring.proofs.nexts.add_new_slot.Statement.{statement}
 use Rattle.wiring.proofs.nexts.add_new_slot.Tie as tie
 

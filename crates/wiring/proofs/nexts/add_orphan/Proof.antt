@@ -4,8 +4,8 @@ use native.Mathlib.Omega.{arith}
 use mathlib.Core.Path.{sym}
 use lib.ListN.{take}
 use lib.Seq.{length-take-le}
-use Rattle.wiring.specs.ListedNodes.{SlotsCounted}
-use Rattle.wiring.specs.NextBodies.{orphan-not-next, orphan-plain, orphan-slots}
+use Rattle.passes.specs.ListedNodes.{SlotsCounted}
+use Rattle.passes.specs.NextBodies.{orphan-not-next, orphan-plain, orphan-slots}
 use Rattle.wiring.proofs.nexts.add_orphan.Statement.{statement}
 use Rattle.wiring.proofs.nexts.add_orphan.Tie as tie
 

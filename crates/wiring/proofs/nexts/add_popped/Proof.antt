@@ -1,6 +1,6 @@
 -- `add_popped`: the row's links, joined, are the FORs that are popped. Assumes nothing.
 use borrow.Author.Needs.{needs}
-use Rattle.wiring.specs.NextBodies.{links-added, popped-room}
+use Rattle.passes.specs.NextBodies.{links-added, popped-room}
 use Rattle.wiring.proofs.nexts.add_popped.Statement.{statement}
 use Rattle.wiring.proofs.nexts.add_popped.Tie as tie
 

@@ -1,7 +1,7 @@
 -- `add_selected`: the body, or nothing. Assumes nothing.
 use borrow.Author.Needs.{needs}
 use mathlib.Core.Path.{sym, _∙_}
-use Rattle.wiring.specs.NextBodies.{for-fit, for-selected, for-left-out}
+use Rattle.passes.specs.NextBodies.{for-fit, for-selected, for-left-out}
 use Rattle.wiring.proofs.nexts.add_selected.Statement.{statement}
 use Rattle.wiring.proofs.nexts.add_selected.Tie as tie
 

@@ -5,9 +5,9 @@ use mathlib.Core.Path.{_≡_, refl}
 use Prim.Native.Nat.{_-_, _≤_}
 use lib.ListN.{length, take}
 use Rattle.graph.specs.Lists.{each}
-use Rattle.wiring.specs.Growing.{Grows, each-start, each-on, each-end}
-use Rattle.wiring.specs.AddedAgain.{grows-in}
-use Rattle.wiring.specs.NextBodies.{slotBodies, slot-room}
+use Rattle.passes.specs.Growing.{Grows, each-start, each-on, each-end}
+use Rattle.passes.specs.AddedAgain.{grows-in}
+use Rattle.passes.specs.NextBodies.{slotBodies, slot-room}
 use Rattle.wiring.proofs.nexts.add_slots.Statement.{statement}
 use Rattle.wiring.proofs.nexts.add_slots.Tie as tie
 

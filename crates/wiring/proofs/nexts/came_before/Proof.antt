@@ -5,7 +5,7 @@ use Prim.Native.Nat.{ℕ, _-_, _≤_}
 use mathlib.Core.Path.{_≡_, refl, sym, ap, _∙_}
 use mathlib.Core.List.{List}
 use lib.ListN.{length, drop, drop-of-length-le}
-use Rattle.wiring.specs.NextBodies.{cameBefore, came-here, came-later}
+use Rattle.passes.specs.NextBodies.{cameBefore, came-here, came-later}
 use Rattle.wiring.proofs.nexts.came_before.Statement.{statement}
 use Rattle.wiring.proofs.nexts.came_before.Tie as tie
 

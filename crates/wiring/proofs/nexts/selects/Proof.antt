@@ -1,5 +1,5 @@
 -- `selects`: all, or by name. Assumes nothing.
-use Rattle.wiring.specs.NextBodies.{selects-any, selects-name}
+use Rattle.passes.specs.NextBodies.{selects-any, selects-name}
 use Rattle.wiring.proofs.nexts.selects.Statement.{statement}
 use Rattle.wiring.proofs.nexts.selects.Tie as tie
 

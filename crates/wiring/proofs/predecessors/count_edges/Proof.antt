@@ -4,7 +4,7 @@ use mathlib.Core.Path.{_≡_, refl, subst}
 use borrow.Author.Needs.{needs}
 use native.Mathlib.Omega.{arith}
 use lib.ListN.{length, length-set}
-use Rattle.wiring.specs.Predecessors.{Counted, counted-none, counted-node, counted-fits, counted-more}
+use Rattle.passes.specs.Predecessors.{Counted, counted-none, counted-node, counted-fits, counted-more}
 use Rattle.wiring.proofs.predecessors.count_edges.Statement.{statement}
 use Rattle.wiring.proofs.predecessors.count_edges.Tie as tie
 

@@ -5,7 +5,7 @@ use borrow.Author.Needs.{needs}
 use native.Mathlib.Omega.{arith}
 use lib.ListN.{length, take, length-set}
 use lib.Seq.{take-all}
-use Rattle.wiring.specs.Predecessors.{Placed, placed-none, placed-node, placed-room, placed-fits, placed-more}
+use Rattle.passes.specs.Predecessors.{Placed, placed-none, placed-node, placed-room, placed-fits, placed-more}
 use Rattle.wiring.proofs.predecessors.fill_list.Statement.{statement}
 use Rattle.wiring.proofs.predecessors.fill_list.Tie as tie
 

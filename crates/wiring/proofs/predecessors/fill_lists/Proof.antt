@@ -4,7 +4,7 @@ use mathlib.Core.Path.{_≡_, refl, subst}
 use borrow.Author.Needs.{needs}
 use native.Mathlib.Omega.{arith}
 use lib.ListN.{length}
-use Rattle.wiring.specs.PredecessorLists.{FilledTo, filling-none, filling-inside, filling-fillable, filling-more}
+use Rattle.passes.specs.PredecessorLists.{FilledTo, filling-none, filling-inside, filling-fillable, filling-more}
 use Rattle.wiring.proofs.predecessors.fill_lists.Statement.{statement}
 use Rattle.wiring.proofs.predecessors.fill_lists.Tie as tie
 

@@ -4,9 +4,9 @@ use mathlib.Core.Path.{_≡_, refl, subst}
 use borrow.Author.Needs.{needs}
 use native.Mathlib.Omega.{arith}
 use lib.ListN.{length, length-set}
-use Rattle.wiring.specs.EdgeTable.{predCount}
-use Rattle.wiring.specs.Counting.{sumTo, sum-next, sum-le}
-use Rattle.wiring.specs.Predecessors.{Starting, starting-none, starting-count, starting-more, starting-all}
+use Rattle.tables.specs.Columns.{predCount}
+use Rattle.passes.specs.Counting.{sumTo, sum-next, sum-le}
+use Rattle.passes.specs.Predecessors.{Starting, starting-none, starting-count, starting-more, starting-all}
 use Rattle.wiring.proofs.predecessors.set_starts.Statement.{statement}
 use Rattle.wiring.proofs.predecessors.set_starts.Tie as tie
 

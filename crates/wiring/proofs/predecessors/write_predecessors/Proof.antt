@@ -1,6 +1,6 @@
 -- `write_predecessors`: the three passes, one after the other. Assumes nothing.
 use borrow.Author.Needs.{needs}
-use Rattle.wiring.specs.PredecessorLists.{ready-count, ready-rows, ready-sum, ready-begun, ready-room, ready-filled}
+use Rattle.passes.specs.PredecessorLists.{ready-count, ready-rows, ready-sum, ready-begun, ready-room, ready-filled}
 use Rattle.wiring.proofs.predecessors.write_predecessors.Statement.{statement}
 use Rattle.wiring.proofs.predecessors.write_predecessors.Tie as tie
 

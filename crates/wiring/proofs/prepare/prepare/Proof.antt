@@ -1,7 +1,7 @@
 -- `prepare`: the passes, one after the other; each finds what the ones before have written. Assumes nothing.
 use mathlib.Core.Path.{_∙_}
 use borrow.Author.Needs.{needs}
-use Rattle.wiring.specs.Preparing.{holds-counted, none-lost, all-prepared}
+use Rattle.passes.specs.Preparing.{holds-counted, none-lost, all-prepared}
 use Rattle.wiring.proofs.prepare.prepare.Statement.{statement}
 use Rattle.wiring.proofs.prepare.prepare.Tie as tie
 

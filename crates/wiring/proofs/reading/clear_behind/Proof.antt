@@ -1,6 +1,6 @@
 -- `clear_behind`: the part that comes back is all zero. Assumes nothing.
 use borrow.Author.Needs.{needs}
-use Rattle.wiring.specs.Reading.{cleared-behind}
+use Rattle.tables.specs.Stores.{cleared-behind}
 use Rattle.wiring.proofs.reading.clear_behind.Statement.{statement}
 use Rattle.wiring.proofs.reading.clear_behind.Tie as tie
 

@@ -1,6 +1,6 @@
 -- `read_fitting`: the front parts as the reader leaves them, zeros behind. Assumes nothing.
 use borrow.Author.Needs.{needs}
-use Rattle.wiring.specs.Reading.{front-length, fitting-read}
+use Rattle.passes.specs.Reading.{front-length, fitting-read}
 use Rattle.wiring.proofs.reading.read_fitting.Statement.{statement}
 use Rattle.wiring.proofs.reading.read_fitting.Tie as tie
 

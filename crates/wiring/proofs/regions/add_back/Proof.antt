@@ -1,7 +1,7 @@
 -- `add_back`: the continuation, where the row has the entry. Assumes nothing.
 use borrow.Author.Needs.{needs}
 use borrow.Author.Tests.{not-true, not-false}
-use Rattle.wiring.specs.RegionLaws.{target-part, back-yes, back-no}
+use Rattle.passes.specs.RegionLaws.{target-part, back-yes, back-no}
 use Rattle.wiring.proofs.regions.add_back.Statement.{statement}
 use Rattle.wiring.proofs.regions.add_back.Tie as tie
 

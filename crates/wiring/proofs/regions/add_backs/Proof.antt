@@ -6,8 +6,8 @@ use native.Mathlib.Omega.{arith}
 use lib.ListN.{length, take}
 use lib.Seq.{take-all}
 use Rattle.graph.specs.Lists.{each}
-use Rattle.wiring.specs.Regions.{backFrom, SetAdded}
-use Rattle.wiring.specs.RegionLaws.{all-getD, set-start, set-more}
+use Rattle.passes.specs.Regions.{backFrom, SetAdded}
+use Rattle.passes.specs.RegionLaws.{all-getD, set-start, set-more}
 use Rattle.wiring.proofs.regions.add_backs.Statement.{statement}
 use Rattle.wiring.proofs.regions.add_backs.Tie as tie
 

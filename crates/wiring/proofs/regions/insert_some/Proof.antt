@@ -1,7 +1,7 @@
 -- `insert_some`: one node, or none. Assumes nothing.
 use borrow.Author.Needs.{needs}
 use native.Mathlib.Omega.{arith}
-use Rattle.wiring.specs.RegionLaws.{set-zero, set-some}
+use Rattle.passes.specs.RegionLaws.{set-zero, set-some}
 use Rattle.wiring.proofs.regions.insert_some.Statement.{statement}
 use Rattle.wiring.proofs.regions.insert_some.Tie as tie
 

@@ -4,8 +4,8 @@ use Prim.Native.Nat.{_-_, _≤_}
 use mathlib.Core.Path.{_≡_, refl}
 use native.Mathlib.Omega.{arith}
 use lib.ListN.{length}
-use Rattle.wiring.specs.Regions.{EntriesJoined}
-use Rattle.wiring.specs.RegionLaws.{regions-none, regions-more, entries-again}
+use Rattle.passes.specs.Regions.{EntriesJoined}
+use Rattle.passes.specs.RegionLaws.{regions-none, regions-more, entries-again}
 use Rattle.wiring.proofs.regions.join_entries.Statement.{statement}
 use Rattle.wiring.proofs.regions.join_entries.Tie as tie
 

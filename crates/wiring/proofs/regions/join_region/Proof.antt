@@ -1,6 +1,6 @@
 -- `join_region`: the continuations of the calls of the entry, joined into the RETURNs of its list. Assumes nothing.
 use borrow.Author.Needs.{needs}
-use Rattle.wiring.specs.RegionLaws.{listed-joined}
+use Rattle.passes.specs.RegionLaws.{listed-joined}
 use Rattle.wiring.proofs.regions.join_region.Statement.{statement}
 use Rattle.wiring.proofs.regions.join_region.Tie as tie
 

@@ -1,7 +1,7 @@
 -- `list_call`: one more entry, or none. Assumes nothing.
 use borrow.Author.Needs.{needs}
 use mathlib.Core.Path.{sym, _∙_}
-use Rattle.wiring.specs.RegionLaws.{call-yes, call-no}
+use Rattle.passes.specs.RegionLaws.{call-yes, call-no}
 use Rattle.wiring.proofs.regions.list_call.Statement.{statement}
 use Rattle.wiring.proofs.regions.list_call.Tie as tie
 

@@ -4,9 +4,9 @@ use Prim.Native.Nat.{_-_, _≤_}
 use mathlib.Core.Path.{_≡_, refl}
 use native.Mathlib.Omega.{arith}
 use lib.ListN.{length}
-use Rattle.wiring.specs.Sets.{Put}
-use Rattle.wiring.specs.Regions.{callsBelow}
-use Rattle.wiring.specs.RegionLaws.{calls-few, calls-start, calls-more}
+use Rattle.passes.specs.Sets.{Put}
+use Rattle.passes.specs.Regions.{callsBelow}
+use Rattle.passes.specs.RegionLaws.{calls-few, calls-start, calls-more}
 use Rattle.wiring.proofs.regions.list_calls.Statement.{statement}
 use Rattle.wiring.proofs.regions.list_calls.Tie as tie
 

@@ -4,8 +4,8 @@ use mathlib.Core.Path.{sym, ap}
 use native.Mathlib.Omega.{arith}
 use lib.ListN.{length}
 use lib.Seq.{length-take-le}
-use Rattle.wiring.specs.WalkLaws.{stored-own}
-use Rattle.wiring.specs.RegionLaws.{calls-few, calls-ready, targets-fit, regions-end}
+use Rattle.passes.specs.WalkLaws.{stored-own}
+use Rattle.passes.specs.RegionLaws.{calls-few, calls-ready, targets-fit, regions-end}
 use Rattle.wiring.proofs.regions.region_return_edges.Statement.{statement}
 use Rattle.wiring.proofs.regions.region_return_edges.Tie as tie
 

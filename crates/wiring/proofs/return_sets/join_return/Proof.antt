@@ -2,7 +2,7 @@
 use Prim.Native.Nat.{_+_, _-_, _*_}
 use mathlib.Core.Path.{_≡_}
 use native.Mathlib.Omega.{arith}
-use Rattle.wiring.specs.ReturnSetLaws.{return-other, return-joined}
+use Rattle.passes.specs.ReturnSetLaws.{return-other, return-joined}
 use borrow.Author.Needs.{needs}
 use Rattle.wiring.proofs.return_sets.join_return.Statement.{statement}
 use Rattle.wiring.proofs.return_sets.join_return.Tie as tie

@@ -3,8 +3,8 @@ use Prim.Native.Nat.{_-_, _≤_}
 use native.Mathlib.Omega.{arith}
 use lib.ListN.{length, take}
 use lib.Seq.{take-all}
-use Rattle.wiring.specs.ReturnSets.{ReturnsJoined}
-use Rattle.wiring.specs.ReturnSetLaws.{returns-none, returns-more}
+use Rattle.passes.specs.ReturnSets.{ReturnsJoined}
+use Rattle.passes.specs.ReturnSetLaws.{returns-none, returns-more}
 use borrow.Author.Needs.{needs}
 use Rattle.wiring.proofs.return_sets.join_returns.Statement.{statement}
 use Rattle.wiring.proofs.return_sets.join_returns.Tie as tie

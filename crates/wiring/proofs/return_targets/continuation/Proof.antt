@@ -1,7 +1,7 @@
 -- `continuation`: by the opening word. Assumes nothing.
 use borrow.Author.Needs.{needs}
 use mathlib.Core.Path.{sym, _∙_}
-use Rattle.wiring.specs.ReturnTargets.{continuation-call, continuation-none}
+use Rattle.passes.specs.ReturnTargets.{continuation-call, continuation-none}
 use Rattle.wiring.proofs.return_targets.continuation.Statement.{statement}
 use Rattle.wiring.proofs.return_targets.continuation.Tie as tie
 

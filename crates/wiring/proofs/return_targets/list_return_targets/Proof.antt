@@ -1,5 +1,5 @@
 -- `list_return_targets`: at first there is no mark and no target. Assumes nothing.
-use Rattle.wiring.specs.ReturnTargets.{marking-none}
+use Rattle.passes.specs.ReturnTargets.{marking-none}
 use borrow.Author.Needs.{needs}
 use Rattle.wiring.proofs.return_targets.list_return_targets.Statement.{statement}
 use Rattle.wiring.proofs.return_targets.list_return_targets.Tie as tie

@@ -1,5 +1,5 @@
 -- `put_target`: no node, one that has its mark, one that has none. Assumes nothing.
-use Rattle.wiring.specs.ReturnTargets.{target-none, target-old, target-new}
+use Rattle.passes.specs.ReturnTargets.{target-none, target-old, target-new}
 use borrow.Author.Needs.{needs}
 use Rattle.wiring.proofs.return_targets.put_target.Statement.{statement}
 use Rattle.wiring.proofs.return_targets.put_target.Tie as tie

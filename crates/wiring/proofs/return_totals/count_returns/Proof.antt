@@ -3,8 +3,8 @@ use Prim.Native.Nat.{_+_, _-_, _≤_}
 use mathlib.Core.Path.{_≡_}
 use native.Mathlib.Omega.{arith}
 use lib.Dec.{eqb}
-use Rattle.wiring.specs.Prepared.{wordOf}
-use Rattle.wiring.specs.ReturnTotals.{sumWhere, returnSize, sum-where-none, return-sum-next, return-sum-le}
+use Rattle.tables.specs.Columns.{wordOf}
+use Rattle.passes.specs.ReturnTotals.{sumWhere, returnSize, sum-where-none, return-sum-next, return-sum-le}
 use borrow.Author.Needs.{needs}
 use Rattle.wiring.proofs.return_totals.count_returns.Statement.{statement}
 use Rattle.wiring.proofs.return_totals.count_returns.Tie as tie

@@ -2,7 +2,7 @@
 use Prim.Native.Nat.{_+_, _-_, _*_}
 use mathlib.Core.Path.{_≡_, _∙_}
 use native.Mathlib.Omega.{arith}
-use Rattle.wiring.specs.ReturnTotals.{no-return-size, own-return-size, size-with-handlers, size-without}
+use Rattle.passes.specs.ReturnTotals.{no-return-size, own-return-size, size-with-handlers, size-without}
 use borrow.Author.Needs.{needs}
 use Rattle.wiring.proofs.return_totals.return_size.Statement.{statement}
 use Rattle.wiring.proofs.return_totals.return_size.Tie as tie

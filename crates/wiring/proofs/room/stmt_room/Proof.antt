@@ -1,5 +1,5 @@
 -- `stmt_room`: the least of six, pair by pair. Assumes nothing.
-use Rattle.wiring.specs.Room.{stmtRoom}
+use Rattle.passes.specs.Room.{stmtRoom}
 use borrow.Author.Needs.{needs}
 use Rattle.wiring.proofs.room.stmt_room.Statement.{statement}
 use Rattle.wiring.proofs.room.stmt_room.Tie as tie

@@ -1,5 +1,5 @@
 -- `bit`: a power of two below the word's size. Assumes nothing.
-use Rattle.wiring.specs.SetLaws.{one-bit}
+use Rattle.passes.specs.SetLaws.{one-bit}
 use borrow.Author.Needs.{needs}
 use Rattle.wiring.proofs.sets.bit.Statement.{statement}
 use Rattle.wiring.proofs.sets.bit.Tie as tie

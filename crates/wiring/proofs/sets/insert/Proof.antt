@@ -1,6 +1,6 @@
 -- `insert`: one bit of one word. Assumes nothing.
 use lib.ListN.{set}
-use Rattle.wiring.specs.SetLaws.{inserted-is}
+use Rattle.passes.specs.SetLaws.{inserted-is}
 use borrow.Author.Needs.{needs}
 use Rattle.wiring.proofs.sets.insert.Statement.{statement}
 use Rattle.wiring.proofs.sets.insert.Tie as tie

@@ -3,8 +3,8 @@ use Prim.Native.Nat.{_-_, _≤_}
 use mathlib.Core.Path.{_≡_, refl, _∙_}
 use native.Mathlib.Omega.{arith}
 use lib.ListN.{length, length-set, set}
-use Rattle.wiring.specs.Sets.{joinedTo}
-use Rattle.wiring.specs.SetLaws.{joined-none, joined-more, joined-end}
+use Rattle.passes.specs.Sets.{joinedTo}
+use Rattle.passes.specs.SetLaws.{joined-none, joined-more, joined-end}
 use borrow.Author.Needs.{needs}
 use Rattle.wiring.proofs.sets.join.Statement.{statement}
 use Rattle.wiring.proofs.sets.join.Tie as tie

@@ -4,8 +4,8 @@ use Prim.Native.Nat.{_-_, _≤_}
 use mathlib.Core.Path.{_≡_, refl, _∙_}
 use native.Mathlib.Omega.{arith}
 use lib.ListN.{length, set}
-use Rattle.wiring.specs.Sets.{membersTo, Put}
-use Rattle.wiring.specs.SetLaws.{set-none, set-room, set-put, set-end}
+use Rattle.passes.specs.Sets.{membersTo, Put}
+use Rattle.passes.specs.SetLaws.{set-none, set-room, set-put, set-end}
 use Rattle.wiring.proofs.sets.members.Statement.{statement}
 use Rattle.wiring.proofs.sets.members.Tie as tie
 

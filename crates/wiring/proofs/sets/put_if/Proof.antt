@@ -1,5 +1,5 @@
 -- `put_if`: nothing, or one id. Assumes nothing.
-use Rattle.wiring.specs.SetLaws.{put-yes, put-no, one-room}
+use Rattle.passes.specs.SetLaws.{put-yes, put-no, one-room}
 use borrow.Author.Needs.{needs}
 use Rattle.wiring.proofs.sets.put_if.Statement.{statement}
 use Rattle.wiring.proofs.sets.put_if.Tie as tie

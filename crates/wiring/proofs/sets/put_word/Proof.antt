@@ -3,8 +3,8 @@ use Prim.Native.Nat.{_/_, _^_, _≤_, _<_}
 use mathlib.Core.Path.{_≡_, refl, _∙_}
 use native.Mathlib.Omega.{arith}
 use lib.ListN.{length}
-use Rattle.wiring.specs.Sets.{wordMembers, Put}
-use Rattle.wiring.specs.SetLaws.{word-left, word-room, word-next, word-put, word-end, word-none, word-whole}
+use Rattle.passes.specs.Sets.{wordMembers, Put}
+use Rattle.passes.specs.SetLaws.{word-left, word-room, word-next, word-put, word-end, word-none, word-whole}
 use borrow.Author.Needs.{needs}
 use Rattle.wiring.proofs.sets.put_word.Statement.{statement}
 use Rattle.wiring.proofs.sets.put_word.Tie as tie

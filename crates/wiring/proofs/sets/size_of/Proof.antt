@@ -3,9 +3,9 @@ use Prim.Native.Nat.{_-_, _*_, _≤_}
 use mathlib.Core.Path.{_≡_, ap, _∙_}
 use native.Mathlib.Omega.{arith}
 use lib.ListN.{length, getD, set}
-use Rattle.wiring.specs.Sets.{membersTo}
+use Rattle.passes.specs.Sets.{membersTo}
 use lib.Count.{ones-le}
-use Rattle.wiring.specs.SetLaws.{size-none, size-more, set-end}
+use Rattle.passes.specs.SetLaws.{size-none, size-more, set-end}
 use borrow.Author.Needs.{needs}
 use Rattle.wiring.proofs.sets.size_of.Statement.{statement}
 use Rattle.wiring.proofs.sets.size_of.Tie as tie

@@ -1,6 +1,6 @@
 -- `put_fall`: nothing, or one node. Assumes nothing.
 use borrow.Author.Needs.{needs}
-use Rattle.wiring.specs.SkipLists.{fall-none, fall-one}
+use Rattle.passes.specs.SkipLists.{fall-none, fall-one}
 use Rattle.wiring.proofs.skip_lists.put_fall.Statement.{statement}
 use Rattle.wiring.proofs.skip_lists.put_fall.Tie as tie
 

@@ -3,8 +3,8 @@ use mathlib.Core.Path.{_≡_, sym, _∙_}
 use mathlib.Core.Bool.{true, false}
 use native.Mathlib.Omega.{arith}
 use borrow.Author.Needs.{needs}
-use Rattle.wiring.specs.Prepared.{callWord, wordOf}
-use Rattle.wiring.specs.SkipLists.{skip-same, skip-fall}
+use Rattle.tables.specs.Columns.{callWord, wordOf}
+use Rattle.passes.specs.SkipLists.{skip-same, skip-fall}
 use Rattle.wiring.proofs.skip_lists.skip_list.Statement.{statement}
 use Rattle.wiring.proofs.skip_lists.skip_list.Tie as tie
 

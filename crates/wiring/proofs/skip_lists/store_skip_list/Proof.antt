@@ -1,7 +1,7 @@
 -- `store_skip_list`: the node's list, what skipping paths follow of it, and that stored. Assumes nothing.
 use native.Mathlib.Omega.{arith}
 use borrow.Author.Needs.{needs}
-use Rattle.wiring.specs.SkipLists.{list-kept, skip-list-ready, skip-total, skip-room, skip-over, skip-fits, skip-store}
+use Rattle.passes.specs.SkipLists.{list-kept, skip-list-ready, skip-total, skip-room, skip-over, skip-fits, skip-store}
 use Rattle.wiring.proofs.skip_lists.store_skip_list.Statement.{statement}
 use Rattle.wiring.proofs.skip_lists.store_skip_list.Tie as tie
 

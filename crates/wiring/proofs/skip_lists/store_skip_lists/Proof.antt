@@ -5,7 +5,7 @@ use native.Mathlib.Omega.{arith}
 use borrow.Author.Needs.{needs}
 use lib.ListN.{length}
 use Rattle.graph.specs.Graph.{wire}
-use Rattle.wiring.specs.SkipLists.{Skipping, skips-none, skips-fit, skips-more, skips-done}
+use Rattle.passes.specs.SkipLists.{Skipping, skips-none, skips-fit, skips-more, skips-done}
 use Rattle.wiring.proofs.skip_lists.store_skip_lists.Statement.{statement}
 use Rattle.wiring.proofs.skip_lists.store_skip_lists.Tie as tie
 

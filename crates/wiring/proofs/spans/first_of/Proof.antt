@@ -1,5 +1,5 @@
 -- `first_of`: k, or where the span began. Assumes nothing.
-use Rattle.wiring.specs.Spans.{first-new, first-old}
+use Rattle.passes.specs.Spans.{first-new, first-old}
 use Rattle.wiring.proofs.spans.first_of.Statement.{statement}
 use Rattle.wiring.proofs.spans.first_of.Tie as tie
 

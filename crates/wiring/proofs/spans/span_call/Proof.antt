@@ -1,6 +1,6 @@
 -- `span_call`: the part of the row that the targets take. Assumes nothing.
 use borrow.Author.Needs.{needs}
-use Rattle.wiring.specs.RegionLaws.{target-part, part-ids, target-entries}
+use Rattle.passes.specs.RegionLaws.{target-part, part-ids, target-entries}
 use Rattle.wiring.proofs.spans.span_call.Statement.{statement}
 use Rattle.wiring.proofs.spans.span_call.Tie as tie
 

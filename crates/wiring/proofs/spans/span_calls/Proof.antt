@@ -4,8 +4,8 @@ use Prim.Native.Nat.{ℕ, _-_, _≤_}
 use mathlib.Core.Path.{_≡_, ap, sym, _∙_}
 use native.Mathlib.Omega.{arith}
 use lib.ListN.{length, length-replicate}
-use Rattle.wiring.specs.RegionLaws.{all-getD}
-use Rattle.wiring.specs.Spans.{Spanned, spanned-none, spanned-more}
+use Rattle.passes.specs.RegionLaws.{all-getD}
+use Rattle.passes.specs.Spans.{Spanned, spanned-none, spanned-more}
 use Rattle.wiring.proofs.spans.span_calls.Statement.{statement}
 use Rattle.wiring.proofs.spans.span_calls.Tie as tie
 

@@ -7,8 +7,8 @@ use lib.ListN.{length, take}
 use lib.Seq.{take-all}
 use Rattle.graph.specs.Lists.{each}
 use Rattle.graph.specs.Adding.{decode}
-use Rattle.wiring.specs.RegionLaws.{all-getD}
-use Rattle.wiring.specs.Spans.{SpansGrow, row-start, row-more}
+use Rattle.passes.specs.RegionLaws.{all-getD}
+use Rattle.passes.specs.Spans.{SpansGrow, row-start, row-more}
 use Rattle.wiring.proofs.spans.span_row.Statement.{statement}
 use Rattle.wiring.proofs.spans.span_row.Tie as tie
 

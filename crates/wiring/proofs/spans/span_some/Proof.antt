@@ -3,7 +3,7 @@ use borrow.Author.Needs.{needs}
 use mathlib.Core.Path.{refl}
 use native.Mathlib.Omega.{arith}
 use lib.ListN.{length-set}
-use Rattle.wiring.specs.Spans.{grow-zero, grow-some}
+use Rattle.passes.specs.Spans.{grow-zero, grow-some}
 use Rattle.wiring.proofs.spans.span_some.Statement.{statement}
 use Rattle.wiring.proofs.spans.span_some.Tie as tie
 

@@ -4,7 +4,7 @@ use mathlib.Core.Path.{sym}
 use native.Mathlib.Omega.{arith}
 use lib.Seq.{length-take-le}
 use Rattle.graph.specs.Graph.{skipSteps}
-use Rattle.wiring.specs.RegionLaws.{uncalled-joined, span-fits, entry-calls}
+use Rattle.passes.specs.RegionLaws.{uncalled-joined, span-fits, entry-calls}
 use Rattle.wiring.proofs.spread.join_spread.Statement.{statement}
 use Rattle.wiring.proofs.spread.join_spread.Tie as tie
 

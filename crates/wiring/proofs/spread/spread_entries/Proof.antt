@@ -4,9 +4,9 @@ use Prim.Native.Nat.{_-_, _≤_}
 use mathlib.Core.Path.{_≡_, refl}
 use native.Mathlib.Omega.{arith}
 use lib.ListN.{length}
-use Rattle.wiring.specs.RegionLaws.{regions-none}
-use Rattle.wiring.specs.Spread.{EntriesSpread}
-use Rattle.wiring.specs.SpreadLaws.{entries-more, spread-again}
+use Rattle.passes.specs.RegionLaws.{regions-none}
+use Rattle.passes.specs.Spread.{EntriesSpread}
+use Rattle.passes.specs.SpreadLaws.{entries-more, spread-again}
 use Rattle.wiring.proofs.spread.spread_entries.Statement.{statement}
 use Rattle.wiring.proofs.spread.spread_entries.Tie as tie
 

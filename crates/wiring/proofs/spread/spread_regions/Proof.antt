@@ -4,7 +4,7 @@ use mathlib.Core.Path.{sym, ap}
 use native.Mathlib.Omega.{arith}
 use lib.ListN.{length}
 use lib.Seq.{length-take-le}
-use Rattle.wiring.specs.RegionLaws.{calls-few, calls-ready, targets-fit, regions-end}
+use Rattle.passes.specs.RegionLaws.{calls-few, calls-ready, targets-fit, regions-end}
 use Rattle.wiring.proofs.spread.spread_regions.Statement.{statement}
 use Rattle.wiring.proofs.spread.spread_regions.Tie as tie
 

@@ -1,6 +1,6 @@
 -- `spread_return_edges`: the rows are filled, closed, cleared for the RETURNs, and all regions joined. Assumes nothing.
 use borrow.Author.Needs.{needs}
-use Rattle.wiring.specs.SpreadLaws.{spread-ready, spread-to}
+use Rattle.passes.specs.SpreadLaws.{spread-ready, spread-to}
 use Rattle.wiring.proofs.spread.spread_return_edges.Statement.{statement}
 use Rattle.wiring.proofs.spread.spread_return_edges.Tie as tie
 

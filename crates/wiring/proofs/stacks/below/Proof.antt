@@ -4,7 +4,7 @@ use Prim.Native.Nat.{_%_, _/_}
 use lib.ListN.{getD}
 use borrow.Author.Needs.{needs}
 use lib.Pow.{pow-pos}
-use Rattle.wiring.specs.FrameStackLaws.{below-here, below-on, below-le, highest-le}
+use Rattle.passes.specs.FrameStackLaws.{below-here, below-on, below-le, highest-le}
 use Rattle.wiring.proofs.stacks.below.Statement.{statement}
 use Rattle.wiring.proofs.stacks.below.Tie as tie
 

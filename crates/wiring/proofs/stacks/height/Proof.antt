@@ -1,6 +1,6 @@
 -- `height`: the word's bits less its leading zeros. Assumes nothing.
 use native.Mathlib.Omega.{arith}
-use Rattle.wiring.specs.FrameStackLaws.{height-is}
+use Rattle.passes.specs.FrameStackLaws.{height-is}
 use borrow.Author.Needs.{needs}
 use Rattle.wiring.proofs.stacks.height.Statement.{statement}
 use Rattle.wiring.proofs.stacks.height.Tie as tie

@@ -1,5 +1,5 @@
 -- `highest`: the words from q on are 0. Assumes nothing.
-use Rattle.wiring.specs.FrameStackLaws.{highest-found, highest-more}
+use Rattle.passes.specs.FrameStackLaws.{highest-found, highest-more}
 use borrow.Author.Needs.{needs}
 use native.Mathlib.Omega.{arith}
 use mathlib.Core.Path.{_≡_}

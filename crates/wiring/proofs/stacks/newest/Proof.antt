@@ -1,6 +1,6 @@
 -- `newest`: the words above that of i are 0. Assumes nothing.
 use borrow.Author.Needs.{needs}
-use Rattle.wiring.specs.FrameStackLaws.{newest-is}
+use Rattle.passes.specs.FrameStackLaws.{newest-is}
 use Rattle.wiring.proofs.stacks.newest.Statement.{statement}
 use Rattle.wiring.proofs.stacks.newest.Tie as tie
 

@@ -2,7 +2,7 @@
 use borrow.Author.Needs.{needs}
 use native.Mathlib.Omega.{arith}
 use lib.ListN.{length-set}
-use Rattle.wiring.specs.EdgeTable.{appended}
+use Rattle.passes.specs.EdgeTable.{appended}
 use Rattle.wiring.proofs.store.append_list.Statement.{statement}
 use Rattle.wiring.proofs.store.append_list.Tie as tie
 

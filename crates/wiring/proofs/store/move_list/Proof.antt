@@ -1,6 +1,6 @@
 -- `move_list`: the part that the row names is the list that is appended. Assumes nothing.
 use borrow.Author.Needs.{needs}
-use Rattle.wiring.specs.EdgeTable.{moved}
+use Rattle.passes.specs.EdgeTable.{moved}
 use Rattle.wiring.proofs.store.move_list.Statement.{statement}
 use Rattle.wiring.proofs.store.move_list.Tie as tie
 

@@ -5,7 +5,7 @@ use mathlib.Core.List.{_++_}
 use borrow.Author.Needs.{needs}
 use native.Mathlib.Omega.{arith}
 use lib.ListN.{length, getD, take, drop, length-set}
-use Rattle.wiring.specs.EdgeTable.{copy-more}
+use Rattle.tables.specs.Stores.{copy-more}
 use Rattle.wiring.proofs.store.store_list.Statement.{statement}
 use Rattle.wiring.proofs.store.store_list.Tie as tie
 

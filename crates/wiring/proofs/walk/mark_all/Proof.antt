@@ -8,13 +8,13 @@ use mathlib.Core.Logic.{⊎-elim}
 use native.Mathlib.Omega.{arith}
 use lib.ListN.{length, getD, take}
 use lib.Seq.{take-all}
-use Rattle.wiring.specs.Walk.{ListMarked}
-use Rattle.wiring.specs.WalkLaws.{id-at, list-marked-none, old-at, new-at, room-for}
+use Rattle.passes.specs.Walk.{ListMarked}
+use Rattle.passes.specs.WalkLaws.{id-at, list-marked-none, old-at, new-at, room-for}
 use Rattle.wiring.proofs.walk.mark_all.Statement.{statement}
 use Rattle.wiring.proofs.walk.mark_all.Tie as tie
 use Rattle.wiring.proofs.walk.mark_all.Reads as reads
 use Rattle.wiring.proofs.walk.mark_all.Lts as lts
-use Rattle.wiring.proofs.widths.wide.Reads as wide-reads
+use Rattle.tables.proofs.widths.wide.Reads as wide-reads
 
 abbrev Inv-loop : tie.InvT-loop
 Inv-loop list marks₀ work₀ count k₀ n₀ marks work k n = (k ≤ length list) × ListMarked (take k list) marks₀ work₀ count marks work n

@@ -4,8 +4,8 @@ use Prim.Native.Nat.{ℕ, _<_, _≤_, _-_, _+_}
 use mathlib.Core.Path.{ap, _∙_, sym}
 use native.Mathlib.Omega.{arith}
 use lib.ListN.{length}
-use Rattle.wiring.specs.Walk.{Walk, storedList}
-use Rattle.wiring.specs.WalkLaws.{walk-start, walk-markable, walk-turn, walk-few, walk-end, walk-below, region-listed, stored-part, stored-ids}
+use Rattle.passes.specs.Walk.{Walk, storedList}
+use Rattle.passes.specs.WalkLaws.{walk-start, walk-markable, walk-turn, walk-few, walk-end, walk-below, region-listed, stored-part, stored-ids}
 use Rattle.wiring.proofs.walk.region.Statement.{statement}
 use Rattle.wiring.proofs.walk.region.Tie as tie
 

@@ -2,7 +2,7 @@
 use borrow.Author.Needs.{needs}
 use mathlib.Core.Path.{refl, _∙_}
 use native.Mathlib.Omega.{arith}
-use Rattle.wiring.specs.PreparedLaws.{prepared-roles}
+use Rattle.passes.specs.PreparedLaws.{prepared-roles}
 use Rattle.wiring.specs.CountGraph.{count-skips, count-targets, count-found, count-backs, count-fits, graph-counted}
 use Rattle.wiring.proofs.wire.count_graph.Statement.{statement}
 use Rattle.wiring.proofs.wire.count_graph.Tie as tie

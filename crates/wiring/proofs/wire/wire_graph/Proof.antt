@@ -1,7 +1,7 @@
 -- `wire_graph`: frames and dispatched FORs in arrays of zeros, then the lists. Assumes nothing.
 use mathlib.Core.Path.{sym}
 use native.Mathlib.Omega.{arith}
-use Rattle.wiring.specs.Preparing.{all-zero, never-lost, zeros-size, zeros-sized, frames-made}
+use Rattle.passes.specs.Preparing.{all-zero, never-lost, zeros-size, zeros-sized, frames-made}
 use Rattle.wiring.proofs.wire.wire_graph.Statement.{statement}
 use Rattle.wiring.proofs.wire.wire_graph.Tie as tie
 

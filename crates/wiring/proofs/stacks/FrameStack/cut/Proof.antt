@@ -4,7 +4,7 @@ use Prim.Native.Nat.{_-_, _%_}
 use lib.ListN.{set, length-map}
 use lib.Pow.{pow-pos}
 use borrow.Author.Needs.{needs}
-use Rattle.wiring.specs.FrameStackLaws.{Cutting, cut-start-at, cut-more, cut-end-at}
+use Rattle.passes.specs.FrameStackLaws.{Cutting, cut-start-at, cut-more, cut-end-at}
 use Rattle.wiring.proofs.stacks.FrameStack.cut.Statement.{statement}
 use Rattle.wiring.proofs.stacks.FrameStack.cut.Tie as tie
 

@@ -1,6 +1,6 @@
 -- `new`: no marks. Assumes nothing.
 use mathlib.Core.Path.{refl}
-use Rattle.wiring.specs.FrameStackLaws.{new-is}
+use Rattle.passes.specs.FrameStackLaws.{new-is}
 use borrow.Author.Needs.{needs}
 use Rattle.wiring.proofs.stacks.FrameStack.new.Statement.{statement}
 use Rattle.wiring.proofs.stacks.FrameStack.new.Tie as tie

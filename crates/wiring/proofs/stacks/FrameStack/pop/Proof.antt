@@ -1,7 +1,7 @@
 -- `pop`: the highest mark is the newest frame. Assumes nothing.
 use native.Mathlib.Omega.{arith}
 use borrow.Author.Needs.{needs}
-use Rattle.wiring.specs.FrameStackLaws.{pop-none, pop-at, pop-fits, highest-mark, highest-none}
+use Rattle.passes.specs.FrameStackLaws.{pop-none, pop-at, pop-fits, highest-mark, highest-none}
 use Rattle.wiring.proofs.stacks.FrameStack.pop.Statement.{statement}
 use Rattle.wiring.proofs.stacks.FrameStack.pop.Tie as tie
 

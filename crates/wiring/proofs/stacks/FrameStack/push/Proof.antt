@@ -1,7 +1,7 @@
 -- `push`: no mark is at the opener or above it in its word, so that the sum sets one bit. Assumes nothing.
 use native.Mathlib.Omega.{arith}
 use lib.ListN.{getD}
-use Rattle.wiring.specs.FrameStackLaws.{fits-sum, push-is}
+use Rattle.passes.specs.FrameStackLaws.{fits-sum, push-is}
 use borrow.Author.Needs.{needs}
 use Rattle.wiring.proofs.stacks.FrameStack.push.Statement.{statement}
 use Rattle.wiring.proofs.stacks.FrameStack.push.Tie as tie

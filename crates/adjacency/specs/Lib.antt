@@ -1,0 +1,4 @@
+pub mod ListsAt
+pub mod ListsAtLaws
+pub mod EntryAt
+pub mod EntryAtLaws

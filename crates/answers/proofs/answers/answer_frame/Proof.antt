@@ -1,0 +1,96 @@
+-- `answer_frame`: by its words. Assumes nothing.
+use borrow.Author.Needs.{needs}
+use native.Mathlib.Omega.{arith}
+use mathlib.Core.Path.{subst}
+use mathlib.Core.List.{[]}
+use Rattle.listings.specs.Rows.{split}
+use Rattle.formatting.specs.Printing.{puts-is}
+use Rattle.answers.specs.Flowask.{frameQuestion}
+use Rattle.answers.specs.AnswersAt.{answerAt}
+use Rattle.answers.specs.QuestionWords.{FrameRead}
+use Rattle.answers.specs.AnswerLaws.{refused-2, refused-3, frame-answered}
+use Rattle.answers.proofs.answers.answer_frame.Statement.{statement}
+use Rattle.answers.proofs.answers.answer_frame.Tie as tie
+
+frame-words-requires : tie.Need-frame-words-requires
+frame-words-requires c κs = search needs
+
+enum-told : tie.Need-enum-told
+enum-told c = search needs
+
+put-refusal-requires : tie.Need-put-refusal-requires
+put-refusal-requires c κs = search needs
+
+enum-told-2 : tie.Need-enum-told-2
+enum-told-2 c = search needs
+
+put-refusal-requires-2 : tie.Need-put-refusal-requires-2
+put-refusal-requires-2 c κs = search needs
+
+enum-known-header : tie.Need-enum-known-header
+enum-known-header c = search needs
+
+wide-requires : tie.Need-wide-requires
+wide-requires c κs = search needs
+
+wide-requires-2 : tie.Need-wide-requires-2
+wide-requires-2 c κs = search needs
+
+sub-put-frame : tie.Need-sub-put-frame
+sub-put-frame c = let g = subst (FrameRead (c .before .before .before .before .before .before .before .before .before .before .before .before .before .before .args .s .now)) (c .before .before .before .before .header .given .1) (c .before .before .before .before .before .before .frame-words .ensures) in omega (arith, g .0, g .1)
+
+part-put-frame-start : tie.Need-part-put-frame-start
+part-put-frame-start c = let g = subst (FrameRead (c .before .before .before .before .before .before .before .before .before .before .before .before .before .before .args .s .now)) (c .before .before .before .before .header .given .1) (c .before .before .before .before .before .before .frame-words .ensures) in omega (arith, g .0, g .1)
+
+part-put-frame-end : tie.Need-part-put-frame-end
+part-put-frame-end c = let g = subst (FrameRead (c .before .before .before .before .before .before .before .before .before .before .before .before .before .before .args .s .now)) (c .before .before .before .before .header .given .1) (c .before .before .before .before .before .before .frame-words .ensures) in omega (arith, g .0, g .1)
+
+put-frame-requires : tie.Need-put-frame-requires
+put-frame-requires c κs = search needs
+
+same-length : tie.Need-same-length
+same-length c = search needs
+
+returns : tie.Need-returns
+returns c = let a = c .before .before .before .before .before .before .before .before .before .before .before .before .before .before .args in
+    let g = subst (FrameRead (a .s .now)) (c .before .before .before .before .enum-told .given .1) (c .before .before .before .before .before .before .frame-words .ensures) in
+    puts-is (refused-2 (answerAt (a .counts .now) [] (a .stmts .now) (a .args .now) [] (a .falls .now) (a .lists .now) (a .succ .now) []) (a .k) (frameQuestion (split 32 (a .s .now))) g) (c .before .before .put-refusal .ensures)
+
+same-length-2 : tie.Need-same-length-2
+same-length-2 c = search needs
+
+returns-2 : tie.Need-returns-2
+returns-2 c = let a = c .before .before .before .before .before .before .before .before .before .before .before .before .before .before .args in
+    let g = subst (FrameRead (a .s .now)) (c .before .before .before .before .enum-told2 .given .1) (c .before .before .before .before .before .before .frame-words .ensures) in
+    puts-is (refused-3 (answerAt (a .counts .now) [] (a .stmts .now) (a .args .now) [] (a .falls .now) (a .lists .now) (a .succ .now) []) (a .k) (frameQuestion (split 32 (a .s .now))) g) (c .before .before .put-refusal2 .ensures)
+
+same-length-3 : tie.Need-same-length-3
+same-length-3 c = search needs
+
+returns-3 : tie.Need-returns-3
+returns-3 c = let a = c .before .before .before .before .before .before .before .before .before .before .before .before .before .before .before .before .before .before .args in
+    let g = subst (FrameRead (a .s .now)) (c .before .before .before .before .before .before .before .before .header .given .1) (c .before .before .before .before .before .before .before .before .before .before .frame-words .ensures) in
+    frame-answered (a .counts .now) (a .stmts .now) (a .args .now) (a .falls .now) (a .lists .now) (a .succ .now) (a .k) (a .s .now) _ _ _ _ _ _ _ g (c .before .before .before .before .before .wide .ensures) (c .before .before .before .before .wide2 .ensures) (c .before .before .put-frame .ensures)
+
+pub answer-frame-spec : {M : Type 1} → statement M
+answer-frame-spec =
+    tie.close
+    (tie.spec
+    frame-words-requires
+    enum-told
+    put-refusal-requires
+    enum-told-2
+    put-refusal-requires-2
+    enum-known-header
+    wide-requires
+    wide-requires-2
+    sub-put-frame
+    part-put-frame-start
+    part-put-frame-end
+    put-frame-requires
+    same-length
+    returns
+    same-length-2
+    returns-2
+    same-length-3
+    returns-3)

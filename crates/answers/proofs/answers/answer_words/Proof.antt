@@ -1,0 +1,99 @@
+-- `answer_words`: each kind of question in turn. Assumes nothing.
+use borrow.Author.Needs.{needs}
+use Rattle.formatting.specs.Printing.{puts-is}
+use Rattle.answers.specs.AnswerLaws.{by-path, by-frame, by-none, number-2, number-3, number-answered}
+use Rattle.answers.proofs.answers.answer_words.Statement.{statement}
+use Rattle.answers.proofs.answers.answer_words.Tie as tie
+
+answer-path-requires : tie.Need-answer-path-requires
+answer-path-requires c κs = search needs
+
+same-length : tie.Need-same-length
+same-length c = search needs
+
+returns : tie.Need-returns
+returns c = let a = c .before .before .before .before .before .before .before .before .before .before .before .before .before .before .before .args in puts-is (by-path (a .counts .now) (a .lines .now) (a .stmts .now) (a .args .now) (a .entries .now) (a .falls .now) (a .lists .now) (a .succ .now) (a .pred .now) (a .k) (a .word) (a .s .now) (c .before .before .before .before .if1 .taken)) (c .before .before .answer-path .ensures)
+
+answer-frame-requires : tie.Need-answer-frame-requires
+answer-frame-requires c κs = search needs
+
+same-length-2 : tie.Need-same-length-2
+same-length-2 c = search needs
+
+returns-2 : tie.Need-returns-2
+returns-2 c = let a = c .before .before .before .before .before .before .before .before .before .before .before .before .before .before .before .before .args in puts-is (by-frame (a .counts .now) (a .lines .now) (a .stmts .now) (a .args .now) (a .entries .now) (a .falls .now) (a .lists .now) (a .succ .now) (a .pred .now) (a .k) (a .word) (a .s .now) (c .before .before .before .before .if2 .taken)) (c .before .before .answer-frame .ensures)
+
+put-refusal-requires : tie.Need-put-refusal-requires
+put-refusal-requires c κs = search needs
+
+same-length-3 : tie.Need-same-length-3
+same-length-3 c = search needs
+
+returns-3 : tie.Need-returns-3
+returns-3 c = let a = c .before .before .before .before .before .before .before .before .before .before .before .before .before .before .before .before .before .args in puts-is (by-none (a .counts .now) (a .lines .now) (a .stmts .now) (a .args .now) (a .entries .now) (a .falls .now) (a .lists .now) (a .succ .now) (a .pred .now) (a .k) (a .word) (a .s .now) (c .before .before .before .before .if3 .taken)) (c .before .before .put-refusal .ensures)
+
+single-number-requires : tie.Need-single-number-requires
+single-number-requires c κs = search needs
+
+enum-told : tie.Need-enum-told
+enum-told c = search needs
+
+put-refusal-requires-2 : tie.Need-put-refusal-requires-2
+put-refusal-requires-2 c κs = search needs
+
+enum-told-2 : tie.Need-enum-told-2
+enum-told-2 c = search needs
+
+put-refusal-requires-3 : tie.Need-put-refusal-requires-3
+put-refusal-requires-3 c κs = search needs
+
+enum-known-n : tie.Need-enum-known-n
+enum-known-n c = search needs
+
+put-by-number-requires : tie.Need-put-by-number-requires
+put-by-number-requires c κs = search needs
+
+same-length-4 : tie.Need-same-length-4
+same-length-4 c = search needs
+
+returns-4 : tie.Need-returns-4
+returns-4 c = let a = c .before .before .before .before .before .before .before .before .before .before .before .before .before .before .before .before .before .before .before .before .args in puts-is (number-2 (a .counts .now) (a .lines .now) (a .stmts .now) (a .args .now) (a .entries .now) (a .falls .now) (a .lists .now) (a .succ .now) (a .pred .now) (a .k) (a .word) (a .s .now) (c .before .before .before .before .before .before .before .before .before .if1 .left) (c .before .before .before .before .before .before .before .before .if2 .left) (c .before .before .before .before .before .before .before .if3 .left) (c .before .before .before .before .before .before .single-number .result) (c .before .before .before .before .before .before .single-number .ensures) (c .before .before .before .before .enum-told .given .1)) (c .before .before .put-refusal2 .ensures)
+
+same-length-5 : tie.Need-same-length-5
+same-length-5 c = search needs
+
+returns-5 : tie.Need-returns-5
+returns-5 c = let a = c .before .before .before .before .before .before .before .before .before .before .before .before .before .before .before .before .before .before .before .before .args in puts-is (number-3 (a .counts .now) (a .lines .now) (a .stmts .now) (a .args .now) (a .entries .now) (a .falls .now) (a .lists .now) (a .succ .now) (a .pred .now) (a .k) (a .word) (a .s .now) (c .before .before .before .before .before .before .before .before .before .if1 .left) (c .before .before .before .before .before .before .before .before .if2 .left) (c .before .before .before .before .before .before .before .if3 .left) (c .before .before .before .before .before .before .single-number .result) (c .before .before .before .before .before .before .single-number .ensures) (c .before .before .before .before .enum-told2 .given .1)) (c .before .before .put-refusal3 .ensures)
+
+same-length-6 : tie.Need-same-length-6
+same-length-6 c = search needs
+
+returns-6 : tie.Need-returns-6
+returns-6 c = let a = c .before .before .before .before .before .before .before .before .before .before .before .before .before .before .before .before .before .before .before .before .before .args in puts-is (number-answered (a .counts .now) (a .lines .now) (a .stmts .now) (a .args .now) (a .entries .now) (a .falls .now) (a .lists .now) (a .succ .now) (a .pred .now) (a .k) (a .word) (a .s .now) (c .before .before .before .before .before .before .before .before .before .before .if1 .left) (c .before .before .before .before .before .before .before .before .before .if2 .left) (c .before .before .before .before .before .before .before .before .if3 .left) (c .before .before .before .before .before .before .before .single-number .result) _ (c .before .before .before .before .before .before .before .single-number .ensures) (c .before .before .before .before .before .n .given .1)) (c .before .before .put-by-number .ensures)
+
+pub answer-words-spec : {M : Type 1} → statement M
+answer-words-spec =
+    tie.close
+    (tie.spec
+    answer-path-requires
+    same-length
+    returns
+    answer-frame-requires
+    same-length-2
+    returns-2
+    put-refusal-requires
+    same-length-3
+    returns-3
+    single-number-requires
+    enum-told
+    put-refusal-requires-2
+    enum-told-2
+    put-refusal-requires-3
+    enum-known-n
+    put-by-number-requires
+    same-length-4
+    returns-4
+    same-length-5
+    returns-5
+    same-length-6
+    returns-6)

@@ -1,0 +1,77 @@
+-- `put_frame`: asked with room for every node, and put. Assumes nothing.
+use borrow.Author.Needs.{needs}
+use mathlib.Core.Path.{sym, ap, _∙_}
+use Prim.Native.Nat.{ℕ}
+use lib.ListN.{length, length-replicate}
+use lib.Seq.{length-take-le}
+use Rattle.listings.specs.Bytes.{bytes}
+use Rattle.formatting.specs.Printing.{puts-is}
+use Rattle.answers.specs.AnswerLaws.{frame-fits, frame-put, frame-turned}
+use Rattle.answers.proofs.answers.put_frame.Statement.{statement}
+use Rattle.answers.proofs.answers.put_frame.Tie as tie
+
+frame-room-requires : tie.Need-frame-room-requires
+frame-room-requires c κs = search needs
+
+slice-aggregate-ask-frame : tie.Need-slice-aggregate-ask-frame
+slice-aggregate-ask-frame c = search needs
+
+ask-frame-requires : tie.Need-ask-frame-requires
+ask-frame-requires c κs = search needs
+
+enum-known-framed : tie.Need-enum-known-framed
+enum-known-framed c = search needs
+
+slice-aggregate-put-list-row : tie.Need-slice-aggregate-put-list-row
+slice-aggregate-put-list-row c = search needs
+
+array-share-prefix-room : tie.Need-array-share-prefix-room
+array-share-prefix-room c = let a = c .before .before .before .before .before .before .before .before .before .before .before .before .before .before .before .before .args in frame-fits (a .counts .now) (a .stmts .now) (a .args .now) (a .falls .now) (a .lists .now) (a .succ .now) (a .header) (a .node) (a .name .now) (a .flag) _ _ (c .before .before .before .before .before .before .ask-frame .result) (c .before .before .before .before .before .before .ask-frame .ensures) (ap length (c .before .before .before .before .before .before .before .before .frame-room .ensures) ∙ length-replicate {A = ℕ} 4096 0) _ (c .before .before .before .framed .given .1)
+
+slice-aggregate-put-list-row-2 : tie.Need-slice-aggregate-put-list-row-2
+slice-aggregate-put-list-row-2 c = let a = c .before .before .before .before .before .before .before .before .before .before .before .before .before .before .before .before .before .args in sym (length-take-le _ _ (frame-fits (a .counts .now) (a .stmts .now) (a .args .now) (a .falls .now) (a .lists .now) (a .succ .now) (a .header) (a .node) (a .name .now) (a .flag) _ _ (c .before .before .before .before .before .before .before .ask-frame .result) (c .before .before .before .before .before .before .before .ask-frame .ensures) (ap length (c .before .before .before .before .before .before .before .before .before .frame-room .ensures) ∙ length-replicate {A = ℕ} 4096 0) _ (c .before .before .before .before .framed .given .1)))
+
+put-list-row-requires : tie.Need-put-list-row-requires
+put-list-row-requires c κs = search needs
+
+enum-known-framed-2 : tie.Need-enum-known-framed-2
+enum-known-framed-2 c = search needs
+
+cast-put-refusal : tie.Need-cast-put-refusal
+cast-put-refusal c = search needs
+
+put-refusal-requires : tie.Need-put-refusal-requires
+put-refusal-requires c κs = search needs
+
+same-length : tie.Need-same-length
+same-length c = search needs
+
+returns : tie.Need-returns
+unfolding bytes
+returns c = puts-is (frame-put _ _ _ _ _ _ _ _ _ _ _ _ (c .before .before .before .before .before .before .before .before .before .before .ask-frame .result) (c .before .before .before .before .before .before .before .before .before .before .ask-frame .ensures) (ap length (c .before .before .before .before .before .before .before .before .before .before .before .before .frame-room .ensures) ∙ length-replicate {A = ℕ} 4096 0) _ (c .before .before .before .before .before .before .before .framed .given .1)) (c .before .before .put-list-row .ensures)
+
+same-length-2 : tie.Need-same-length-2
+same-length-2 c = search needs
+
+returns-2 : tie.Need-returns-2
+returns-2 c = puts-is (frame-turned _ _ _ _ _ _ _ _ _ _ _ _ (c .before .before .before .before .before .before .before .before .ask-frame .result) (c .before .before .before .before .before .before .before .before .ask-frame .ensures) (ap length (c .before .before .before .before .before .before .before .before .before .before .frame-room .ensures) ∙ length-replicate {A = ℕ} 4096 0) _ _ (c .before .before .before .before .before .framed2 .given .1)) (c .before .before .put-refusal .ensures)
+
+pub put-frame-spec : {M : Type 1} → statement M
+put-frame-spec =
+    tie.close
+    (tie.spec
+    frame-room-requires
+    slice-aggregate-ask-frame
+    ask-frame-requires
+    enum-known-framed
+    slice-aggregate-put-list-row
+    array-share-prefix-room
+    slice-aggregate-put-list-row-2
+    put-list-row-requires
+    enum-known-framed-2
+    cast-put-refusal
+    put-refusal-requires
+    same-length
+    returns
+    same-length-2
+    returns-2)

@@ -1,0 +1,69 @@
+-- `put_path`: the numbers filled in, asked and put. Assumes nothing.
+use borrow.Author.Needs.{needs}
+use native.Mathlib.Omega.{arith}
+use mathlib.Core.Path.{sym, _∙_}
+use mathlib.Core.Bool.{false}
+use mathlib.Core.List.{map}
+use lib.ListN.{length-map}
+use Rattle.listings.specs.Rows.{split}
+use Rattle.listings.specs.Scan.{split-some}
+use Rattle.reader.specs.Operands.{entryBy}
+use Rattle.formatting.specs.Printing.{puts-is}
+use Rattle.answers.specs.AnswerLaws.{path-put}
+use Rattle.answers.proofs.answers.put_path.Statement.{statement}
+use Rattle.answers.proofs.answers.put_path.Tie as tie
+
+no-numbers-requires : tie.Need-no-numbers-requires
+no-numbers-requires c κs = search needs
+
+slice-aggregate-fill-numbers : tie.Need-slice-aggregate-fill-numbers
+slice-aggregate-fill-numbers c = search needs
+
+fill-numbers-requires : tie.Need-fill-numbers-requires
+fill-numbers-requires c κs = search needs
+
+array-read-wide : tie.Need-array-read-wide
+array-read-wide c = search needs
+
+wide-requires : tie.Need-wide-requires
+wide-requires c κs = search needs
+
+sub-ask-path : tie.Need-sub-ask-path
+sub-ask-path c = omega (arith, c .before .before .before .before .before .before .before .before .pre .0, split-some 32 (c .before .before .before .before .before .before .before .before .args .s .now))
+
+part-ask-path-start : tie.Need-part-ask-path-start
+part-ask-path-start c = omega (arith, c .before .before .before .before .before .before .before .before .before .pre .0, split-some 32 (c .before .before .before .before .before .before .before .before .before .args .s .now))
+
+part-ask-path-end : tie.Need-part-ask-path-end
+part-ask-path-end c = search needs
+
+ask-path-requires : tie.Need-ask-path-requires
+ask-path-requires c κs = search needs
+
+put-stated-requires : tie.Need-put-stated-requires
+put-stated-requires c κs = search needs
+
+same-length : tie.Need-same-length
+same-length c = search needs
+
+returns : tie.Need-returns
+returns c = let a = c .before .before .before .before .before .before .before .before .before .before .before .before .before .before .before .args in
+    let ws = split 32 (a .s .now) in
+    puts-is (path-put (a .counts .now) (a .stmts .now) (map (entryBy false) ws) _ _ (a .n) (c .before .before .before .before .before .before .before .wide .result) (c .before .before .before .before .ask-path .result) (c .before .before .before .before .before .before .before .before .before .fill-numbers .ensures) (c .before .before .before .before .before .before .before .before .before .before .before .before .before .before .before .pre .0 ∙ sym (length-map ws (entryBy false))) (omega (arith, c .before .before .before .before .before .before .before .before .before .before .before .before .before .before .before .pre .0, split-some 32 (a .s .now))) (c .before .before .before .before .before .before .before .wide .ensures) (c .before .before .before .before .ask-path .ensures)) (c .before .before .put-stated .ensures)
+
+pub put-path-spec : {M : Type 1} → statement M
+put-path-spec =
+    tie.close
+    (tie.spec
+    no-numbers-requires
+    slice-aggregate-fill-numbers
+    fill-numbers-requires
+    array-read-wide
+    wide-requires
+    sub-ask-path
+    part-ask-path-start
+    part-ask-path-end
+    ask-path-requires
+    put-stated-requires
+    same-length
+    returns)

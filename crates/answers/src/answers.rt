@@ -1,0 +1,348 @@
+// A question's row to its answer's row, by the tables.
+use crate::print::put_asked;
+use crate::print::put_entered;
+use crate::print::put_list_row;
+use crate::print::put_stated;
+use crate::words::FRAME;
+use crate::words::FrameWords;
+use crate::words::Opened;
+use crate::words::PATH;
+use crate::words::PREDECESSORS;
+use crate::words::STATEMENT;
+use crate::words::SUCCESSORS;
+use crate::words::frame_words;
+use crate::words::open_row;
+use adjacency::entry::ask_entry;
+use adjacency::successors::ask_predecessors;
+use adjacency::successors::ask_successors;
+use formatting::print_rows::put_refusal;
+use frame_lists::frame::ask_frame;
+use frame_slices::slices::Framed;
+use statements::statement::ask_path;
+use statements::statement::ask_statement;
+use tables::widths::wide;
+use tokens::arguments::check_all;
+use tokens::arguments::single_number;
+use tokens::numbers::ParsedNumber;
+use tokens::numbers::number;
+use tokens::scan::find;
+ghost use mathlib.Core.Path.{_≡_};
+ghost use mathlib.Core.Bool.{false};
+ghost use mathlib.Core.List.{[], _++_, map};
+ghost use Prim.Native.Nat.{_≤_};
+ghost use lib.ListN.{length, getD, drop, replicate};
+ghost use Rattle.listings.specs.Rows.{split};
+ghost use Rattle.listings.specs.Read.{orRefused};
+ghost use Rattle.reader.specs.Operands.{entryBy, numberAnswer as valueOf};
+ghost use Rattle.formatting.specs.Printing.{Puts};
+ghost use Rattle.answers.specs.Flowask.{pathQuestion, frameQuestion, wordQuestion, short, outcomeRow, rowAnswer};
+ghost use Rattle.answers.specs.AnswersAt.{successorsAnswer, predecessorsAnswer, pathAnswer, frameAnswer, numberAnswer, answerAt};
+ghost use Rattle.answers.specs.QuestionWords.{formAt};
+
+fn put_successors(
+    out: &mut [u8],
+    at: usize,
+    counts: &[u32; 5],
+    lists: &[u16],
+    succ: &[u16],
+    node: usize,
+) -> usize
+    ensures { λ r. ⌜ Puts (now (out .entry)) at (now (out .exit)) r (successorsAnswer (now (counts .entry)) (now (lists .entry)) (now (succ .entry)) node) ⌝ }
+{
+    let a = ask_successors(counts, lists, succ, node);
+    put_asked(out, at, b"(successors", succ, a)
+}
+
+fn put_predecessors(
+    out: &mut [u8],
+    at: usize,
+    counts: &[u32; 5],
+    lists: &[u16],
+    pred: &[u16],
+    node: usize,
+) -> usize
+    ensures { λ r. ⌜ Puts (now (out .entry)) at (now (out .exit)) r (predecessorsAnswer (now (counts .entry)) (now (lists .entry)) (now (pred .entry)) node) ⌝ }
+{
+    let a = ask_predecessors(counts, lists, pred, node);
+    put_asked(out, at, b"(predecessors", pred, a)
+}
+
+// By the number of the opening word; n is a line's number for an entry, else a node.
+fn put_by_number(
+    out: &mut [u8],
+    at: usize,
+    word: usize,
+    n: u16,
+    counts: &[u32; 5],
+    lines: &[u16],
+    stmts: &[u16],
+    entries: &[u16],
+    lists: &[u16],
+    succ: &[u16],
+    pred: &[u16],
+) -> usize
+    ensures { λ r. ⌜ Puts (now (out .entry)) at (now (out .exit)) r (numberAnswer (now (counts .entry)) (now (lines .entry)) (now (stmts .entry)) (now (entries .entry)) (now (lists .entry)) (now (succ .entry)) (now (pred .entry)) word n) ⌝ }
+{
+    if word == SUCCESSORS {
+        return put_successors(out, at, counts, lists, succ, wide(n));
+    }
+    if word == PREDECESSORS {
+        return put_predecessors(out, at, counts, lists, pred, wide(n));
+    }
+    if word == STATEMENT {
+        return put_stated(out, at, ask_statement(counts, stmts, wide(n)));
+    }
+    put_entered(out, at, ask_entry(counts, lines, entries, n))
+}
+
+// A number's value, 0 where it is none.
+fn value_of(n: ParsedNumber) -> u16
+    ensures { λ r. ⌜ r ≡ valueOf n ⌝ }
+{
+    match n {
+        ParsedNumber::Malformed => 0,
+        ParsedNumber::Invalid => 0,
+        ParsedNumber::Value(v) => v,
+    }
+}
+
+// The words of s, each as a number, at the front of the part.
+fn fill_numbers(s: &[u8], part: &mut [u16])
+    requires { ⌜ length (split 32 (now s)) ≤ length (now part) ⌝ }
+    ensures { λ _. ⌜ now (part .exit) ≡ map (entryBy false) (split 32 (now (s .entry))) ++ drop (length (split 32 (now (s .entry)))) (now (part .entry)) ⌝ }
+{
+    let mut at: usize = 0;
+    let mut n: usize = 0;
+    loop {
+        let e = find(&s[at..], 32);
+        let to = at + e;
+        part[n] = value_of(number(&s[at..to]));
+        n += 1;
+        if to == s.len() {
+            return;
+        }
+        at = to + 1;
+    }
+}
+
+// Room for a line index and 64 numbers.
+fn no_numbers() -> [u16; 65]
+    ensures { λ r. ⌜ r ≡ replicate 65 0 ⌝ }
+{
+    [0u16; 65]
+}
+
+// The words of s are n numbers: a line index and a path.
+fn put_path(
+    out: &mut [u8],
+    at: usize,
+    s: &[u8],
+    n: usize,
+    counts: &[u32; 5],
+    stmts: &[u16],
+) -> usize
+    requires { ⌜ (n ≡ length (split 32 (now s))) × (n ≤ 65) ⌝ }
+    ensures { λ r. ⌜ Puts (now (out .entry)) at (now (out .exit)) r (pathAnswer (now (counts .entry)) (now (stmts .entry)) (getD (map (entryBy false) (split 32 (now (s .entry)))) 0 0) (drop 1 (map (entryBy false) (split 32 (now (s .entry)))))) ⌝ }
+{
+    let mut numbers = no_numbers();
+    fill_numbers(s, &mut numbers);
+    let a = ask_path(counts, stmts, wide(numbers[0]), &numbers[1..n]);
+    put_stated(out, at, a)
+}
+
+// L N .., of row k of the questions: 2 goes before 3, and 3 before 8.
+fn answer_path(
+    out: &mut [u8],
+    at: usize,
+    k: usize,
+    s: &[u8],
+    counts: &[u32; 5],
+    stmts: &[u16],
+) -> usize
+    ensures { λ r. ⌜ Puts (now (out .entry)) at (now (out .exit)) r (outcomeRow (answerAt (now (counts .entry)) [] (now (stmts .entry)) [] [] [] [] [] []) k (orRefused (pathQuestion (split 32 (now (s .entry)))) short)) ⌝ }
+{
+    let t = check_all(s, false);
+    if t.severity == 2 {
+        return put_refusal(out, at, 2, k);
+    }
+    if t.severity == 1 {
+        return put_refusal(out, at, 3, k);
+    }
+    if 65 < t.count {
+        return put_refusal(out, at, 8, k);
+    }
+    put_path(out, at, s, t.count, counts, stmts)
+}
+
+// As many nodes as a listing can have.
+fn frame_room() -> [u16; 4096]
+    ensures { λ r. ⌜ r ≡ replicate 4096 0 ⌝ }
+{
+    [0u16; 4096]
+}
+
+fn put_frame(
+    out: &mut [u8],
+    at: usize,
+    counts: &[u32; 5],
+    stmts: &[u16],
+    args: &[u64],
+    falls: &[u16],
+    lists: &[u16],
+    succ: &[u16],
+    header: usize,
+    node: usize,
+    name: &[u8],
+    flag: bool,
+) -> usize
+    ensures { λ r. ⌜ Puts (now (out .entry)) at (now (out .exit)) r (frameAnswer (now (counts .entry)) (now (stmts .entry)) (now (args .entry)) (now (falls .entry)) (now (lists .entry)) (now (succ .entry)) header node (now (name .entry)) flag) ⌝ }
+{
+    let mut room = frame_room();
+    let framed = ask_frame(
+        counts,
+        stmts,
+        args,
+        falls,
+        lists,
+        succ,
+        header,
+        node,
+        name,
+        flag,
+        &mut room,
+    );
+    match framed {
+        Framed::Listed { len } => put_list_row(out, at, b"(frame", &room[..len]),
+        Framed::Refused { number, place } => put_refusal(out, at, number as usize, place),
+    }
+}
+
+// H N V F, of row k of the questions.
+fn answer_frame(
+    out: &mut [u8],
+    at: usize,
+    k: usize,
+    s: &[u8],
+    counts: &[u32; 5],
+    stmts: &[u16],
+    args: &[u64],
+    falls: &[u16],
+    lists: &[u16],
+    succ: &[u16],
+) -> usize
+    ensures { λ r. ⌜ Puts (now (out .entry)) at (now (out .exit)) r (outcomeRow (answerAt (now (counts .entry)) [] (now (stmts .entry)) (now (args .entry)) [] (now (falls .entry)) (now (lists .entry)) (now (succ .entry)) []) k (orRefused (frameQuestion (split 32 (now (s .entry)))) short)) ⌝ }
+{
+    match frame_words(s) {
+        FrameWords::Malformed => put_refusal(out, at, 2, k),
+        FrameWords::Invalid => put_refusal(out, at, 3, k),
+        FrameWords::Words {
+            header,
+            node,
+            start,
+            end,
+            flag,
+        } => put_frame(
+            out,
+            at,
+            counts,
+            stmts,
+            args,
+            falls,
+            lists,
+            succ,
+            wide(header),
+            wide(node),
+            &s[start..end],
+            flag,
+        ),
+    }
+}
+
+// The words s after the opening word with that number, of row k of the questions.
+fn answer_words(
+    out: &mut [u8],
+    at: usize,
+    k: usize,
+    word: usize,
+    s: &[u8],
+    counts: &[u32; 5],
+    lines: &[u16],
+    stmts: &[u16],
+    args: &[u64],
+    entries: &[u16],
+    falls: &[u16],
+    lists: &[u16],
+    succ: &[u16],
+    pred: &[u16],
+) -> usize
+    ensures { λ r. ⌜ Puts (now (out .entry)) at (now (out .exit)) r (outcomeRow (answerAt (now (counts .entry)) (now (lines .entry)) (now (stmts .entry)) (now (args .entry)) (now (entries .entry)) (now (falls .entry)) (now (lists .entry)) (now (succ .entry)) (now (pred .entry))) k (orRefused (wordQuestion (formAt word) (split 32 (now (s .entry)))) short)) ⌝ }
+{
+    if word == PATH {
+        return answer_path(out, at, k, s, counts, stmts);
+    }
+    if word == FRAME {
+        return answer_frame(out, at, k, s, counts, stmts, args, falls, lists, succ);
+    }
+    if FRAME < word {
+        return put_refusal(out, at, 2, k);
+    }
+    match single_number(s) {
+        ParsedNumber::Malformed => put_refusal(out, at, 2, k),
+        ParsedNumber::Invalid => put_refusal(out, at, 3, k),
+        ParsedNumber::Value(n) => put_by_number(
+            out,
+            at,
+            word,
+            n,
+            counts,
+            lines,
+            stmts,
+            entries,
+            lists,
+            succ,
+            pred,
+        ),
+    }
+}
+
+// Row k of the questions.
+pub(crate) fn answer_row(
+    out: &mut [u8],
+    at: usize,
+    k: usize,
+    w: &[u8],
+    counts: &[u32; 5],
+    lines: &[u16],
+    stmts: &[u16],
+    args: &[u64],
+    entries: &[u16],
+    falls: &[u16],
+    lists: &[u16],
+    succ: &[u16],
+    pred: &[u16],
+) -> usize
+    ensures { λ r. ⌜ Puts (now (out .entry)) at (now (out .exit)) r (rowAnswer (answerAt (now (counts .entry)) (now (lines .entry)) (now (stmts .entry)) (now (args .entry)) (now (entries .entry)) (now (falls .entry)) (now (lists .entry)) (now (succ .entry)) (now (pred .entry))) k (now (w .entry))) ⌝ }
+{
+    match open_row(w) {
+        Opened::NoQuestion => put_refusal(out, at, 2, k),
+        Opened::Words { word, from } => {
+            let last = w.len() - 1;
+            answer_words(
+                out,
+                at,
+                k,
+                word,
+                &w[from..last],
+                counts,
+                lines,
+                stmts,
+                args,
+                entries,
+                falls,
+                lists,
+                succ,
+                pred,
+            )
+        }
+    }
+}

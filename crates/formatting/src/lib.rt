@@ -1,0 +1,3 @@
+// Bytes, numbers and rows, put into a lent part.
+pub mod print_numbers;
+pub mod print_rows;

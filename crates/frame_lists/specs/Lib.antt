@@ -1,0 +1,2 @@
+pub mod FrameAt
+pub mod FrameChecks

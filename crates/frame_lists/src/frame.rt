@@ -1,0 +1,268 @@
+// The frame list.
+use frame_slices::slices::Framed;
+use frame_slices::slices::copy_list;
+use frame_slices::slices::give_fall;
+use frame_slices::slices::give_nothing;
+use frame_slices::slices::keep_shared;
+use statements::statement::no_statement;
+use tables::calls::is_call;
+use tables::widths::count_of;
+use tables::widths::wide;
+use tokens::names::NameKey;
+use tokens::names::is_name;
+use tokens::names::key_of;
+ghost use mathlib.Core.Path.{_≡_};
+ghost use Prim.Native.Nat.{_+_, _*_, _<_};
+ghost use lib.ListN.{length, getD};
+ghost use Rattle.reader.specs.Operands.{keyAnswer};
+ghost use Rattle.tables.specs.Columns.{succPart};
+ghost use Rattle.graph.specs.Questions.{kept, ifRoom};
+ghost use Rattle.frame_lists.specs.FrameAt.{forgetsWord, endsFrame, keepsShared, shortTables, partOutside, fallOutside, frameOutside, frameRead, frameIn, frameAt};
+ghost use Rattle.frame_slices.specs.Told.{FrameTold};
+ghost use Rattle.frame_lists.specs.FrameChecks.{PartInside, FrameInside};
+
+// Numbers of opening words.
+const RETURN: u16 = 9;
+
+const RUN: u16 = 10;
+
+const FOR: u16 = 13;
+
+const NEXT: u16 = 14;
+
+const CLR: u16 = 24;
+
+fn forgets(word: u16) -> bool
+    ensures { λ r. ⌜ r ≡ forgetsWord word ⌝ }
+{
+    word == CLR || (word == RUN || word == RETURN)
+}
+
+fn ends_frame(word: u16, arg: u64, key: u64) -> bool
+    ensures { λ r. ⌜ r ≡ endsFrame word arg key ⌝ }
+{
+    if forgets(word) {
+        return true;
+    }
+    word == FOR && arg == key
+}
+
+fn keeps_shared(word: u16, flag: bool) -> bool
+    ensures { λ r. ⌜ r ≡ keepsShared word flag ⌝ }
+{
+    word == NEXT && flag
+}
+
+// Of the successors of a NEXT those that the header has.
+fn keep_part(lists: &[u16], succ: &[u16], header: usize, node: usize, out: &mut [u16]) -> Framed
+    requires { ⌜ PartInside (now lists) (now succ) header × PartInside (now lists) (now succ) node ⌝ }
+    ensures { λ r. ⌜ FrameTold (ifRoom (length (now (out .entry))) (kept (succPart (now (lists .entry)) (now (succ .entry)) header) (succPart (now (lists .entry)) (now (succ .entry)) node))) (now (out .entry)) (now (out .exit)) r ⌝ }
+{
+    let start = wide(lists[node * 4]);
+    let end = start + wide(lists[node * 4 + 1]);
+    let header_start = wide(lists[header * 4]);
+    let header_end = header_start + wide(lists[header * 4 + 1]);
+    keep_shared(&succ[start..end], &succ[header_start..header_end], out)
+}
+
+// All successors.
+fn copy_part(lists: &[u16], succ: &[u16], node: usize, out: &mut [u16]) -> Framed
+    requires { ⌜ PartInside (now lists) (now succ) node ⌝ }
+    ensures { λ r. ⌜ FrameTold (ifRoom (length (now (out .entry))) (succPart (now (lists .entry)) (now (succ .entry)) node)) (now (out .entry)) (now (out .exit)) r ⌝ }
+{
+    let start = wide(lists[node * 4]);
+    let end = start + wide(lists[node * 4 + 1]);
+    copy_list(&succ[start..end], out)
+}
+
+// By the node's opening word.
+fn write_frame(
+    stmts: &[u16],
+    args: &[u64],
+    falls: &[u16],
+    lists: &[u16],
+    succ: &[u16],
+    header: usize,
+    node: usize,
+    key: u64,
+    flag: bool,
+    out: &mut [u16],
+) -> Framed
+    requires { ⌜ FrameInside (now stmts) (now args) (now falls) (now lists) (now succ) header node ⌝ }
+    ensures { λ r. ⌜ FrameTold (ifRoom (length (now (out .entry))) (frameRead (now (stmts .entry)) (now (args .entry)) (now (falls .entry)) (now (lists .entry)) (now (succ .entry)) header node key flag)) (now (out .entry)) (now (out .exit)) r ⌝ }
+{
+    let word = stmts[node * 12];
+    if ends_frame(word, args[node * 64], key) {
+        return give_nothing(out);
+    }
+    if keeps_shared(word, flag) {
+        return keep_part(lists, succ, header, node, out);
+    }
+    if is_call(word) {
+        return give_fall(falls[node * 3], out);
+    }
+    copy_part(lists, succ, node, out)
+}
+
+// By division, so that no product can wrap.
+fn short_tables(n: usize, stmts: &[u16], args: &[u64], falls: &[u16], lists: &[u16]) -> bool
+    ensures { λ r. ⌜ r ≡ shortTables n (length (now (stmts .entry))) (length (now (args .entry))) (length (now (falls .entry))) (length (now (lists .entry))) ⌝ }
+{
+    if stmts.len() / 12 < n {
+        return true;
+    }
+    if args.len() / 64 < n {
+        return true;
+    }
+    if falls.len() / 3 < n {
+        return true;
+    }
+    lists.len() / 4 < n
+}
+
+// By a difference, so that no sum can wrap.
+fn part_outside(lists: &[u16], succ: &[u16], i: usize) -> bool
+    requires { ⌜ i * 4 + 1 < length (now lists) ⌝ }
+    ensures { λ r. ⌜ r ≡ partOutside (now (lists .entry)) (now (succ .entry)) i ⌝ }
+{
+    let start = wide(lists[i * 4]);
+    if succ.len() < start {
+        return true;
+    }
+    succ.len() - start < wide(lists[i * 4 + 1])
+}
+
+fn fall_outside(n: usize, stmts: &[u16], falls: &[u16], i: usize) -> bool
+    requires { ⌜ (i * 12 < length (now stmts)) × (i * 3 < length (now falls)) ⌝ }
+    ensures { λ r. ⌜ r ≡ fallOutside n (now (stmts .entry)) (now (falls .entry)) i ⌝ }
+{
+    if is_call(stmts[i * 12]) {
+        return n < wide(falls[i * 3]);
+    }
+    false
+}
+
+// Whether a used count or a record that the question reads points outside its table.
+fn frame_outside(
+    n: usize,
+    stmts: &[u16],
+    args: &[u64],
+    falls: &[u16],
+    lists: &[u16],
+    succ: &[u16],
+    header: usize,
+    node: usize,
+) -> bool
+    requires { ⌜ (header < n) × (node < n) ⌝ }
+    ensures { λ r. ⌜ r ≡ frameOutside n (now (stmts .entry)) (now (args .entry)) (now (falls .entry)) (now (lists .entry)) (now (succ .entry)) header node ⌝ }
+{
+    if short_tables(n, stmts, args, falls, lists) {
+        return true;
+    }
+    if part_outside(lists, succ, header) {
+        return true;
+    }
+    if part_outside(lists, succ, node) {
+        return true;
+    }
+    fall_outside(n, stmts, falls, node)
+}
+
+fn key_answer(k: NameKey) -> u64
+    ensures { λ r. ⌜ r ≡ keyAnswer k ⌝ }
+{
+    match k {
+        NameKey::NoName => 0,
+        NameKey::Key(v) => v,
+    }
+}
+
+// Once the name is known to be one. All is decided before the first entry is written.
+fn frame_of(
+    n: usize,
+    stmts: &[u16],
+    args: &[u64],
+    falls: &[u16],
+    lists: &[u16],
+    succ: &[u16],
+    header: usize,
+    node: usize,
+    key: u64,
+    flag: bool,
+    out: &mut [u16],
+) -> Framed
+    ensures { λ r. ⌜ FrameTold (frameIn n (now (stmts .entry)) (now (args .entry)) (now (falls .entry)) (now (lists .entry)) (now (succ .entry)) header node key flag (length (now (out .entry)))) (now (out .entry)) (now (out .exit)) r ⌝ }
+{
+    if n <= header {
+        return Framed::Refused {
+            number: 24,
+            place: header,
+        };
+    }
+    if n <= node {
+        return Framed::Refused {
+            number: 24,
+            place: node,
+        };
+    }
+    if frame_outside(n, stmts, args, falls, lists, succ, header, node) {
+        return Framed::Refused {
+            number: 25,
+            place: 0,
+        };
+    }
+    let number = no_statement(stmts, n, node);
+    if number != 0 {
+        return Framed::Refused { number, place: 0 };
+    }
+    write_frame(
+        stmts,
+        args,
+        falls,
+        lists,
+        succ,
+        header,
+        node,
+        key,
+        flag,
+        out,
+    )
+}
+
+// The frame question (document 01), on any tables.
+pub fn ask_frame(
+    counts: &[u32; 5],
+    stmts: &[u16],
+    args: &[u64],
+    falls: &[u16],
+    lists: &[u16],
+    succ: &[u16],
+    header: usize,
+    node: usize,
+    name: &[u8],
+    flag: bool,
+    out: &mut [u16],
+) -> Framed
+    ensures { λ r. ⌜ FrameTold (frameAt (getD (now (counts .entry)) 1 0) (now (stmts .entry)) (now (args .entry)) (now (falls .entry)) (now (lists .entry)) (now (succ .entry)) header node (now (name .entry)) flag (length (now (out .entry)))) (now (out .entry)) (now (out .exit)) r ⌝ }
+{
+    if is_name(name) {
+        let key = key_answer(key_of(name));
+        return frame_of(
+            count_of(counts[1]),
+            stmts,
+            args,
+            falls,
+            lists,
+            succ,
+            header,
+            node,
+            key,
+            flag,
+            out,
+        );
+    }
+    Framed::Refused {
+        number: 3,
+        place: 0,
+    }
+}

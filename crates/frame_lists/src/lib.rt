@@ -1,0 +1,2 @@
+// The frame list, of any tables.
+pub mod frame;

@@ -1,0 +1,40 @@
+-- `clear_behind`: the part that comes back is all zero. Assumes nothing.
+use Rattle.tables.specs.Stores.{cleared-behind}
+use borrow.Author.Needs.{needs}
+use Rattle.frame_slices.proofs.slices.clear_behind.Statement.{statement}
+use Rattle.frame_slices.proofs.slices.clear_behind.Tie as tie
+
+mul-zero16 : tie.Need-mul-zero16
+mul-zero16 c = search needs
+
+sub-zero16 : tie.Need-sub-zero16
+sub-zero16 c = search needs
+
+part-zero16-start : tie.Need-part-zero16-start
+part-zero16-start c = search needs
+
+part-zero16-end : tie.Need-part-zero16-end
+part-zero16-end c = search needs
+
+zero16-requires : tie.Need-zero16-requires
+zero16-requires c κs = search needs
+
+same-length : tie.Need-same-length
+same-length c = search needs
+
+returns : tie.Need-returns
+returns c =
+    let a = c .before .before .before .before .before .args in
+    cleared-behind (a .out .now) (a .at) (c .before .before .zero16 .last .0) (search needs) (c .before .before .zero16 .ensures)
+
+pub clear-behind-spec : {M : Type 1} → statement M
+clear-behind-spec =
+    tie.close
+    (tie.spec
+    mul-zero16
+    sub-zero16
+    part-zero16-start
+    part-zero16-end
+    zero16-requires
+    same-length
+    returns)

@@ -1,0 +1,2 @@
+// Lists in lent slices, for the frame question.
+pub mod slices;

@@ -1,0 +1,338 @@
+-- Connecting, one turn and one call at a time: branches, statements, lines. Assumes nothing.
+use Prim.Native.Nat.{ℕ, zero, suc, _+_, _*_, _-_, _≤_, _<_}
+use mathlib.Core.Path.{_≡_, refl, sym, ap, _∙_}
+use mathlib.Core.Bool.{Bool, true, false, not}
+use mathlib.Core.List.{List, [], _∷_, _++_, append-assoc, append-nil}
+use mathlib.Core.Option.{Option, none, some}
+use native.Mathlib.Omega.{arith}
+use native.Mathlib.Numerals.{add-one, sub-one}
+use borrow.Author.Tests.{lt-ltb, le-ltb}
+use lib.ListN.{length, getD, take}
+use lib.Seq.{sets, getD-at}
+use Rattle.listings.specs.Listing.{BranchForm, to, stmts, absent, Stmts, ∅, _▸_, branching, Lines, nolines, line, size, total, count}
+use Rattle.listings.specs.ListingText.{StmtsOk, LinesOk}
+use Rattle.listings.specs.Records.{branchNumber, branchLine, stmtRecs, lineRecs}
+use Rattle.listings.specs.ReadingRecords.{lines-length}
+use Rattle.graph.specs.Adding.{nodeNumber}
+use Rattle.graph.specs.NodeLaws.{length-nodes}
+use Rattle.graph.specs.Nodes.{branchTarget, allocate, lineEntry, nodesBefore, nodes, Entries, entryOf, entriesBefore, entries}
+use Rattle.passes.specs.Held.{LinesHeld, StmtsHeld}
+use Rattle.passes.specs.LineEntries.{entryNumbers, entryRows, numbers-append, numbers-length, entries-length}
+use Rattle.passes.specs.LineSearch.{EntryTable, EntriesHeld, EntryFound, lines-exact}
+use Rattle.passes.specs.Falls.{leads, fallRows, Head, leaf, fork, headSize, headRow, fallsOf, headFalls, Spans, HeadAt, HeadOk, Written, targetOf, BranchLed, RowConnected, StmtConnected, BranchConnected, LinesConnected, AllLines}
+use Rattle.passes.specs.FallLaws.{rows-append, falls-nodes, falls-length, rows-length, sets-before, sets-padded, RecsAt, recs-split, recs-at, spans-recs, Prefix, prefix-∅, prefix-all, prefix-le, More, more, row-width}
+use Rattle.tables.specs.Stores.{sets-append}
+
+pub no : {A : Type 0} → true ≡ false → A
+no e = absurd (let z : _≡_ {A = ℕ} 0 1 = cc in omega arith)
+
+-- as `if !f(..)` has it
+pub not-both : {A : Type 0} (b : Bool) → b ≡ true → not b ≡ true → A
+not-both true e f = no (sym f)
+not-both false e f = no (sym e)
+
+-- ---- where one branch leads
+
+module _ (lines entries : List ℕ) (form number from end next : ℕ) where
+  pub led-line : (r : ℕ) → form ≡ 2 → EntryFound lines entries (length lines) number r → BranchLed lines entries form number from end next r
+  unfolding leads branchTarget branchNumber branchLine
+  led-line r z f es et (to n) a ef en ee = f es et ∙ ap (λ (x : ℕ). nodeNumber (entryOf es x)) en
+  led-line r z f es et stmts a ef en ee = absurd (omega arith)
+  led-line r z f es et absent a ef en ee = absurd (omega arith)
+
+  pub led-none : form ≡ 0 → BranchLed lines entries form number from end next next
+  unfolding leads branchTarget branchNumber branchLine
+  led-none z es et (to n) a ef en ee = absurd (omega arith)
+  led-none z es et stmts a ef en ee = absurd (omega arith)
+  led-none z es et absent a ef en ee = refl
+
+  led-in : (r : ℕ) (a : Stmts) → end ≡ from + size a → r ≡ targetOf from end next → (es : Entries) → r ≡ leads es next (branchTarget stmts from a)
+  unfolding leads branchTarget size
+  led-in r ∅ e er es = er ∙ rw (le-ltb from end (omega arith))
+  led-in r (s ▸ o) e er es = er ∙ rw (lt-ltb from end (omega arith)) (add-one from)
+  led-in r (branching s w t a u b) e er es = er ∙ rw (lt-ltb from end (omega arith)) (add-one from)
+
+  led-stmts : (r : ℕ) → (form ≡ 2 → ⊥) → (form ≡ 0 → ⊥) → r ≡ targetOf from end next → BranchLed lines entries form number from end next r
+  unfolding branchNumber
+  led-stmts r f g er es et (to n) a ef en ee = absurd (f ef)
+  led-stmts r f g er es et stmts a ef en ee = led-in r a ee er es
+  led-stmts r f g er es et absent a ef en ee = absurd (g ef)
+
+  pub led-first : (r : ℕ) → (form ≡ 2 → ⊥) → (form ≡ 0 → ⊥) → from < end → r ≡ from + 1 → BranchLed lines entries form number from end next r
+  led-first r f g h er = led-stmts r f g (er ∙ rw (lt-ltb from end h))
+
+  pub led-empty : (form ≡ 2 → ⊥) → (form ≡ 0 → ⊥) → end ≤ from → BranchLed lines entries form number from end next next
+  led-empty f g h = led-stmts next f g (rw (le-ltb from end h))
+
+-- ---- the row of an IF
+
+pub row-both : (lines entries rows : List ℕ) (i m end next x y : ℕ) (t : List ℕ)
+    → BranchLed lines entries (getD rows (i * 12 + 6) 0) (getD rows (i * 12 + 7) 0) (i + 1) m next x
+    → BranchLed lines entries (getD rows (i * 12 + 8) 0) (getD rows (i * 12 + 9) 0) m end next y
+    → RowConnected lines entries rows i m end next t (sets t (i * 3) (next ∷ x ∷ y ∷ []))
+unfolding headRow
+row-both lines entries rows i m end next x y t f g es et p a q b r em ee =
+    let ex : x ≡ leads es next (branchTarget p (suc i) a)
+    = f es et p a (r .form1-at) (r .number1-at) (rw add-one em) ∙ ap (λ (k : ℕ). leads es next (branchTarget p k a)) (add-one i) in
+    let ey : y ≡ leads es next (branchTarget q (suc i + size a) b)
+    = g es et q b (r .form2-at) (r .number2-at) (rw em ee) ∙ ap (λ (k : ℕ). leads es next (branchTarget q k b)) em in
+    rw (ex, ey)
+
+head-end : (rows : List ℕ) (i : ℕ) (h : Head) → HeadAt rows i h → getD rows (i * 12 + 4) 0 ≡ i + headSize h
+head-end rows i leaf at = omega (arith, at .end-at)
+head-end rows i (fork t a u b) at = omega (arith, at .0 .end-at)
+
+-- ---- a branch, statement by statement
+
+-- the statements of s before i are connected
+pub record Gone (es : Entries) (from end next : ℕ) (t u : List ℕ) (i : ℕ) (s : Stmts) : Type 0 where
+  pub p : Stmts
+  pub pre : Prefix p s
+  pub at : i ≡ from + size p
+  pub table : u ≡ sets t (from * 3) (fallsOf es from (targetOf i end next) p)
+
+module _ (lines entries rows : List ℕ) (depth from end next : ℕ) (t : List ℕ) (es : Entries) (et : EntryTable es lines entries (length lines)) (d : ℕ) (dd : d + depth ≡ 17)
+    (s : Stmts) (sp : Spans rows from s) (ok : StmtsOk d s) (all : end ≡ from + size s) where
+  pub branch-start : Gone es from end next t t from s
+  unfolding size fallsOf
+  branch-start = record { p = ∅; pre = prefix-∅ s; at = omega arith; table = refl }
+
+  pub branch-end : (u : List ℕ) (i : ℕ) → end ≤ i → Gone es from end next t u i s → Written true t u from (fallsOf es from next s)
+  branch-end u i h g =
+      let q : g .p ≡ s = prefix-all (g .pre) (omega (arith, g .at)) in
+      record { done = refl; table = g .table ∙ rw (le-ltb i end h, q) }
+
+  module _ (u : List ℕ) (i : ℕ) (h : i < end) (p : Stmts) (q : i ≡ from + size p) (tu : u ≡ sets t (from * 3) (fallsOf es from (targetOf i end next) p)) (m : More rows from d p s) where
+    at-i : HeadAt rows i (m .head)
+    at-i = rw q (m .at)
+
+    in-at : (i + 1 ≤ getD rows (i * 12 + 4) 0) × (getD rows (i * 12 + 4) 0 ≤ end)
+    in-at = (omega (arith, head-end rows i (m .head) at-i, one (m .head)), omega (arith, head-end rows i (m .head) at-i, m .sized, prefix-le (m .pre)))
+      where
+        one : (x : Head) → 0 < headSize x
+        one leaf = omega arith
+        one (fork f a g b) = omega arith
+
+    step-at : (v : List ℕ) (r : Bool) (e g : ℕ) → e ≡ getD rows (i * 12 + 4) 0 → g ≡ targetOf e end next → StmtConnected lines entries rows depth i e g u v r
+        → (r ≡ true) × Gone es from end next t v e s
+    step-at v r e g ee eg f =
+        let F = fallsOf es from (suc i) p in
+        let G = headFalls es i g (m .head) in
+        let eh : e ≡ i + headSize (m .head) = ee ∙ head-end rows i (m .head) at-i in
+        let w : Written r u v i G = f es et d dd (m .head) at-i (m .ok) eh in
+        let tf : u ≡ sets t (from * 3) F = tu ∙ rw (lt-ltb i end h, add-one) in
+        let lf : i * 3 ≡ from * 3 + length F = omega (arith, falls-length es from (suc i) p) in
+        let fe : fallsOf es from g (m .then) ≡ F ++ G = rw q (m .rows-are es g) in (
+          w .done,
+          record {
+            p = m .then;
+            pre = m .pre;
+            at = omega (arith, eh, m .sized);
+            table = w .table ∙ ap (λ (x : List ℕ). sets x (i * 3) G) tf ∙ ap (λ (x : ℕ). sets (sets t (from * 3) F) x G) lf
+                ∙ sym (sets-append t (from * 3) F G) ∙ ap (sets t (from * 3)) (sym fe) ∙ ap (λ (x : ℕ). sets t (from * 3) (fallsOf es from x (m .then))) eg;
+          },
+        )
+
+  module _ (u : List ℕ) (i : ℕ) (h : i < end) (g : Gone es from end next t u i s) where
+    here : More rows from d (g .p) s
+    here = more rows from d (g .pre) (omega (arith, g .at)) sp ok
+
+    pub branch-in : (i + 1 ≤ getD rows (i * 12 + 4) 0) × (getD rows (i * 12 + 4) 0 ≤ end)
+    branch-in = in-at u i h (g .p) (g .at) (g .table) here
+
+    pub branch-step : (v : List ℕ) (r : Bool) (e f : ℕ) → e ≡ getD rows (i * 12 + 4) 0 → f ≡ targetOf e end next → StmtConnected lines entries rows depth i e f u v r
+        → (r ≡ true) × Gone es from end next t v e s
+    branch-step = step-at u i h (g .p) (g .at) (g .table) here
+
+-- ---- a statement
+
+module _ (lines entries rows : List ℕ) (depth i end next : ℕ) (t : List ℕ) where
+  pub stmt-leaf : (u : List ℕ) → getD rows (i * 12 + 6) 0 ≡ 0 → u ≡ sets t (i * 3) (next ∷ 0 ∷ 0 ∷ []) → StmtConnected lines entries rows depth i end next t u true
+  unfolding headFalls headRow
+  stmt-leaf u z eu es et d dd leaf at ok ee = record { done = refl; table = eu }
+  stmt-leaf u z eu es et d dd (fork f a g b) at ok ee = absurd (ok .1 (sym (at .0 .form1-at) ∙ z))
+
+  abbrev InOrder : ℕ → Type 0
+  InOrder m = (0 < depth) × (i + 1 ≤ m) × (m ≤ end)
+
+  fork-in : (d : ℕ) → d + depth ≡ 17 → (f : BranchForm) (a : Stmts) (g : BranchForm) (b : Stmts) → HeadAt rows i (fork f a g b) → HeadOk d (fork f a g b) → end ≡ i + headSize (fork f a g b)
+      → (m : ℕ) → m ≡ getD rows (i * 12 + 5) 0 → InOrder m
+  fork-in d dd f a g b at ok ee m em = (omega (arith, ok .0), omega (arith, at .0 .second-at), omega (arith, at .0 .second-at))
+
+  module _ (f : getD rows (i * 12 + 6) 0 ≡ 0 → ⊥) (m : ℕ) (em : m ≡ getD rows (i * 12 + 5) 0) where
+    pub stmt-false : (u : List ℕ) → ((0 < depth) × (i + 1 ≤ m) × (m ≤ end) → ⊥) → StmtConnected lines entries rows depth i end next t u false
+    stmt-false u g es et d dd leaf at ok ee = absurd (f (at .form-at))
+    stmt-false u g es et d dd (fork x a y b) at ok ee = absurd (g (fork-in d dd x a y b at ok ee m em))
+
+    deeper : (x d : ℕ) → 0 < x → d + x ≡ 17 → suc d + (x - 1) ≡ 17
+    deeper x d h e = omega arith
+
+    pub stmt-first : (t₁ u : List ℕ) (r : Bool) → 0 < depth → BranchConnected lines entries rows (depth - 1) (i + 1) m next t₁ u r → not r ≡ true
+        → StmtConnected lines entries rows depth i end next t u false
+    stmt-first t₁ u r h g z es et d dd leaf at ok ee = absurd (f (at .form-at))
+    stmt-first t₁ u r h g z es et d dd (fork x a y b) at ok ee =
+        not-both r (g es et (suc d) (deeper depth d h dd) a (rw add-one (at .1)) (ok .2) (em ∙ at .0 .second-at ∙ rw add-one) .done) z
+
+    pub stmt-both : (t₁ u v : List ℕ) (r₁ r : Bool) → 0 < depth → RowConnected lines entries rows i m end next t t₁
+        → BranchConnected lines entries rows (depth - 1) (i + 1) m next t₁ u r₁ → BranchConnected lines entries rows (depth - 1) m end next u v r
+        → StmtConnected lines entries rows depth i end next t v r
+    unfolding headFalls
+    stmt-both t₁ u v r₁ r h row g₁ g₂ es et d dd leaf at ok ee = absurd (f (at .form-at))
+    stmt-both t₁ u v r₁ r h row g₁ g₂ es et d dd (fork x a y b) at ok ee =
+        let mi : m ≡ suc i + size a = em ∙ at .0 .second-at in
+        let en : end ≡ suc i + size a + size b = omega arith in
+        let H = headRow es i next (fork x a y b) in
+        let FA = fallsOf es (suc i) next a in
+        let FB = fallsOf es (suc i + size a) next b in
+        let w₀ : t₁ ≡ sets t (i * 3) H = row es et x a y b (at .0) mi en in
+        let wa : Written r₁ t₁ u (suc i) FA = rw (add-one i) at (g₁ es et (suc d) (deeper depth d h dd) a (rw add-one (at .1)) (ok .2) (mi ∙ rw add-one)) in
+        let wb : Written r u v (suc i + size a) FB = rw mi at (g₂ es et (suc d) (deeper depth d h dd) b (rw mi (at .2)) (ok .3) (en ∙ rw mi)) in
+        let la : suc i * 3 ≡ i * 3 + length H = omega (arith, row-width es i next (fork x a y b)) in
+        let lb : (suc i + size a) * 3 ≡ suc i * 3 + length FA = omega (arith, falls-length es (suc i) next a) in
+        record {
+          done = wb .done;
+          table =
+              wb .table ∙ ap (λ (z : List ℕ). sets z ((suc i + size a) * 3) FB) (wa .table) ∙ ap (λ (k : ℕ). sets (sets t₁ (suc i * 3) FA) k FB) lb
+              ∙ sym (sets-append t₁ (suc i * 3) FA FB) ∙ ap (λ (z : List ℕ). sets z (suc i * 3) (FA ++ FB)) w₀
+              ∙ ap (λ (k : ℕ). sets (sets t (i * 3) H) k (FA ++ FB)) la ∙ sym (sets-append t (i * 3) H (FA ++ FB));
+        }
+
+-- ---- the lines, from the last up
+
+-- the node of an entry, or else `end`
+abbrev pub startOf : (entry end : ℕ) → ℕ
+startOf zero end = end
+startOf (suc a) end = a
+
+pub start-none : (entry end : ℕ) → entry ≡ 0 → end ≡ startOf entry end
+start-none zero end e = refl
+start-none (suc a) end e = absurd (omega arith)
+
+pub start-at : (entry end : ℕ) → (entry ≡ 0 → ⊥) → entry - 1 ≡ startOf entry end
+start-at zero end f = absurd (f refl)
+start-at (suc a) end f = sub-one (suc a)
+
+-- an entry that is there is the first node after the lines
+abbrev Follows : Option ℕ → ℕ → Type 0
+Follows none n = Unit {0}
+Follows (some a) n = a ≡ n
+
+-- the statements of the lines after `lines` are connected; `after` is the entry of the first of those
+pub record Ahead (es : Entries) (ns : List ℕ) (entries rows t u : List ℕ) (l end next : ℕ) : Type 0 where
+  pub lines : Lines
+  pub after : Option ℕ
+  pub done : List ℕ
+  pub others : List ℕ
+  pub left : l ≡ count lines
+  pub end-is : end ≡ total lines
+  pub next-is : next ≡ nodeNumber after
+  pub follows : Follows after (total lines)
+  pub ok : LinesOk lines
+  pub held : RecsAt rows 0 (lineRecs lines)
+  pub entered : entries ≡ entryNumbers (entriesBefore after lines) ++ others
+  pub table : u ≡ sets t (total lines * 3) done
+  pub same : fallRows es (nodesBefore after lines) ++ done ≡ ns
+
+line-follows : (i : ℕ) (s : Stmts) (e : Option ℕ) → Follows e (i + size s) → Follows (lineEntry i s e) i
+unfolding lineEntry size
+line-follows i ∅ none h = tt
+line-follows i ∅ (some a) h = omega arith
+line-follows i (s ▸ o) e h = refl
+line-follows i (branching s w t a u b) e h = refl
+
+line-starts : (i : ℕ) (s : Stmts) (e : Option ℕ) → Follows e (i + size s) → startOf (nodeNumber (lineEntry i s e)) (i + size s) ≡ i
+unfolding lineEntry size
+line-starts i ∅ none h = omega arith
+line-starts i ∅ (some a) h = omega arith
+line-starts i (s ▸ o) e h = refl
+line-starts i (branching s w t a u b) e h = refl
+
+module _ (lines entries rows t : List ℕ) (es : Entries) (ns : List ℕ) (et : EntryTable es lines entries (length lines)) (u v : List ℕ) (l end next from : ℕ) (r : Bool)
+    (con : from ≤ end → BranchConnected lines entries rows 17 from end next u v r) where
+  ahead-line : (ls : Lines) (e : Option ℕ) (done others : List ℕ) → suc l ≡ count ls → end ≡ total ls → next ≡ nodeNumber e → Follows e (total ls) → LinesOk ls
+      → RecsAt rows 0 (lineRecs ls) → entries ≡ entryNumbers (entriesBefore e ls) ++ others → u ≡ sets t (total ls * 3) done → fallRows es (nodesBefore e ls) ++ done ≡ ns
+      → from ≡ startOf (getD entries l 0) end → (from ≤ end) × (r ≡ true) × Ahead es ns entries rows t v l from (getD entries l 0)
+  unfolding count total LinesOk lineRecs entriesBefore entryNumbers nodesBefore
+  ahead-line nolines e done others c ee en fo ok ra en′ eu ea ef = absurd (omega arith)
+  ahead-line (line ls n s) e done others c ee en fo ok ra en′ eu ea ef =
+      let d = lineEntry (total ls) s e in
+      let E = entryNumbers (entriesBefore d ls) in
+      let g : entries ≡ E ++ (nodeNumber d ∷ others) = en′ ∙ ap (λ (x : List ℕ). x ++ others) (numbers-append (entriesBefore d ls) ((n, d) ∷ [])) ∙ simp append-assoc in
+      let k : length E ≡ l = numbers-length (entriesBefore d ls) ∙ entries-length d ls ∙ omega arith in
+      let x : getD entries l 0 ≡ nodeNumber d = ap (λ (y : List ℕ). getD y l 0) g ∙ getD-at E (nodeNumber d) others 0 l k in
+      let f : from ≡ total ls = ef ∙ ap (λ (y : ℕ). startOf y end) x ∙ ap (startOf (nodeNumber d)) ee ∙ line-starts (total ls) s e fo in
+      let sr = recs-split rows 0 (lineRecs ls) (stmtRecs (count ls) 0 0 (total ls) s) ra in
+      let z : 0 + length (lineRecs ls) ≡ total ls = omega (arith, lines-length ls) in
+      let sp : Spans rows from s = rw f (spans-recs rows (count ls) 0 0 (total ls) s (rw z at (sr .1))) in
+      let w = con (omega arith) es et 0 refl s sp (ok .3) (omega arith) in
+      let F = fallsOf es from next s in
+      let ff : fallsOf es (total ls) (nodeNumber e) s ≡ F = rw (f, en) in
+      let nf : fallRows es (nodesBefore d ls ++ allocate (count ls) n [] (total ls) 0 e s) ≡ fallRows es (nodesBefore d ls) ++ F
+      = rows-append es (nodesBefore d ls) (allocate (count ls) n [] (total ls) 0 e s)
+      ∙ ap (λ (y : List ℕ). fallRows es (nodesBefore d ls) ++ y) (falls-nodes es (count ls) n [] (total ls) 0 e s ∙ ff) in
+      let lf : total (line ls n s) * 3 ≡ from * 3 + length F = omega (arith, falls-length es from next s) in (
+        omega arith,
+        w .done,
+        record {
+          lines = ls;
+          after = d;
+          done = F ++ done;
+          others = nodeNumber d ∷ others;
+          left = omega arith;
+          end-is = f;
+          next-is = x;
+          follows = line-follows (total ls) s e fo;
+          ok = ok .0;
+          held = sr .0;
+          entered = g;
+          table = w .table ∙ ap (λ (y : List ℕ). sets y (from * 3) F) eu ∙ sets-before t (from * 3) (total (line ls n s) * 3) F done lf ∙ rw f;
+          same = sym (ap (λ (y : List ℕ). y ++ done) nf ∙ append-assoc (fallRows es (nodesBefore d ls)) F done) ∙ ea;
+        },
+      )
+
+-- the line before place l is the next one
+pub ahead-down : (lines entries rows t : List ℕ) (es : Entries) (ns : List ℕ) → EntryTable es lines entries (length lines) → (u v : List ℕ) (l end next from : ℕ) (r : Bool) → 0 < l
+    → from ≡ startOf (getD entries (l - 1) 0) end → Ahead es ns entries rows t u l end next → (from ≤ end → BranchConnected lines entries rows 17 from end next u v r)
+    → (from ≤ end) × (r ≡ true) × Ahead es ns entries rows t v (l - 1) from (getD entries (l - 1) 0)
+ahead-down lines entries rows t es ns et u v zero end next from r h ef a con = absurd (omega arith)
+ahead-down lines entries rows t es ns et u v (suc l) end next from r h ef a con =
+    rw sub-one
+    (ahead-line lines entries rows t es ns et u v l end next from r con (a .lines) (a .after) (a .done) (a .others) (a .left) (a .end-is) (a .next-is) (a .follows) (a .ok) (a .held) (a .entered)
+    (a .table) (a .same) (rw (sub-one (suc l)) at ef))
+
+pub ahead-start : (lines table rows t : List ℕ) (n : ℕ) (ls : Lines) → LinesHeld ls lines (length lines) → EntriesHeld ls table → StmtsHeld ls rows n
+    → Ahead (entries ls) (fallRows (entries ls) (nodes ls)) table rows t t (length lines) n 0
+unfolding nodes entries entryRows
+ahead-start lines table rows t n ls lh eh sh =
+    record {
+      lines = ls;
+      after = none;
+      done = [];
+      others = eh .rest;
+      left = lh .counted;
+      end-is = sh .counted;
+      next-is = refl;
+      follows = tt;
+      ok = lh .in-form;
+      held = rw (sh .rows) (recs-at (lineRecs ls) [] (sh .rest) 0 (omega arith));
+      entered = eh .rows;
+      table = refl;
+      same = append-nil _;
+    }
+
+pub ahead-end : (es : Entries) (ns table rows t u : List ℕ) (l end next : ℕ) → l ≡ 0 → Ahead es ns table rows t u l end next → Written true t u 0 ns
+unfolding count total nodesBefore fallRows
+ahead-end es ns table rows t u l end next z a = none-left (a .lines) (a .after) (a .done) (omega (arith, a .left)) (a .table) (a .same)
+  where
+    none-left : (ls : Lines) (e : Option ℕ) (done : List ℕ) → count ls ≡ 0 → u ≡ sets t (total ls * 3) done → fallRows es (nodesBefore e ls) ++ done ≡ ns → Written true t u 0 ns
+    none-left nolines e done c eu ea = record { done = refl; table = eu ∙ ap (sets t 0) ea }
+    none-left (line ls n s) e done c eu ea = absurd (omega arith)
+
+-- the whole
+pub lines-connected : (lines table rows : List ℕ) (c n : ℕ) (t u : List ℕ) (r : Bool) → n * 3 ≤ length t → AllLines (take c lines) table rows n t u r
+    → LinesConnected lines table rows c n t u r
+unfolding nodes
+lines-connected lines table rows c n t u r h f ls lh eh sh z =
+    let w = f ls (lines-exact ls lines c lh) eh sh in
+    let k : length (fallRows (entries ls) (nodes ls)) ≤ length t = omega (arith, rows-length (entries ls) (nodes ls), length-nodes none ls, sh .counted) in
+    record { done = w .done; table = w .table ∙ sets-padded t (fallRows (entries ls) (nodes ls)) k z }

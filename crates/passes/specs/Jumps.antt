@@ -1,0 +1,72 @@
+-- Where the line numbers lead that statements name: their rows in the table of links. Assumes nothing.
+use Prim.Native.Nat.{ℕ, suc, _*_}
+use mathlib.Core.Path.{_≡_}
+use mathlib.Core.Bool.{Bool, _&&_, not}
+use mathlib.Core.List.{List, [], _∷_}
+use lib.Dec.{eqb, leb}
+use lib.ListN.{take}
+use lib.Seq.{sets}
+use Rattle.listings.specs.Bytes.{pick}
+use Rattle.listings.specs.Listing.{Simple, goto, gosub, return, run, runto, ongoto, ongosub, for, next, repeat, loop, until, endloop, exit, exitif, doif, else, done, clr, stop, any, Lines}
+use Rattle.graph.specs.Adding.{nodeNumber}
+use Rattle.graph.specs.Nodes.{NodeStmt, Node, Entries, entryOf, entries, nodes}
+use Rattle.graph.specs.Targets.{onSimple}
+use Rattle.passes.specs.Held.{LinesHeld, StmtsHeld, ArgsHeld}
+use Rattle.passes.specs.LineSearch.{EntryTable, EntriesHeld}
+
+-- the line numbers that a statement names
+unfoldable pub jumpTargets : Simple → List ℕ
+jumpTargets (goto n) = n ∷ []
+jumpTargets (gosub n) = n ∷ []
+jumpTargets return = []
+jumpTargets run = []
+jumpTargets (runto n) = n ∷ []
+jumpTargets (ongoto ns) = ns
+jumpTargets (ongosub ns) = ns
+jumpTargets (for v t) = []
+jumpTargets (next m ss) = []
+jumpTargets repeat = []
+jumpTargets loop = []
+jumpTargets until = []
+jumpTargets endloop = []
+jumpTargets exit = []
+jumpTargets exitif = []
+jumpTargets doif = []
+jumpTargets else = []
+jumpTargets done = []
+jumpTargets clr = []
+jumpTargets stop = []
+jumpTargets any = []
+jumpTargets Simple.plain = []
+
+unfoldable pub stmtTargets : NodeStmt → List ℕ
+stmtTargets s = onSimple jumpTargets [] s
+
+-- the entry of each line: one more than the node, or 0
+unfoldable pub linkRow : Entries → List ℕ → List ℕ
+linkRow es [] = []
+linkRow es (n ∷ ns) = nodeNumber (entryOf es n) ∷ linkRow es ns
+
+-- the links of the nodes from i on, each stored from the start of its row of 64; all other entries stay
+unfoldable pub linked : Entries → List ℕ → ℕ → List Node → List ℕ
+linked es t i [] = t
+linked es t i (n ∷ ns) = linked es (sets t (i * 64) (linkRow es (stmtTargets (n .stmt)))) (suc i) ns
+
+-- ---- by the records
+
+-- goto, gosub, run, ongoto and ongosub, by their numbers in the table of opening words
+unfoldable pub namesLines : ℕ → Bool
+namesLines w = leb 7 w && leb w 12 && not (eqb w 9)
+
+-- how many of a statement's arguments are line numbers; more than 64 no statement has
+unfoldable pub jumpCount : (word count : ℕ) → ℕ
+jumpCount w c = pick (namesLines w) (pick (leb c 64) c 0) 0
+
+-- ---- contracts, for whatever the tables hold
+
+abbrev pub RowLinked : (lines entries : List ℕ) (n : ℕ) (args : List ℕ) (c : ℕ) → List ℕ → List ℕ → Type 0
+RowLinked lines entries n args c t u = (es : Entries) → EntryTable es lines entries n → u ≡ sets t 0 (linkRow es (take c args))
+
+abbrev pub JumpsLinked : (lines table : List ℕ) (count : ℕ) (stmts args : List ℕ) (n : ℕ) → List ℕ → List ℕ → Type 0
+JumpsLinked lines table count stmts args n t u =
+    (ls : Lines) → LinesHeld ls lines count → EntriesHeld ls table → StmtsHeld ls stmts n → ArgsHeld ls args → u ≡ linked (entries ls) t 0 (nodes ls)

@@ -1,0 +1,110 @@
+-- Reading into the front parts of tables: zeros stand behind them. Assumes nothing.
+use mathlib.Core.Path.{_≡_, refl, sym, ap, _∙_}
+use mathlib.Core.Bool.{Bool, true, false}
+use mathlib.Core.List.{List, _++_, append-assoc}
+use Prim.Native.Nat.{ℕ, _+_, _*_, _-_, _/_, _≤_}
+use native.Mathlib.Omega.{arith}
+use lib.Dec.{leb}
+use lib.ListN.{length, replicate, take, drop, replicate-append-replicate}
+use lib.Seq.{length-take-le, drop-at}
+use Rattle.listings.specs.Bytes.{pick}
+use Rattle.listings.specs.Listing.{Listing, total, count}
+use Rattle.listings.specs.Read.{Answer, listing, refusal, read}
+use Rattle.listings.specs.Records.{ReadAnswer, accepted, refused, fitted, answerOf, tableOf, countsOf, padded, lineRecs, argRow}
+use Rattle.listings.specs.ReadingRecords.{numbers-count, lines-length}
+use Rattle.listings.specs.RecordLaws.{recs-length}
+use Rattle.reader.specs.Tables.{joined-length}
+use Rattle.reader.specs.ReadBack.{lines-wide}
+use Rattle.listings.specs.ListingText.{InForm}
+use Rattle.listings.specs.RoundTrip.{accepted-in-form}
+use borrow.Author.Tests.{leb-true}
+use Rattle.reader.specs.Listed.{listedOf, lineEntries, stmtEntries, argEntries, Written}
+use Rattle.reader.specs.declared.listing.Listed.{Listed}
+use Rattle.tables.specs.Stores.{clearedBehind, cleared-length}
+
+-- ---- a wider table
+
+pub table-wider : (f : Listing → List ℕ) (b : ReadAnswer) (k : ℕ) (t : List ℕ) → k ≤ length t → ((L : Listing) → b ≡ accepted L → length (f L) ≤ k)
+    → tableOf f b k ++ drop k (clearedBehind k t) ≡ tableOf f b (length t)
+unfolding tableOf clearedBehind padded
+table-wider f (accepted L) k t h g =
+    let z = drop-at (take k t) (replicate (length t - k) 0) k (length-take-le k t h) in
+    let e : (k - length (f L)) + (length t - k) ≡ length t - length (f L) = omega (arith, g L refl) in
+    rw (z, append-assoc, replicate-append-replicate, e)
+table-wider f (refused n p) k t h g =
+    let z = drop-at (take k t) (replicate (length t - k) 0) k (length-take-le k t h) in
+    let e : k + (length t - k) ≡ length t = omega arith in
+    rw (z, replicate-append-replicate, e)
+
+-- what the reader answers where all tables hold kl lines and kn statements
+abbrev pub readBy : ℕ → ℕ → List ℕ → ReadAnswer
+readBy kl kn text = answerOf kl (kn * 12) (kn * 64) (read text)
+
+-- the answer and every entry, of tables with nl, ns and na entries
+pub record FittingRead (text : List ℕ) (kl kn nl ns na : ℕ) (c l t a : List ℕ) (r : Listed) : Type 0 where
+  pub answer : r ≡ listedOf (readBy kl kn text)
+  pub counts : c ≡ tableOf countsOf (readBy kl kn text) 5
+  pub lines : l ≡ tableOf lineEntries (readBy kl kn text) nl
+  pub stmts : t ≡ tableOf stmtEntries (readBy kl kn text) ns
+  pub args : a ≡ tableOf argEntries (readBy kl kn text) na
+
+-- ---- what was accepted fits
+
+fits-counts : (kl kn : ℕ) (L M : Listing) → fitted kl (kn * 12) (kn * 64) L ≡ accepted M → (L ≡ M) × (count (M .lines) ≤ kl) × (total (M .lines) ≤ kn)
+unfolding fitted
+fits-counts kl kn L M e = go (leb (count (L .lines)) kl) (leb (total (L .lines)) (kn * 12 / 12)) (leb (total (L .lines)) (kn * 64 / 64)) refl refl e
+  where
+    go : (x y z : Bool) → leb (count (L .lines)) kl ≡ x → leb (total (L .lines)) (kn * 12 / 12) ≡ y
+        → pick x (pick y (pick z (accepted L) (refused 22 (total (L .lines)))) (refused 22 (total (L .lines)))) (refused 21 (count (L .lines))) ≡ accepted M → (L ≡ M) × (count (M .lines) ≤ kl) × (total (M .lines) ≤ kn)
+    go true true true a b q =
+        let z : L ≡ M = cc in
+        let u = leb-true (count (L .lines)) kl a in
+        let v = leb-true (total (L .lines)) (kn * 12 / 12) b in
+        (z, rw (← z) u, rw (← z) (omega (arith, v)))
+    go true true false a b q = absurd (let z : _≡_ {A = ℕ} 0 1 = cc in omega arith)
+    go true false z a b q = absurd (let z : _≡_ {A = ℕ} 0 1 = cc in omega arith)
+    go false y z a b q = absurd (let z : _≡_ {A = ℕ} 0 1 = cc in omega arith)
+
+pub record Fits (text : List ℕ) (kl kn : ℕ) (L : Listing) : Type 0 where
+  pub reads : read text ≡ listing L
+  pub in-form : InForm L
+  pub lines : count (L .lines) ≤ kl
+  pub stmts : total (L .lines) ≤ kn
+  pub line-entries : length (lineEntries L) ≡ count (L .lines)
+  pub stmt-entries : length (stmtEntries L) ≡ total (L .lines) * 12
+  pub arg-entries : length (argEntries L) ≡ total (L .lines) * 64
+
+pub read-fits : (text : List ℕ) (kl kn : ℕ) (L : Listing) → readBy kl kn text ≡ accepted L → Fits text kl kn L
+unfolding answerOf lineEntries stmtEntries argEntries
+read-fits text kl kn L e = go (read text) refl e
+  where
+    go : (b : Answer) → read text ≡ b → answerOf kl (kn * 12) (kn * 64) b ≡ accepted L → Fits text kl kn L
+    go (listing M) r q =
+        let f = fits-counts kl kn M L q in
+        let m : read text ≡ listing L = r ∙ ap listing (f .0) in
+        let i = accepted-in-form text L m .0 in
+        record { reads = m; in-form = i; lines = f .1; stmts = f .2; line-entries = numbers-count (L .lines); stmt-entries = rw (← (lines-length (L .lines))) (recs-length (lineRecs (L .lines))); arg-entries = rw (← (lines-length (L .lines))) (joined-length argRow 64 (lines-wide (L .lines) (i .lines))) }
+    go (refusal n p) r q = absurd (let z : _≡_ {A = ℕ} 0 1 = cc in omega arith)
+
+-- ---- the whole: from the front parts
+
+pub front-length : (k : ℕ) (t u : List ℕ) → k ≤ length t → u ≡ clearedBehind k t → k ≡ length (take k u)
+front-length k t u h e = sym (length-take-le k u (omega (arith, ap length e, cleared-length t k h)))
+
+module _ (text : List ℕ) (kl kn : ℕ) (lines stmts args : List ℕ) (hl : kl ≤ length lines) (hs : kn * 12 ≤ length stmts) (ha : kn * 64 ≤ length args) where
+  pub fitting-read : (l₀ t₀ a₀ : List ℕ) → l₀ ≡ clearedBehind kl lines → t₀ ≡ clearedBehind (kn * 12) stmts → a₀ ≡ clearedBehind (kn * 64) args → (c l t a : List ℕ) (r : Listed)
+      → Written text (length (take kl l₀)) (length (take (kn * 12) t₀)) (length (take (kn * 64) a₀)) c l t a r
+      → FittingRead text kl kn (length lines) (length stmts) (length args) c (l ++ drop kl l₀) (t ++ drop (kn * 12) t₀) (a ++ drop (kn * 64) a₀) r
+  fitting-read l₀ t₀ a₀ el et ea c l t a r w₀ =
+      let w : Written text kl (kn * 12) (kn * 64) c l t a r = rw (← (front-length kl lines l₀ hl el), ← (front-length (kn * 12) stmts t₀ hs et), ← (front-length (kn * 64) args a₀ ha ea)) at w₀ in
+      let b = readBy kl kn text in
+      record {
+        answer = w .answer;
+        counts = w .counts;
+        lines = ap (λ (q : List ℕ). q ++ drop kl l₀) (w .lines) ∙ ap (λ (q : List ℕ). tableOf lineEntries b kl ++ drop kl q) el
+            ∙ table-wider lineEntries b kl lines hl (λ L e. let f = read-fits text kl kn L e in omega (arith, f .line-entries, f .lines));
+        stmts = ap (λ (q : List ℕ). q ++ drop (kn * 12) t₀) (w .stmts) ∙ ap (λ (q : List ℕ). tableOf stmtEntries b (kn * 12) ++ drop (kn * 12) q) et
+            ∙ table-wider stmtEntries b (kn * 12) stmts hs (λ L e. let f = read-fits text kl kn L e in omega (arith, f .stmt-entries, f .stmts));
+        args = ap (λ (q : List ℕ). q ++ drop (kn * 64) a₀) (w .args) ∙ ap (λ (q : List ℕ). tableOf argEntries b (kn * 64) ++ drop (kn * 64) q) ea
+            ∙ table-wider argEntries b (kn * 64) args ha (λ L e. let f = read-fits text kl kn L e in omega (arith, f .arg-entries, f .stmts));
+      }

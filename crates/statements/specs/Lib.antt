@@ -1,0 +1,2 @@
+pub mod StatementAt
+pub mod StatementLaws

@@ -1,0 +1,198 @@
+// The statement at a path, and a node's statement. Nothing is assumed of the tables.
+use reader::tables::HOLDER;
+use reader::tables::INDEX;
+use reader::tables::LINE;
+use reader::tables::STMT_ENTRIES;
+use reader::tables::WORD;
+use tables::widths::count_of;
+use tables::widths::wide;
+ghost use mathlib.Core.Path.{_≡_};
+ghost use Prim.Native.Nat.{_+_, _*_, _≤_, _<_};
+ghost use lib.ListN.{length};
+ghost use Rattle.statements.specs.StatementAt.{statedOf, branchingWord, standsAt, childAt, nodeAt, stmtAt, pathStatement, climb as climbed, noStatement, noStatementIn, nodeStatement};
+
+// Numbers of opening words.
+const IF: u16 = 2;
+
+const IFELSE: u16 = 3;
+
+const RCOMP: u16 = 4;
+
+// The number of the last of the 28 opening words.
+const LAST_WORD: usize = 27;
+
+// "depth 16 is accepted": so many IFs can hold a statement.
+const DEPTH: usize = 16;
+
+// A statement by its node id and the number of its opening word, or document 01's number and place.
+pub enum Stated {
+    Stmt { node: usize, word: usize },
+    Refused { number: u8, place: usize },
+}
+
+// Whether a statement with this opening word holds others.
+fn is_branching(word: u16) -> bool
+    ensures { λ r. ⌜ r ≡ branchingWord word ⌝ }
+{
+    word == IF || (word == IFELSE || word == RCOMP)
+}
+
+// Whether node i has that number under its holder, which is one more than an IF, or 0 for the line.
+fn stands_at(stmts: &[u16], i: usize, line: usize, holder: usize, index: u16) -> bool
+    requires { ⌜ (i * 12 + 12 ≤ length (now stmts)) × (holder * 12 ≤ length (now stmts)) ⌝ }
+    ensures { λ r. ⌜ r ≡ standsAt (now (stmts .entry)) line holder index i ⌝ }
+{
+    let row = i * STMT_ENTRIES;
+    if wide(stmts[row + HOLDER]) != holder {
+        return false;
+    }
+    if stmts[row + INDEX] != index {
+        return false;
+    }
+    if holder == 0 {
+        return wide(stmts[row + LINE]) == line;
+    }
+    is_branching(stmts[(holder - 1) * STMT_ENTRIES + WORD])
+}
+
+// One more than the first of n nodes that stands there, or 0.
+fn find(stmts: &[u16], n: usize, line: usize, holder: usize, index: u16) -> usize
+    requires { ⌜ (n * 12 ≤ length (now stmts)) × (holder ≤ n) ⌝ }
+    ensures { λ r. ⌜ r ≡ childAt (now (stmts .entry)) n line holder index ⌝ }
+{
+    let mut i: usize = 0;
+    while i < n {
+        if stands_at(stmts, i, line, holder, index) {
+            return i + 1;
+        }
+        i += 1;
+    }
+    0
+}
+
+// One more than the node at a path, or 0.
+fn follow(stmts: &[u16], n: usize, line: usize, path: &[u16]) -> usize
+    requires { ⌜ n * 12 ≤ length (now stmts) ⌝ }
+    ensures { λ r. ⌜ r ≡ nodeAt (now (stmts .entry)) n line 0 (now (path .entry)) ⌝ }
+{
+    let mut at: usize = 0;
+    let mut k: usize = 0;
+    while k < path.len() {
+        at = find(stmts, n, line, at, path[k]);
+        if at == 0 {
+            return 0;
+        }
+        k += 1;
+    }
+    at
+}
+
+// The statement of the node `at - 1`, if `at` is not 0.
+fn state(stmts: &[u16], at: usize) -> Stated
+    requires { ⌜ at * 12 ≤ length (now stmts) ⌝ }
+    ensures { λ r. ⌜ r ≡ statedOf (stmtAt (now (stmts .entry)) at) ⌝ }
+{
+    if at == 0 {
+        return Stated::Refused {
+            number: 26,
+            place: 0,
+        };
+    }
+    let node = at - 1;
+    let word = wide(stmts[node * STMT_ENTRIES + WORD]);
+    if LAST_WORD < word {
+        return Stated::Refused {
+            number: 25,
+            place: 0,
+        };
+    }
+    Stated::Stmt { node, word }
+}
+
+// The statement at a path: a line index and numbers.
+pub fn ask_path(counts: &[u32; 5], stmts: &[u16], line: usize, path: &[u16]) -> Stated
+    ensures { λ r. ⌜ r ≡ statedOf (pathStatement (now (counts .entry)) (now (stmts .entry)) line (now (path .entry))) ⌝ }
+{
+    let n = count_of(counts[1]);
+    if stmts.len() < n * STMT_ENTRIES {
+        return Stated::Refused {
+            number: 25,
+            place: 0,
+        };
+    }
+    state(stmts, follow(stmts, n, line, path))
+}
+
+// 0 if a record with that holder gives a path, else document 01's number. Up from holder to holder, `DEPTH` of them at most.
+fn climb(stmts: &[u16], n: usize, holder: usize) -> u8
+    requires { ⌜ n * 12 ≤ length (now stmts) ⌝ }
+    ensures { λ r. ⌜ r ≡ climbed (now (stmts .entry)) n 16 holder ⌝ }
+{
+    let mut at = holder;
+    let mut left: usize = DEPTH;
+    while at != 0 {
+        if n < at {
+            return 25;
+        }
+        if left == 0 {
+            return 26;
+        }
+        let row = (at - 1) * STMT_ENTRIES;
+        if !is_branching(stmts[row + WORD]) {
+            return 26;
+        }
+        at = wide(stmts[row + HOLDER]);
+        left -= 1;
+    }
+    0
+}
+
+// 0 if the record of a node has an opening word and a path, else document 01's number.
+fn record_number(stmts: &[u16], n: usize, node: usize) -> u8
+    requires { ⌜ (node < n) × (n * 12 ≤ length (now stmts)) ⌝ }
+    ensures { λ r. ⌜ r ≡ noStatement (now (stmts .entry)) n node ⌝ }
+{
+    let row = node * STMT_ENTRIES;
+    if LAST_WORD < wide(stmts[row + WORD]) {
+        return 25;
+    }
+    climb(stmts, n, wide(stmts[row + HOLDER]))
+}
+
+// The same of any node of any table: 25 where n statements have no record of it there. By division, so that no product can wrap.
+pub fn no_statement(stmts: &[u16], n: usize, node: usize) -> u8
+    ensures { λ r. ⌜ r ≡ noStatementIn (now (stmts .entry)) n node ⌝ }
+{
+    if n <= node {
+        return 25;
+    }
+    if stmts.len() / STMT_ENTRIES < n {
+        return 25;
+    }
+    record_number(stmts, n, node)
+}
+
+// A node's statement: the node itself, if its record has a path.
+pub fn ask_statement(counts: &[u32; 5], stmts: &[u16], node: usize) -> Stated
+    ensures { λ r. ⌜ r ≡ statedOf (nodeStatement (now (counts .entry)) (now (stmts .entry)) node) ⌝ }
+{
+    let n = count_of(counts[1]);
+    if n <= node {
+        return Stated::Refused {
+            number: 24,
+            place: node,
+        };
+    }
+    if stmts.len() < n * STMT_ENTRIES {
+        return Stated::Refused {
+            number: 25,
+            place: 0,
+        };
+    }
+    let number = record_number(stmts, n, node);
+    if number != 0 {
+        return Stated::Refused { number, place: 0 };
+    }
+    let word = wide(stmts[node * STMT_ENTRIES + WORD]);
+    Stated::Stmt { node, word }
+}

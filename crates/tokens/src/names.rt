@@ -1,0 +1,89 @@
+// Names and their keys.
+use super::numbers::is_digit;
+use super::numbers::wide;
+ghost use mathlib.Core.Path.{_≡_};
+ghost use mathlib.Core.Bool.{_&&_, _||_};
+ghost use mathlib.Core.List.{[]};
+ghost use Prim.Native.Nat.{suc, _<_};
+ghost use lib.Dec.{eqb};
+ghost use lib.ListN.{length, getD, drop};
+ghost use Rattle.listings.specs.Bytes.{same};
+ghost use Rattle.listings.specs.Rows.{isDigit, isCapital, isName, parseName};
+ghost use Rattle.tokens.specs.Names.{asKey};
+
+pub enum NameKey {
+    NoName,
+    Key(u64),
+}
+
+fn is_capital(b: u8) -> bool
+    ensures { λ r. ⌜ r ≡ isCapital b ⌝ }
+{
+    65 <= b && b <= 90
+}
+
+fn is_letter(b: u8) -> bool
+    ensures { λ r. ⌜ r ≡ (isCapital b || isDigit b) ⌝ }
+{
+    if is_capital(b) {
+        return true;
+    }
+    is_digit(b)
+}
+
+fn is_suffix(b: u8) -> bool
+    ensures { λ r. ⌜ r ≡ (eqb b 37 || eqb b 36) ⌝ }
+{
+    b == 37 || b == 36
+}
+
+// Whether the byte at i is a suffix and the last byte.
+fn ends_name(w: &[u8], i: usize) -> bool
+    requires { ⌜ i < length (now w) ⌝ }
+    ensures { λ r. ⌜ r ≡ ((eqb (getD (now (w .entry)) i 0) 37 || eqb (getD (now (w .entry)) i 0) 36) && same (drop (suc i) (now (w .entry))) []) ⌝ }
+{
+    if !is_suffix(w[i]) {
+        return false;
+    }
+    i + 1 == w.len()
+}
+
+pub fn is_name(w: &[u8]) -> bool
+    ensures { λ r. ⌜ r ≡ isName (now (w .entry)) ⌝ }
+{
+    let n = w.len();
+    if n == 0 {
+        return false;
+    }
+    if !is_capital(w[0]) {
+        return false;
+    }
+    let mut i: usize = 1;
+    while i < n {
+        let b = w[i];
+        if i == 8 {
+            return ends_name(w, i);
+        }
+        if !is_letter(b) {
+            return ends_name(w, i);
+        }
+        i += 1;
+    }
+    true
+}
+
+// The key of a name: its bytes less 32 as digits to the base 64, the first byte lowest. No two names have the same key.
+pub fn key_of(w: &[u8]) -> NameKey
+    ensures { λ r. ⌜ r ≡ asKey (parseName (now (w .entry))) ⌝ }
+{
+    if !is_name(w) {
+        return NameKey::NoName;
+    }
+    let mut a: u64 = 0;
+    let mut i: usize = w.len();
+    while 0 < i {
+        i -= 1;
+        a = a * 64 + (wide(w[i]) - 32);
+    }
+    NameKey::Key(a)
+}
