@@ -37,13 +37,22 @@ wide-requires-2 : tie.Need-wide-requires-2
 wide-requires-2 c κs = search needs
 
 sub-put-frame : tie.Need-sub-put-frame
-sub-put-frame c = let g = subst (FrameRead (c .before .before .before .before .before .before .before .before .before .before .before .before .before .before .args .s .now)) (c .before .before .before .before .header .given .1) (c .before .before .before .before .before .before .frame-words .ensures) in omega (arith, g .0, g .1)
+sub-put-frame c =
+    let at-frame-words : tie.After-frame-words = search in
+    let at-start : tie.Start = search in
+    let g = subst (FrameRead (at-start .args .s .now)) (c .before .before .before .before .header .given .1) (at-frame-words .frame-words .ensures) in omega (arith, g .0, g .1)
 
 part-put-frame-start : tie.Need-part-put-frame-start
-part-put-frame-start c = let g = subst (FrameRead (c .before .before .before .before .before .before .before .before .before .before .before .before .before .before .args .s .now)) (c .before .before .before .before .header .given .1) (c .before .before .before .before .before .before .frame-words .ensures) in omega (arith, g .0, g .1)
+part-put-frame-start c =
+    let at-frame-words : tie.After-frame-words = search in
+    let at-start : tie.Start = search in
+    let g = subst (FrameRead (at-start .args .s .now)) (c .before .before .before .before .header .given .1) (at-frame-words .frame-words .ensures) in omega (arith, g .0, g .1)
 
 part-put-frame-end : tie.Need-part-put-frame-end
-part-put-frame-end c = let g = subst (FrameRead (c .before .before .before .before .before .before .before .before .before .before .before .before .before .before .args .s .now)) (c .before .before .before .before .header .given .1) (c .before .before .before .before .before .before .frame-words .ensures) in omega (arith, g .0, g .1)
+part-put-frame-end c =
+    let at-frame-words : tie.After-frame-words = search in
+    let at-start : tie.Start = search in
+    let g = subst (FrameRead (at-start .args .s .now)) (c .before .before .before .before .header .given .1) (at-frame-words .frame-words .ensures) in omega (arith, g .0, g .1)
 
 put-frame-requires : tie.Need-put-frame-requires
 put-frame-requires c κs = search needs
@@ -52,25 +61,42 @@ same-length : tie.Need-same-length
 same-length c = search needs
 
 returns : tie.Need-returns
-returns c = let a = c .before .before .before .before .before .before .before .before .before .before .before .before .before .before .args in
-    let g = subst (FrameRead (a .s .now)) (c .before .before .before .before .enum-told .given .1) (c .before .before .before .before .before .before .frame-words .ensures) in
+returns c =
+    let at-frame-words : tie.After-frame-words = search in
+    let at-start : tie.Start = search in
+    let a = at-start .args in
+    let g = subst (FrameRead (a .s .now)) (c .before .before .before .before .enum-told .given .1) (at-frame-words .frame-words .ensures) in
     puts-is (refused-2 (answerAt (a .counts .now) [] (a .stmts .now) (a .args .now) [] (a .falls .now) (a .lists .now) (a .succ .now) []) (a .k) (frameQuestion (split 32 (a .s .now))) g) (c .before .before .put-refusal .ensures)
 
 same-length-2 : tie.Need-same-length-2
 same-length-2 c = search needs
 
 returns-2 : tie.Need-returns-2
-returns-2 c = let a = c .before .before .before .before .before .before .before .before .before .before .before .before .before .before .args in
-    let g = subst (FrameRead (a .s .now)) (c .before .before .before .before .enum-told2 .given .1) (c .before .before .before .before .before .before .frame-words .ensures) in
+returns-2 c =
+    let at-frame-words : tie.After-frame-words = search in
+    let at-start : tie.Start = search in
+    let a = at-start .args in
+    let g = subst (FrameRead (a .s .now)) (c .before .before .before .before .enum-told2 .given .1) (at-frame-words .frame-words .ensures) in
     puts-is (refused-3 (answerAt (a .counts .now) [] (a .stmts .now) (a .args .now) [] (a .falls .now) (a .lists .now) (a .succ .now) []) (a .k) (frameQuestion (split 32 (a .s .now))) g) (c .before .before .put-refusal2 .ensures)
 
 same-length-3 : tie.Need-same-length-3
 same-length-3 c = search needs
 
+-- Ways back from a place to an earlier one. `search` finds each by its type.
+abbrev start-of-frame-words : tie.After-frame-words → tie.Start
+start-of-frame-words c = search
+
+ruleset ways = (start-of-frame-words)
+
 returns-3 : tie.Need-returns-3
-returns-3 c = let a = c .before .before .before .before .before .before .before .before .before .before .before .before .before .before .before .before .before .before .args in
-    let g = subst (FrameRead (a .s .now)) (c .before .before .before .before .before .before .before .before .header .given .1) (c .before .before .before .before .before .before .before .before .before .before .frame-words .ensures) in
-    frame-answered (a .counts .now) (a .stmts .now) (a .args .now) (a .falls .now) (a .lists .now) (a .succ .now) (a .k) (a .s .now) _ _ _ _ _ _ _ g (c .before .before .before .before .before .wide .ensures) (c .before .before .before .before .wide2 .ensures) (c .before .before .put-frame .ensures)
+returns-3 c =
+    let at-wide : tie.After-wide = search in
+    let at-header : tie.After-header = search in
+    let at-frame-words : tie.After-frame-words = search in
+    let at-start : tie.Start = search ways in
+    let a = at-start .args in
+    let g = subst (FrameRead (a .s .now)) (at-header .header .given .1) (at-frame-words .frame-words .ensures) in
+    frame-answered (a .counts .now) (a .stmts .now) (a .args .now) (a .falls .now) (a .lists .now) (a .succ .now) (a .k) (a .s .now) _ _ _ _ _ _ _ g (at-wide .wide .ensures) (c .before .before .before .before .wide2 .ensures) (c .before .before .put-frame .ensures)
 
 pub answer-frame-spec : {M : Type 1} → statement M
 answer-frame-spec =

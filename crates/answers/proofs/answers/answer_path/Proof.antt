@@ -17,7 +17,10 @@ same-length : tie.Need-same-length
 same-length c = search needs
 
 returns : tie.Need-returns
-returns c = let a = c .before .before .before .before .before .before .before .before .before .before .args in puts-is (path-2 (answerAt (a .counts .now) [] (a .stmts .now) [] [] [] [] [] []) (a .k) (a .s .now) (c .before .before .before .before .before .before .check-all .result) (c .before .before .before .before .before .before .check-all .ensures) (c .before .before .before .before .if1 .taken)) (c .before .before .put-refusal .ensures)
+returns c =
+    let at-check-all : tie.After-check-all = search in
+    let at-start : tie.Start = search in
+    let a = at-start .args in puts-is (path-2 (answerAt (a .counts .now) [] (a .stmts .now) [] [] [] [] [] []) (a .k) (a .s .now) (at-check-all .check-all .result) (at-check-all .check-all .ensures) (c .before .before .before .before .if1 .taken)) (c .before .before .put-refusal .ensures)
 
 put-refusal-requires-2 : tie.Need-put-refusal-requires-2
 put-refusal-requires-2 c κs = search needs
@@ -26,7 +29,10 @@ same-length-2 : tie.Need-same-length-2
 same-length-2 c = search needs
 
 returns-2 : tie.Need-returns-2
-returns-2 c = let a = c .before .before .before .before .before .before .before .before .before .before .before .before .args in puts-is (path-3 (answerAt (a .counts .now) [] (a .stmts .now) [] [] [] [] [] []) (a .k) (a .s .now) (c .before .before .before .before .before .before .before .before .check-all .result) (c .before .before .before .before .before .before .before .before .check-all .ensures) (c .before .before .before .before .if2 .taken)) (c .before .before .put-refusal2 .ensures)
+returns-2 c =
+    let at-check-all : tie.After-check-all = search in
+    let at-start : tie.Start = search in
+    let a = at-start .args in puts-is (path-3 (answerAt (a .counts .now) [] (a .stmts .now) [] [] [] [] [] []) (a .k) (a .s .now) (at-check-all .check-all .result) (at-check-all .check-all .ensures) (c .before .before .before .before .if2 .taken)) (c .before .before .put-refusal2 .ensures)
 
 put-refusal-requires-3 : tie.Need-put-refusal-requires-3
 put-refusal-requires-3 c κs = search needs
@@ -35,17 +41,30 @@ same-length-3 : tie.Need-same-length-3
 same-length-3 c = search needs
 
 returns-3 : tie.Need-returns-3
-returns-3 c = let a = c .before .before .before .before .before .before .before .before .before .before .before .before .before .before .args in puts-is (path-8 (answerAt (a .counts .now) [] (a .stmts .now) [] [] [] [] [] []) (a .k) (a .s .now) (c .before .before .before .before .before .before .before .before .before .before .check-all .result) (c .before .before .before .before .before .before .before .before .before .before .check-all .ensures) (c .before .before .before .before .before .before .before .before .if1 .left) (c .before .before .before .before .before .before .if2 .left) (c .before .before .before .before .if3 .taken)) (c .before .before .put-refusal3 .ensures)
+returns-3 c =
+    let at-else2 : tie.Else2 = search in
+    let at-else1 : tie.Else1 = search in
+    let at-check-all : tie.After-check-all = search in
+    let at-start : tie.Start = search in
+    let a = at-start .args in puts-is (path-8 (answerAt (a .counts .now) [] (a .stmts .now) [] [] [] [] [] []) (a .k) (a .s .now) (at-check-all .check-all .result) (at-check-all .check-all .ensures) (at-else1 .if1 .left) (at-else2 .if2 .left) (c .before .before .before .before .if3 .taken)) (c .before .before .put-refusal3 .ensures)
 
 put-path-requires : tie.Need-put-path-requires
-put-path-requires c κs = let a = c .before .before .before .before .before .before .before .before .before .before .before .args in (count-is (answerAt (a .counts .now) [] (a .stmts .now) [] [] [] [] [] []) (a .k) (a .s .now) (c .before .before .before .before .before .before .before .check-all .result) (c .before .before .before .before .before .before .before .check-all .ensures), c .before .if3 .left)
+put-path-requires c κs =
+    let at-check-all : tie.After-check-all = search in
+    let at-start : tie.Start = search in
+    let a = at-start .args in (count-is (answerAt (a .counts .now) [] (a .stmts .now) [] [] [] [] [] []) (a .k) (a .s .now) (at-check-all .check-all .result) (at-check-all .check-all .ensures), c .before .if3 .left)
 
 same-length-4 : tie.Need-same-length-4
 same-length-4 c = search needs
 
 returns-4 : tie.Need-returns-4
 unfolding answerAt
-returns-4 c = let a = c .before .before .before .before .before .before .before .before .before .before .before .before .before .before .args in puts-is (path-answered (answerAt (a .counts .now) [] (a .stmts .now) [] [] [] [] [] []) (a .k) (a .s .now) (c .before .before .before .before .before .before .before .before .before .before .check-all .result) (c .before .before .before .before .before .before .before .before .before .before .check-all .ensures) (c .before .before .before .before .before .before .before .before .if1 .left) (c .before .before .before .before .before .before .if2 .left) (c .before .before .before .before .if3 .left)) (c .before .before .put-path .ensures)
+returns-4 c =
+    let at-else2 : tie.Else2 = search in
+    let at-else1 : tie.Else1 = search in
+    let at-check-all : tie.After-check-all = search in
+    let at-start : tie.Start = search in
+    let a = at-start .args in puts-is (path-answered (answerAt (a .counts .now) [] (a .stmts .now) [] [] [] [] [] []) (a .k) (a .s .now) (at-check-all .check-all .result) (at-check-all .check-all .ensures) (at-else1 .if1 .left) (at-else2 .if2 .left) (c .before .before .before .before .if3 .left)) (c .before .before .put-path .ensures)
 
 pub answer-path-spec : {M : Type 1} → statement M
 answer-path-spec =

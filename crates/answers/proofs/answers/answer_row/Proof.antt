@@ -22,16 +22,24 @@ enum-known-word : tie.Need-enum-known-word
 enum-known-word c = search needs
 
 sub-last : tie.Need-sub-last
-sub-last c = let g = subst (RowOpened (c .before .before .before .before .before .before .before .before .before .before .before .before .before .before .args .w .now)) (c .before .word .given .1) (c .before .before .before .open-row .ensures) in omega (arith, g .0)
+sub-last c =
+    let at-start : tie.Start = search in
+    let g = subst (RowOpened (at-start .args .w .now)) (c .before .word .given .1) (c .before .before .before .open-row .ensures) in omega (arith, g .0)
 
 sub-answer-words : tie.Need-sub-answer-words
-sub-answer-words c = let g = subst (RowOpened (c .before .before .before .before .before .before .before .before .before .before .before .before .before .before .before .args .w .now)) (c .before .before .word .given .1) (c .before .before .before .before .open-row .ensures) in omega (arith, g .0)
+sub-answer-words c =
+    let at-start : tie.Start = search in
+    let g = subst (RowOpened (at-start .args .w .now)) (c .before .before .word .given .1) (c .before .before .before .before .open-row .ensures) in omega (arith, g .0)
 
 part-answer-words-start : tie.Need-part-answer-words-start
-part-answer-words-start c = let g = subst (RowOpened (c .before .before .before .before .before .before .before .before .before .before .before .before .before .before .before .args .w .now)) (c .before .before .word .given .1) (c .before .before .before .before .open-row .ensures) in omega (arith, g .0)
+part-answer-words-start c =
+    let at-start : tie.Start = search in
+    let g = subst (RowOpened (at-start .args .w .now)) (c .before .before .word .given .1) (c .before .before .before .before .open-row .ensures) in omega (arith, g .0)
 
 part-answer-words-end : tie.Need-part-answer-words-end
-part-answer-words-end c = let g = subst (RowOpened (c .before .before .before .before .before .before .before .before .before .before .before .before .before .before .before .args .w .now)) (c .before .before .word .given .1) (c .before .before .before .before .open-row .ensures) in omega (arith, g .0)
+part-answer-words-end c =
+    let at-start : tie.Start = search in
+    let g = subst (RowOpened (at-start .args .w .now)) (c .before .before .word .given .1) (c .before .before .before .before .open-row .ensures) in omega (arith, g .0)
 
 answer-words-requires : tie.Need-answer-words-requires
 answer-words-requires c κs = search needs
@@ -40,16 +48,23 @@ same-length : tie.Need-same-length
 same-length c = search needs
 
 returns : tie.Need-returns
-returns c = let a = c .before .before .before .before .before .before .before .before .before .before .before .before .before .before .before .before .before .args in
-    let g = subst (RowOpened (a .w .now)) (c .before .before .before .before .enum-told .given .1) (c .before .before .before .before .before .before .open-row .ensures) in
+returns c =
+    let at-open-row : tie.After-open-row = search in
+    let at-start : tie.Start = search in
+    let a = at-start .args in
+    let g = subst (RowOpened (a .w .now)) (c .before .before .before .before .enum-told .given .1) (at-open-row .open-row .ensures) in
     puts-is (row-refused (answerAt (a .counts .now) (a .lines .now) (a .stmts .now) (a .args .now) (a .entries .now) (a .falls .now) (a .lists .now) (a .succ .now) (a .pred .now)) (a .k) (a .w .now) g) (c .before .before .put-refusal .ensures)
 
 same-length-2 : tie.Need-same-length-2
 same-length-2 c = search needs
 
 returns-2 : tie.Need-returns-2
-returns-2 c = let a = c .before .before .before .before .before .before .before .before .before .before .before .before .before .before .before .before .before .before .before .args in
-    let g = subst (RowOpened (a .w .now)) (c .before .before .before .before .before .before .word .given .1) (c .before .before .before .before .before .before .before .before .open-row .ensures) in
+returns-2 c =
+    let at-word : tie.After-word = search in
+    let at-open-row : tie.After-open-row = search in
+    let at-start : tie.Start = search in
+    let a = at-start .args in
+    let g = subst (RowOpened (a .w .now)) (at-word .word .given .1) (at-open-row .open-row .ensures) in
     puts-is (row-answered (answerAt (a .counts .now) (a .lines .now) (a .stmts .now) (a .args .now) (a .entries .now) (a .falls .now) (a .lists .now) (a .succ .now) (a .pred .now)) (a .k) (a .w .now) _ (g .1)) (c .before .before .answer-words .ensures)
 
 pub answer-row-spec : {M : Type 1} → statement M

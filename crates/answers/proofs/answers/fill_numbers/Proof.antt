@@ -55,25 +55,33 @@ mul-part : tie.Need-mul-part Inv-loop μ-loop
 mul-part c = search needs
 
 slice-write-part : tie.Need-slice-write-part Inv-loop μ-loop
-slice-write-part c = let l = c .before .before .before .before .before .loop in
-    let a = c .before .before .before .before .before .before .before .before .args in
-    filling-room (entryBy false) (a .s .now) (a .part .now) (l .part) (l .at) (l .n) (pieceAt (a .s .now) (l .at) 0) (l .inv .2) (c .before .before .before .before .before .before .before .before .pre)
+slice-write-part c =
+    let at-loop : tie.At-loop Inv-loop μ-loop = search in
+    let at-start : tie.Start Inv-loop μ-loop = search in
+    let l = at-loop .loop in
+    let a = at-start .args in
+    filling-room (entryBy false) (a .s .now) (a .part .now) (l .part) (l .at) (l .n) (pieceAt (a .s .now) (l .at) 0) (l .inv .2) (at-start .pre)
 
 add-n : tie.Need-add-n Inv-loop μ-loop
 add-n c = search needs
 
 same-length : tie.Need-same-length Inv-loop μ-loop
-same-length c = let l = c .before .before .before .before .before .before .loop in length-set (l .part) (l .n) (c .before .value-of .result) ∙ l .inv .2 .long
+same-length c =
+    let at-loop : tie.At-loop Inv-loop μ-loop = search in
+    let l = at-loop .loop in length-set (l .part) (l .n) (c .before .value-of .result) ∙ l .inv .2 .long
 
 returns : tie.Need-returns Inv-loop μ-loop
 unfolding entryBy
-returns c = let l = c .before .before .before .before .before .before .loop in
-    let a = c .before .before .before .before .before .before .before .before .before .args in
+returns c =
+    let at-loop : tie.At-loop Inv-loop μ-loop = search in
+    let at-start : tie.Start Inv-loop μ-loop = search in
+    let l = at-loop .loop in
+    let a = at-start .args in
     let s = a .s .now in
     let f = entryBy false in
     let w = pieceAt s (l .at) (c .before .before .before .before .find .result) in
     let g = l .inv .2 in
-    let h = filling-room f s (a .part .now) (l .part) (l .at) (l .n) w g (c .before .before .before .before .before .before .before .before .before .pre) in
+    let h = filling-room f s (a .part .now) (l .part) (l .at) (l .n) w g (at-start .pre) in
     let v = c .before .value-of .ensures ∙ ap numberAnswer (c .before .before .number .ensures) ∙ number-answer (parseNumber w) in
     let p = filling-last f s (a .part .now) (l .part) (l .at) (l .n) w g (c .before .value-of .result) v h (next-last 32 s (l .at) (c .before .before .before .before .find .result) (omega arith) (c .before .before .before .before .find .ensures .0) (c .if1 .taken)) in
     p .table ∙ ap (λ (k : ℕ). map f (split 32 s) ++ drop k (a .part .now)) (length-map (split 32 s) f)
@@ -86,13 +94,16 @@ loop-less c = search needs
 
 loop-again : tie.Need-loop-again Inv-loop μ-loop
 unfolding entryBy
-loop-again c = let l = c .before .before .before .before .before .before .loop in
-    let a = c .before .before .before .before .before .before .before .before .before .args in
+loop-again c =
+    let at-loop : tie.At-loop Inv-loop μ-loop = search in
+    let at-start : tie.Start Inv-loop μ-loop = search in
+    let l = at-loop .loop in
+    let a = at-start .args in
     let s = a .s .now in
     let f = entryBy false in
     let w = pieceAt s (l .at) (c .before .before .before .before .find .result) in
     let g = l .inv .2 in
-    let h = filling-room f s (a .part .now) (l .part) (l .at) (l .n) w g (c .before .before .before .before .before .before .before .before .before .pre) in
+    let h = filling-room f s (a .part .now) (l .part) (l .at) (l .n) w g (at-start .pre) in
     let v = c .before .value-of .ensures ∙ ap numberAnswer (c .before .before .number .ensures) ∙ number-answer (parseNumber w) in
     let p = next-more 32 s (l .at) (c .before .before .before .before .find .result) (omega arith) (c .before .before .before .before .find .ensures .0) (c .if1 .left) (c .before .before .before .before .find .ensures .1) in
     (omega arith, omega arith, filling-next f s (a .part .now) (l .part) (l .at) (l .n) w g (l .at + c .before .before .before .before .find .result + 1) (c .before .value-of .result) v h (p .1))

@@ -20,8 +20,11 @@ same-length c = search needs
 
 returns : tie.Need-returns
 unfolding numberAnswer
-returns c = let a = c .before .before .before .before .before .before .before .before .before .before .before .before .before .args in
-    rw (eq-eqb _ _ (c .before .before .before .before .before .if1 .taken)) (puts-is (ap (successorsAnswer (a .counts .now) (a .lists .now) (a .succ .now)) (c .before .before .before .wide .ensures)) (c .before .before .put-successors .ensures))
+returns c =
+    let at-then1 : tie.Then1 = search in
+    let at-start : tie.Start = search in
+    let a = at-start .args in
+    rw (eq-eqb _ _ (at-then1 .if1 .taken)) (puts-is (ap (successorsAnswer (a .counts .now) (a .lists .now) (a .succ .now)) (c .before .before .before .wide .ensures)) (c .before .before .put-successors .ensures))
 
 wide-requires-2 : tie.Need-wide-requires-2
 wide-requires-2 c κs = search needs
@@ -34,8 +37,12 @@ same-length-2 c = search needs
 
 returns-2 : tie.Need-returns-2
 unfolding numberAnswer
-returns-2 c = let a = c .before .before .before .before .before .before .before .before .before .before .before .before .before .before .args in
-    rw (ne-eqb _ _ (c .before .before .before .before .before .before .if1 .left), eq-eqb _ _ (c .before .before .before .before .before .if2 .taken)) (puts-is (ap (predecessorsAnswer (a .counts .now) (a .lists .now) (a .pred .now)) (c .before .before .before .wide2 .ensures)) (c .before .before .put-predecessors .ensures))
+returns-2 c =
+    let at-then2 : tie.Then2 = search in
+    let at-else1 : tie.Else1 = search in
+    let at-start : tie.Start = search in
+    let a = at-start .args in
+    rw (ne-eqb _ _ (at-else1 .if1 .left), eq-eqb _ _ (at-then2 .if2 .taken)) (puts-is (ap (predecessorsAnswer (a .counts .now) (a .lists .now) (a .pred .now)) (c .before .before .before .wide2 .ensures)) (c .before .before .put-predecessors .ensures))
 
 wide-requires-3 : tie.Need-wide-requires-3
 wide-requires-3 c κs = search needs
@@ -51,8 +58,13 @@ same-length-3 c = search needs
 
 returns-3 : tie.Need-returns-3
 unfolding numberAnswer statementAnswer
-returns-3 c = let a = c .before .before .before .before .before .before .before .before .before .before .before .before .before .before .before .before .args in
-    rw (ne-eqb _ _ (c .before .before .before .before .before .before .before .before .if1 .left), ne-eqb _ _ (c .before .before .before .before .before .before .before .if2 .left), eq-eqb _ _ (c .before .before .before .before .before .before .if3 .taken))
+returns-3 c =
+    let at-then3 : tie.Then3 = search in
+    let at-else2 : tie.Else2 = search in
+    let at-else1 : tie.Else1 = search in
+    let at-start : tie.Start = search in
+    let a = at-start .args in
+    rw (ne-eqb _ _ (at-else1 .if1 .left), ne-eqb _ _ (at-else2 .if2 .left), eq-eqb _ _ (at-then3 .if3 .taken))
     (puts-is (ap statedRow (c .before .before .before .ask-statement .ensures) ∙ stated-row (nodeStatement (a .counts .now) (a .stmts .now) (c .before .before .before .before .wide3 .result)) ∙ ap (statementAnswer (a .counts .now) (a .stmts .now)) (c .before .before .before .before .wide3 .ensures)) (c .before .before .put-stated .ensures))
 
 ask-entry-requires : tie.Need-ask-entry-requires
@@ -66,8 +78,13 @@ same-length-4 c = search needs
 
 returns-4 : tie.Need-returns-4
 unfolding numberAnswer entryAnswer
-returns-4 c = let a = c .before .before .before .before .before .before .before .before .before .before .before .before .before .before .before .args in
-    rw (ne-eqb _ _ (c .before .before .before .before .before .before .before .if1 .left), ne-eqb _ _ (c .before .before .before .before .before .before .if2 .left), ne-eqb _ _ (c .before .before .before .before .before .if3 .left))
+returns-4 c =
+    let at-else3 : tie.Else3 = search in
+    let at-else2 : tie.Else2 = search in
+    let at-else1 : tie.Else1 = search in
+    let at-start : tie.Start = search in
+    let a = at-start .args in
+    rw (ne-eqb _ _ (at-else1 .if1 .left), ne-eqb _ _ (at-else2 .if2 .left), ne-eqb _ _ (at-else3 .if3 .left))
     (puts-is (ap enteredRow (c .before .before .before .ask-entry .ensures) ∙ entered-row (entryAt (a .counts .now) (a .lines .now) (a .entries .now) (a .n))) (c .before .before .put-entered .ensures))
 
 pub put-by-number-spec : {M : Type 1} → statement M

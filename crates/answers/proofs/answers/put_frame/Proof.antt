@@ -26,10 +26,18 @@ slice-aggregate-put-list-row : tie.Need-slice-aggregate-put-list-row
 slice-aggregate-put-list-row c = search needs
 
 array-share-prefix-room : tie.Need-array-share-prefix-room
-array-share-prefix-room c = let a = c .before .before .before .before .before .before .before .before .before .before .before .before .before .before .before .before .args in frame-fits (a .counts .now) (a .stmts .now) (a .args .now) (a .falls .now) (a .lists .now) (a .succ .now) (a .header) (a .node) (a .name .now) (a .flag) _ _ (c .before .before .before .before .before .before .ask-frame .result) (c .before .before .before .before .before .before .ask-frame .ensures) (ap length (c .before .before .before .before .before .before .before .before .frame-room .ensures) ∙ length-replicate {A = ℕ} 4096 0) _ (c .before .before .before .framed .given .1)
+array-share-prefix-room c =
+    let at-ask-frame : tie.After-ask-frame = search in
+    let at-frame-room : tie.After-frame-room = search in
+    let at-start : tie.Start = search in
+    let a = at-start .args in frame-fits (a .counts .now) (a .stmts .now) (a .args .now) (a .falls .now) (a .lists .now) (a .succ .now) (a .header) (a .node) (a .name .now) (a .flag) _ _ (at-ask-frame .ask-frame .result) (at-ask-frame .ask-frame .ensures) (ap length (at-frame-room .frame-room .ensures) ∙ length-replicate {A = ℕ} 4096 0) _ (c .before .before .before .framed .given .1)
 
 slice-aggregate-put-list-row-2 : tie.Need-slice-aggregate-put-list-row-2
-slice-aggregate-put-list-row-2 c = let a = c .before .before .before .before .before .before .before .before .before .before .before .before .before .before .before .before .before .args in sym (length-take-le _ _ (frame-fits (a .counts .now) (a .stmts .now) (a .args .now) (a .falls .now) (a .lists .now) (a .succ .now) (a .header) (a .node) (a .name .now) (a .flag) _ _ (c .before .before .before .before .before .before .before .ask-frame .result) (c .before .before .before .before .before .before .before .ask-frame .ensures) (ap length (c .before .before .before .before .before .before .before .before .before .frame-room .ensures) ∙ length-replicate {A = ℕ} 4096 0) _ (c .before .before .before .before .framed .given .1)))
+slice-aggregate-put-list-row-2 c =
+    let at-ask-frame : tie.After-ask-frame = search in
+    let at-frame-room : tie.After-frame-room = search in
+    let at-start : tie.Start = search in
+    let a = at-start .args in sym (length-take-le _ _ (frame-fits (a .counts .now) (a .stmts .now) (a .args .now) (a .falls .now) (a .lists .now) (a .succ .now) (a .header) (a .node) (a .name .now) (a .flag) _ _ (at-ask-frame .ask-frame .result) (at-ask-frame .ask-frame .ensures) (ap length (at-frame-room .frame-room .ensures) ∙ length-replicate {A = ℕ} 4096 0) _ (c .before .before .before .before .framed .given .1)))
 
 put-list-row-requires : tie.Need-put-list-row-requires
 put-list-row-requires c κs = search needs
@@ -48,13 +56,21 @@ same-length c = search needs
 
 returns : tie.Need-returns
 unfolding bytes
-returns c = puts-is (frame-put _ _ _ _ _ _ _ _ _ _ _ _ (c .before .before .before .before .before .before .before .before .before .before .ask-frame .result) (c .before .before .before .before .before .before .before .before .before .before .ask-frame .ensures) (ap length (c .before .before .before .before .before .before .before .before .before .before .before .before .frame-room .ensures) ∙ length-replicate {A = ℕ} 4096 0) _ (c .before .before .before .before .before .before .before .framed .given .1)) (c .before .before .put-list-row .ensures)
+returns c =
+    let at-framed : tie.After-framed = search in
+    let at-ask-frame : tie.After-ask-frame = search in
+    let at-frame-room : tie.After-frame-room = search in
+    puts-is (frame-put _ _ _ _ _ _ _ _ _ _ _ _ (at-ask-frame .ask-frame .result) (at-ask-frame .ask-frame .ensures) (ap length (at-frame-room .frame-room .ensures) ∙ length-replicate {A = ℕ} 4096 0) _ (at-framed .framed .given .1)) (c .before .before .put-list-row .ensures)
 
 same-length-2 : tie.Need-same-length-2
 same-length-2 c = search needs
 
 returns-2 : tie.Need-returns-2
-returns-2 c = puts-is (frame-turned _ _ _ _ _ _ _ _ _ _ _ _ (c .before .before .before .before .before .before .before .before .ask-frame .result) (c .before .before .before .before .before .before .before .before .ask-frame .ensures) (ap length (c .before .before .before .before .before .before .before .before .before .before .frame-room .ensures) ∙ length-replicate {A = ℕ} 4096 0) _ _ (c .before .before .before .before .before .framed2 .given .1)) (c .before .before .put-refusal .ensures)
+returns-2 c =
+    let at-framed2 : tie.After-framed2 = search in
+    let at-ask-frame : tie.After-ask-frame = search in
+    let at-frame-room : tie.After-frame-room = search in
+    puts-is (frame-turned _ _ _ _ _ _ _ _ _ _ _ _ (at-ask-frame .ask-frame .result) (at-ask-frame .ask-frame .ensures) (ap length (at-frame-room .frame-room .ensures) ∙ length-replicate {A = ℕ} 4096 0) _ _ (at-framed2 .framed2 .given .1)) (c .before .before .put-refusal .ensures)
 
 pub put-frame-spec : {M : Type 1} → statement M
 put-frame-spec =

@@ -29,10 +29,10 @@ wide-requires : tie.Need-wide-requires
 wide-requires c κs = search needs
 
 sub-ask-path : tie.Need-sub-ask-path
-sub-ask-path c = omega (arith, c .before .before .before .before .before .before .before .before .pre .0, split-some 32 (c .before .before .before .before .before .before .before .before .args .s .now))
+sub-ask-path c = let at-start : tie.Start = search in omega (arith, at-start .pre .0, split-some 32 (at-start .args .s .now))
 
 part-ask-path-start : tie.Need-part-ask-path-start
-part-ask-path-start c = omega (arith, c .before .before .before .before .before .before .before .before .before .pre .0, split-some 32 (c .before .before .before .before .before .before .before .before .before .args .s .now))
+part-ask-path-start c = let at-start : tie.Start = search in omega (arith, at-start .pre .0, split-some 32 (at-start .args .s .now))
 
 part-ask-path-end : tie.Need-part-ask-path-end
 part-ask-path-end c = search needs
@@ -47,9 +47,13 @@ same-length : tie.Need-same-length
 same-length c = search needs
 
 returns : tie.Need-returns
-returns c = let a = c .before .before .before .before .before .before .before .before .before .before .before .before .before .before .before .args in
+returns c =
+    let at-wide : tie.After-wide = search in
+    let at-fill-numbers : tie.After-fill-numbers = search in
+    let at-start : tie.Start = search in
+    let a = at-start .args in
     let ws = split 32 (a .s .now) in
-    puts-is (path-put (a .counts .now) (a .stmts .now) (map (entryBy false) ws) _ _ (a .n) (c .before .before .before .before .before .before .before .wide .result) (c .before .before .before .before .ask-path .result) (c .before .before .before .before .before .before .before .before .before .fill-numbers .ensures) (c .before .before .before .before .before .before .before .before .before .before .before .before .before .before .before .pre .0 ∙ sym (length-map ws (entryBy false))) (omega (arith, c .before .before .before .before .before .before .before .before .before .before .before .before .before .before .before .pre .0, split-some 32 (a .s .now))) (c .before .before .before .before .before .before .before .wide .ensures) (c .before .before .before .before .ask-path .ensures)) (c .before .before .put-stated .ensures)
+    puts-is (path-put (a .counts .now) (a .stmts .now) (map (entryBy false) ws) _ _ (a .n) (at-wide .wide .result) (c .before .before .before .before .ask-path .result) (at-fill-numbers .fill-numbers .ensures) (at-start .pre .0 ∙ sym (length-map ws (entryBy false))) (omega (arith, at-start .pre .0, split-some 32 (a .s .now))) (at-wide .wide .ensures) (c .before .before .before .before .ask-path .ensures)) (c .before .before .put-stated .ensures)
 
 pub put-path-spec : {M : Type 1} → statement M
 put-path-spec =

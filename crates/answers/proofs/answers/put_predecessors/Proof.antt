@@ -24,8 +24,11 @@ same-length c = search needs
 
 returns : tie.Need-returns
 unfolding bytes predecessorsAnswer
-returns c = let a = c .before .before .before .before .before .before .before .before .before .args in
-    puts-is (ap (askedRow (bytes "(predecessors") (a .pred .now)) (c .before .before .before .before .before .ask-predecessors .ensures) ∙ asked-row (bytes "(predecessors") (a .pred .now) (predecessorsAt (a .counts .now) (a .lists .now) (length (a .pred .now)) (a .node))) (c .before .before .put-asked .ensures)
+returns c =
+    let at-ask-predecessors : tie.After-ask-predecessors = search in
+    let at-start : tie.Start = search in
+    let a = at-start .args in
+    puts-is (ap (askedRow (bytes "(predecessors") (a .pred .now)) (at-ask-predecessors .ask-predecessors .ensures) ∙ asked-row (bytes "(predecessors") (a .pred .now) (predecessorsAt (a .counts .now) (a .lists .now) (length (a .pred .now)) (a .node))) (c .before .before .put-asked .ensures)
 
 pub put-predecessors-spec : {M : Type 1} → statement M
 put-predecessors-spec =

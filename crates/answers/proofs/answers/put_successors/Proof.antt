@@ -24,8 +24,11 @@ same-length c = search needs
 
 returns : tie.Need-returns
 unfolding bytes successorsAnswer
-returns c = let a = c .before .before .before .before .before .before .before .before .before .args in
-    puts-is (ap (askedRow (bytes "(successors") (a .succ .now)) (c .before .before .before .before .before .ask-successors .ensures) ∙ asked-row (bytes "(successors") (a .succ .now) (successorsAt (a .counts .now) (a .lists .now) (length (a .succ .now)) (a .node))) (c .before .before .put-asked .ensures)
+returns c =
+    let at-ask-successors : tie.After-ask-successors = search in
+    let at-start : tie.Start = search in
+    let a = at-start .args in
+    puts-is (ap (askedRow (bytes "(successors") (a .succ .now)) (at-ask-successors .ask-successors .ensures) ∙ asked-row (bytes "(successors") (a .succ .now) (successorsAt (a .counts .now) (a .lists .now) (length (a .succ .now)) (a .node))) (c .before .before .put-asked .ensures)
 
 pub put-successors-spec : {M : Type 1} → statement M
 put-successors-spec =

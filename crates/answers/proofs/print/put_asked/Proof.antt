@@ -12,10 +12,12 @@ enum-known-a : tie.Need-enum-known-a
 enum-known-a c = search needs
 
 add-end : tie.Need-add-end
-add-end c = omega (arith, part-in _ (c .before .before .before .before .before .before .args .a) _ _ (c .before .before .before .before .before .before .pre) (c .before .a .given .1))
+add-end c = let at-start : tie.Start = search in omega (arith, part-in _ (at-start .args .a) _ _ (at-start .pre) (c .before .a .given .1))
 
 mul-put-list-row : tie.Need-mul-put-list-row
-mul-put-list-row c = omega (arith, part-in _ (c .before .before .before .before .before .before .before .args .a) _ _ (c .before .before .before .before .before .before .before .pre) (c .before .before .a .given .1), c .before .before .before .before .before .before .before .good)
+mul-put-list-row c =
+    let at-start : tie.Start = search in
+    omega (arith, part-in _ (at-start .args .a) _ _ (at-start .pre) (c .before .before .a .given .1), at-start .good)
 
 sub-put-list-row : tie.Need-sub-put-list-row
 sub-put-list-row c = search needs
@@ -24,7 +26,9 @@ part-put-list-row-start : tie.Need-part-put-list-row-start
 part-put-list-row-start c = search needs
 
 part-put-list-row-end : tie.Need-part-put-list-row-end
-part-put-list-row-end c = omega (arith, part-in _ (c .before .before .before .before .before .before .before .args .a) _ _ (c .before .before .before .before .before .before .before .pre) (c .before .before .a .given .1))
+part-put-list-row-end c =
+    let at-start : tie.Start = search in
+    omega (arith, part-in _ (at-start .args .a) _ _ (at-start .pre) (c .before .before .a .given .1))
 
 put-list-row-requires : tie.Need-put-list-row-requires
 put-list-row-requires c κs = search needs
@@ -42,13 +46,19 @@ same-length : tie.Need-same-length
 same-length c = search needs
 
 returns : tie.Need-returns
-returns c = puts-part _ _ _ _ _ _ (c .before .before .before .before .before .before .before .before .before .before .before .args .a) _ _ (c .before .before .before .before .before .before .a .given .1) (c .before .before .put-list-row .ensures)
+returns c =
+    let at-a : tie.After-a = search in
+    let at-start : tie.Start = search in
+    puts-part _ _ _ _ _ _ (at-start .args .a) _ _ (at-a .a .given .1) (c .before .before .put-list-row .ensures)
 
 same-length-2 : tie.Need-same-length-2
 same-length-2 c = search needs
 
 returns-2 : tie.Need-returns-2
-returns-2 c = puts-is (sym (ap (askedRow (c .before .before .before .before .before .before .before .before .before .before .args .word .now) (c .before .before .before .before .before .before .before .before .before .before .args .table .now)) (c .before .before .before .before .before .a2 .given .1))) (c .before .before .put-refusal .ensures)
+returns-2 c =
+    let at-a2 : tie.After-a2 = search in
+    let at-start : tie.Start = search in
+    puts-is (sym (ap (askedRow (at-start .args .word .now) (at-start .args .table .now)) (at-a2 .a2 .given .1))) (c .before .before .put-refusal .ensures)
 
 pub put-asked-spec : {M : Type 1} → statement M
 put-asked-spec =

@@ -36,20 +36,22 @@ same-length : tie.Need-same-length
 same-length c = search needs
 
 returns : tie.Need-returns
-returns c = puts-is (sym (ap enteredRow (c .before .before .before .before .before .e .given .1))) (c .before .before .put-entry .ensures)
+returns c = let at-e : tie.After-e = search in puts-is (sym (ap enteredRow (at-e .e .given .1))) (c .before .before .put-entry .ensures)
 
 same-length-2 : tie.Need-same-length-2
 same-length-2 c = search needs
 
 returns-2 : tie.Need-returns-2
 unfolding bytes
-returns-2 c = puts-is (no-entry ∙ sym (ap enteredRow (c .before .before .before .before .before .enum-told .given .1))) (c .before .before .put-bytes .ensures)
+returns-2 c =
+    let at-enum-told : tie.After-enum-told = search in
+    puts-is (no-entry ∙ sym (ap enteredRow (at-enum-told .enum-told .given .1))) (c .before .before .put-bytes .ensures)
 
 same-length-3 : tie.Need-same-length-3
 same-length-3 c = search needs
 
 returns-3 : tie.Need-returns-3
-returns-3 c = puts-is (sym (ap enteredRow (c .before .before .before .before .before .e2 .given .1))) (c .before .before .put-refusal .ensures)
+returns-3 c = let at-e2 : tie.After-e2 = search in puts-is (sym (ap enteredRow (at-e2 .e2 .given .1))) (c .before .before .put-refusal .ensures)
 
 pub put-entered-spec : {M : Type 1} → statement M
 put-entered-spec =

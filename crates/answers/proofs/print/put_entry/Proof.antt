@@ -25,7 +25,11 @@ same-length c = search needs
 
 returns : tie.Need-returns
 unfolding bytes
-returns c = puts-one _ _ _ _ _ _ _ _ (bytes "(entry") (c .before .before .before .before .before .before .before .before .before .before .before .before .before .before .before .args .id) (c .before .before .before .before .before .before .before .before .before .before .before .put-bytes .ensures) (c .before .before .before .before .before .before .before .put-number .ensures) (c .before .before .put-bytes2 .ensures)
+returns c =
+    let at-put-number : tie.After-put-number = search in
+    let at-put-bytes : tie.After-put-bytes = search in
+    let at-start : tie.Start = search in
+    puts-one _ _ _ _ _ _ _ _ (bytes "(entry") (at-start .args .id) (at-put-bytes .put-bytes .ensures) (at-put-number .put-number .ensures) (c .before .before .put-bytes2 .ensures)
 
 pub put-entry-spec : {M : Type 1} → statement M
 put-entry-spec =

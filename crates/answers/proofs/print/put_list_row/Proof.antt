@@ -22,7 +22,11 @@ same-length c = search needs
 
 returns : tie.Need-returns
 unfolding bytes
-returns c = let a = c .before .before .before .before .before .before .before .before .before .before .before .before .before .before .before .before .args in puts-list _ _ _ _ _ _ _ _ (a .word .now) (a .list .now) (c .before .before .before .before .before .before .before .before .before .before .before .put-bytes .ensures) (c .before .before .before .before .before .before .before .put-spaced .ensures) (c .before .before .put-bytes2 .ensures)
+returns c =
+    let at-put-spaced : tie.After-put-spaced = search in
+    let at-put-bytes : tie.After-put-bytes = search in
+    let at-start : tie.Start = search in
+    let a = at-start .args in puts-list _ _ _ _ _ _ _ _ (a .word .now) (a .list .now) (at-put-bytes .put-bytes .ensures) (at-put-spaced .put-spaced .ensures) (c .before .before .put-bytes2 .ensures)
 
 pub put-list-row-spec : {M : Type 1} → statement M
 put-list-row-spec =

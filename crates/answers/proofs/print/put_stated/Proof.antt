@@ -25,13 +25,13 @@ same-length : tie.Need-same-length
 same-length c = search needs
 
 returns : tie.Need-returns
-returns c = puts-is (sym (ap statedRow (c .before .before .before .before .before .s .given .1))) (c .before .before .put-stmt .ensures)
+returns c = let at-s : tie.After-s = search in puts-is (sym (ap statedRow (at-s .s .given .1))) (c .before .before .put-stmt .ensures)
 
 same-length-2 : tie.Need-same-length-2
 same-length-2 c = search needs
 
 returns-2 : tie.Need-returns-2
-returns-2 c = puts-is (sym (ap statedRow (c .before .before .before .before .before .s2 .given .1))) (c .before .before .put-refusal .ensures)
+returns-2 c = let at-s2 : tie.After-s2 = search in puts-is (sym (ap statedRow (at-s2 .s2 .given .1))) (c .before .before .put-refusal .ensures)
 
 pub put-stated-spec : {M : Type 1} → statement M
 put-stated-spec =

@@ -34,7 +34,13 @@ same-length c = search needs
 
 returns : tie.Need-returns
 unfolding bytes
-returns c = let a = c .before .before .before .before .before .before .before .before .before .before .before .before .before .before .before .before .before .before .before .before .before .before .before .args in puts-stmt _ _ _ _ _ _ _ _ _ _ _ _ (a .node) (getD words (a .word) []) (c .before .before .before .before .before .before .before .before .before .before .before .before .before .before .before .before .before .before .before .put-bytes .ensures) (c .before .before .before .before .before .before .before .before .before .before .before .before .before .before .before .put-number .ensures) (c .before .before .before .before .before .before .before .before .before .before .before .put-byte .ensures) (c .before .before .before .before .before .before .before .put-word .ensures) (c .before .before .put-bytes2 .ensures)
+returns c =
+    let at-put-word : tie.After-put-word = search in
+    let at-put-byte : tie.After-put-byte = search in
+    let at-put-number : tie.After-put-number = search in
+    let at-put-bytes : tie.After-put-bytes = search in
+    let at-start : tie.Start = search in
+    let a = at-start .args in puts-stmt _ _ _ _ _ _ _ _ _ _ _ _ (a .node) (getD words (a .word) []) (at-put-bytes .put-bytes .ensures) (at-put-number .put-number .ensures) (at-put-byte .put-byte .ensures) (at-put-word .put-word .ensures) (c .before .before .put-bytes2 .ensures)
 
 pub put-stmt-spec : {M : Type 1} → statement M
 put-stmt-spec =

@@ -35,9 +35,14 @@ loop-less : tie.Need-loop-less Inv-loop μ-loop
 loop-less c = search needs
 
 loop-again : tie.Need-loop-again Inv-loop μ-loop
-loop-again c = let l = c .before .before .before .before .before .before .loop in
-    let w = getD words (c .before .before .before .before .before .before .before .before .before .args .k) [] in
-    (search needs, search needs, bytes-on w _ _ _ _ _ _ (l .j) (omega (arith, c .before .before .before .before .before .before .before .word-length .ensures, c .before .before .before .before .before .loop-test .taken)) (l .inv .2) (puts-is (ap (λ (x : ℕ). x ∷ []) (c .before .before .before .word-letter .ensures)) (c .before .before .put-byte .ensures)))
+loop-again c =
+    let in-loop : tie.In-loop Inv-loop μ-loop = search in
+    let at-loop : tie.At-loop Inv-loop μ-loop = search in
+    let at-word-length : tie.After-word-length Inv-loop μ-loop = search in
+    let at-start : tie.Start Inv-loop μ-loop = search in
+    let l = at-loop .loop in
+    let w = getD words (at-start .args .k) [] in
+    (search needs, search needs, bytes-on w _ _ _ _ _ _ (l .j) (omega (arith, at-word-length .word-length .ensures, in-loop .loop-test .taken)) (l .inv .2) (puts-is (ap (λ (x : ℕ). x ∷ []) (c .before .before .before .word-letter .ensures)) (c .before .before .put-byte .ensures)))
 
 same-length : tie.Need-same-length Inv-loop μ-loop
 same-length c = search needs

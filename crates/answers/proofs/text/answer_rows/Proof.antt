@@ -18,7 +18,9 @@ abbrev μ-loop : tie.MeasureT-loop
 μ-loop out₀ text counts lines stmts args entries falls lists succ pred r₀ k₀ at₀ t17 out r k at = suc (length text) - at
 
 loop-holds : tie.Need-loop-holds Inv-loop μ-loop
-loop-holds c = (omega arith, omega arith, refl, answering-start (answerAt (c .before .before .before .before .before .before .before .before .before .before .args .counts .now) (c .before .before .before .before .before .before .before .before .before .before .args .lines .now) (c .before .before .before .before .before .before .before .before .before .before .args .stmts .now) (c .before .before .before .before .before .before .before .before .before .before .args .args .now) (c .before .before .before .before .before .before .before .before .before .before .args .entries .now) (c .before .before .before .before .before .before .before .before .before .before .args .falls .now) (c .before .before .before .before .before .before .before .before .before .before .args .lists .now) (c .before .before .before .before .before .before .before .before .before .before .args .succ .now) (c .before .before .before .before .before .before .before .before .before .before .args .pred .now)) (c .before .before .before .before .before .before .before .before .before .before .args .text .now) (c .before .before .before .before .before .before .before .before .before .before .args .out .now))
+loop-holds c =
+    let at-start : tie.Start Inv-loop μ-loop = search in
+    (omega arith, omega arith, refl, answering-start (answerAt (at-start .args .counts .now) (at-start .args .lines .now) (at-start .args .stmts .now) (at-start .args .args .now) (at-start .args .entries .now) (at-start .args .falls .now) (at-start .args .lists .now) (at-start .args .succ .now) (at-start .args .pred .now)) (at-start .args .text .now) (at-start .args .out .now))
 
 sub-find : tie.Need-sub-find Inv-loop μ-loop
 sub-find c = search needs
@@ -41,8 +43,18 @@ put-refusal-requires c κs = search needs
 same-length : tie.Need-same-length Inv-loop μ-loop
 same-length c = search needs
 
+-- Ways back from a place to an earlier one. `search` finds each by its type.
+abbrev start-of-find : tie.After-find Inv-loop μ-loop → tie.Start Inv-loop μ-loop
+start-of-find c = search
+
+ruleset ways = (start-of-find)
+
 returns : tie.Need-returns Inv-loop μ-loop
-returns c = answers-cut (answerAt (c .before .before .before .before .before .before .before .before .before .before .before .before .before .before .before .before .before .before .args .counts .now) (c .before .before .before .before .before .before .before .before .before .before .before .before .before .before .before .before .before .before .args .lines .now) (c .before .before .before .before .before .before .before .before .before .before .before .before .before .before .before .before .before .before .args .stmts .now) (c .before .before .before .before .before .before .before .before .before .before .before .before .before .before .before .before .before .before .args .args .now) (c .before .before .before .before .before .before .before .before .before .before .before .before .before .before .before .before .before .before .args .entries .now) (c .before .before .before .before .before .before .before .before .before .before .before .before .before .before .before .before .before .before .args .falls .now) (c .before .before .before .before .before .before .before .before .before .before .before .before .before .before .before .before .before .before .args .lists .now) (c .before .before .before .before .before .before .before .before .before .before .before .before .before .before .before .before .before .before .args .succ .now) (c .before .before .before .before .before .before .before .before .before .before .before .before .before .before .before .before .before .before .args .pred .now)) (c .before .before .before .before .before .before .before .before .before .before .before .before .before .before .before .before .before .before .args .text .now) _ _ _ _ _ _ _ _ (c .before .before .before .before .before .before .before .loop .inv .0) (c .before .before .before .before .before .find .ensures .0) (c .before .before .before .before .before .before .before .loop .inv .3) (c .before .before .before .before .if1 .taken) (c .before .before .put-refusal .ensures)
+returns c =
+    let at-find : tie.After-find Inv-loop μ-loop = search in
+    let at-loop : tie.At-loop Inv-loop μ-loop = search in
+    let at-start : tie.Start Inv-loop μ-loop = search ways in
+    answers-cut (answerAt (at-start .args .counts .now) (at-start .args .lines .now) (at-start .args .stmts .now) (at-start .args .args .now) (at-start .args .entries .now) (at-start .args .falls .now) (at-start .args .lists .now) (at-start .args .succ .now) (at-start .args .pred .now)) (at-start .args .text .now) _ _ _ _ _ _ _ _ (at-loop .loop .inv .0) (at-find .find .ensures .0) (at-loop .loop .inv .3) (c .before .before .before .before .if1 .taken) (c .before .before .put-refusal .ensures)
 
 sub-equal : tie.Need-sub-equal Inv-loop μ-loop
 sub-equal c = search needs
@@ -67,7 +79,12 @@ same-length-2 c = search needs
 
 returns-2 : tie.Need-returns-2 Inv-loop μ-loop
 unfolding bytes
-returns-2 c = answers-end (answerAt (c .before .before .before .before .before .before .before .before .before .before .before .before .before .before .before .before .before .before .before .args .counts .now) (c .before .before .before .before .before .before .before .before .before .before .before .before .before .before .before .before .before .before .before .args .lines .now) (c .before .before .before .before .before .before .before .before .before .before .before .before .before .before .before .before .before .before .before .args .stmts .now) (c .before .before .before .before .before .before .before .before .before .before .before .before .before .before .before .before .before .before .before .args .args .now) (c .before .before .before .before .before .before .before .before .before .before .before .before .before .before .before .before .before .before .before .args .entries .now) (c .before .before .before .before .before .before .before .before .before .before .before .before .before .before .before .before .before .before .before .args .falls .now) (c .before .before .before .before .before .before .before .before .before .before .before .before .before .before .before .before .before .before .before .args .lists .now) (c .before .before .before .before .before .before .before .before .before .before .before .before .before .before .before .before .before .before .before .args .succ .now) (c .before .before .before .before .before .before .before .before .before .before .before .before .before .before .before .before .before .before .before .args .pred .now)) (c .before .before .before .before .before .before .before .before .before .before .before .before .before .before .before .before .before .before .before .args .text .now) _ _ (c .before .before .before .before .before .before .before .before .before .before .before .before .before .before .before .before .before .before .before .args .out .now) _ 0 _ _ _ (c .before .before .before .before .before .before .before .before .loop .inv .0) (c .before .before .before .before .before .before .find .ensures .0) (c .before .before .before .before .before .before .before .before .loop .inv .3) (c .before .before .before .before .before .if1 .left) (c .before .before .before .before .before .before .find .ensures .1) (sym (c .before .before .equal .ensures) ∙ c .before .if2 .taken) (c .if3 .taken)
+returns-2 c =
+    let at-else1 : tie.Else1 Inv-loop μ-loop = search in
+    let at-find : tie.After-find Inv-loop μ-loop = search in
+    let at-loop : tie.At-loop Inv-loop μ-loop = search in
+    let at-start : tie.Start Inv-loop μ-loop = search ways in
+    answers-end (answerAt (at-start .args .counts .now) (at-start .args .lines .now) (at-start .args .stmts .now) (at-start .args .args .now) (at-start .args .entries .now) (at-start .args .falls .now) (at-start .args .lists .now) (at-start .args .succ .now) (at-start .args .pred .now)) (at-start .args .text .now) _ _ (at-start .args .out .now) _ 0 _ _ _ (at-loop .loop .inv .0) (at-find .find .ensures .0) (at-loop .loop .inv .3) (at-else1 .if1 .left) (at-find .find .ensures .1) (sym (c .before .before .equal .ensures) ∙ c .before .if2 .taken) (c .if3 .taken)
 
 add-put-refusal : tie.Need-add-put-refusal Inv-loop μ-loop
 add-put-refusal c = search needs
@@ -80,7 +97,14 @@ same-length-3 c = search needs
 
 returns-3 : tie.Need-returns-3 Inv-loop μ-loop
 unfolding bytes
-returns-3 c = answers-over (answerAt (c .before .before .before .before .before .before .before .before .before .before .before .before .before .before .before .before .before .before .before .before .before .before .before .args .counts .now) (c .before .before .before .before .before .before .before .before .before .before .before .before .before .before .before .before .before .before .before .before .before .before .before .args .lines .now) (c .before .before .before .before .before .before .before .before .before .before .before .before .before .before .before .before .before .before .before .before .before .before .before .args .stmts .now) (c .before .before .before .before .before .before .before .before .before .before .before .before .before .before .before .before .before .before .before .before .before .before .before .args .args .now) (c .before .before .before .before .before .before .before .before .before .before .before .before .before .before .before .before .before .before .before .before .before .before .before .args .entries .now) (c .before .before .before .before .before .before .before .before .before .before .before .before .before .before .before .before .before .before .before .before .before .before .before .args .falls .now) (c .before .before .before .before .before .before .before .before .before .before .before .before .before .before .before .before .before .before .before .before .before .before .before .args .lists .now) (c .before .before .before .before .before .before .before .before .before .before .before .before .before .before .before .before .before .before .before .before .before .before .before .args .succ .now) (c .before .before .before .before .before .before .before .before .before .before .before .before .before .before .before .before .before .before .before .before .before .before .before .args .pred .now)) (c .before .before .before .before .before .before .before .before .before .before .before .before .before .before .before .before .before .before .before .before .before .before .before .args .text .now) _ _ _ _ _ _ _ _ (c .before .before .before .before .before .before .before .before .before .before .before .before .loop .inv .0) (c .before .before .before .before .before .before .before .before .before .before .find .ensures .0) (c .before .before .before .before .before .before .before .before .before .before .before .before .loop .inv .3) (c .before .before .before .before .before .before .before .before .before .if1 .left) (c .before .before .before .before .before .before .before .before .before .before .find .ensures .1) (sym (c .before .before .before .before .before .before .equal .ensures) ∙ c .before .before .before .before .before .if2 .taken) (c .before .before .before .before .if3 .left) (c .before .before .put-refusal2 .ensures)
+returns-3 c =
+    let at-then2 : tie.Then2 Inv-loop μ-loop = search in
+    let at-equal : tie.After-equal Inv-loop μ-loop = search in
+    let at-else1 : tie.Else1 Inv-loop μ-loop = search in
+    let at-find : tie.After-find Inv-loop μ-loop = search in
+    let at-loop : tie.At-loop Inv-loop μ-loop = search in
+    let at-start : tie.Start Inv-loop μ-loop = search ways in
+    answers-over (answerAt (at-start .args .counts .now) (at-start .args .lines .now) (at-start .args .stmts .now) (at-start .args .args .now) (at-start .args .entries .now) (at-start .args .falls .now) (at-start .args .lists .now) (at-start .args .succ .now) (at-start .args .pred .now)) (at-start .args .text .now) _ _ _ _ _ _ _ _ (at-loop .loop .inv .0) (at-find .find .ensures .0) (at-loop .loop .inv .3) (at-else1 .if1 .left) (at-find .find .ensures .1) (sym (at-equal .equal .ensures) ∙ at-then2 .if2 .taken) (c .before .before .before .before .if3 .left) (c .before .before .put-refusal2 .ensures)
 
 sub-answer-row : tie.Need-sub-answer-row Inv-loop μ-loop
 sub-answer-row c = search needs
@@ -95,17 +119,34 @@ answer-row-requires : tie.Need-answer-row-requires Inv-loop μ-loop
 answer-row-requires c κs = search needs
 
 add-at : tie.Need-add-at Inv-loop μ-loop
-add-at c = omega (arith, next-more 10 (c .before .before .before .before .before .before .before .before .before .before .before .before .before .before .before .before .before .before .before .before .before .before .before .args .text .now) (c .before .before .before .before .before .before .before .before .before .before .before .before .loop .at) (c .before .before .before .before .before .before .before .before .before .before .find .result) (c .before .before .before .before .before .before .before .before .before .before .before .before .loop .inv .0) (c .before .before .before .before .before .before .before .before .before .before .find .ensures .0) (c .before .before .before .before .before .before .before .before .before .if1 .left) (c .before .before .before .before .before .before .before .before .before .before .find .ensures .1) .0, c .before .before .before .before .before .before .before .before .before .before .before .before .before .before .before .before .before .before .before .before .before .before .before .good)
+add-at c =
+    let at-else1 : tie.Else1 Inv-loop μ-loop = search in
+    let at-find : tie.After-find Inv-loop μ-loop = search in
+    let at-loop : tie.At-loop Inv-loop μ-loop = search in
+    let at-start : tie.Start Inv-loop μ-loop = search ways in
+    omega (arith, next-more 10 (at-start .args .text .now) (at-loop .loop .at) (at-find .find .result) (at-loop .loop .inv .0) (at-find .find .ensures .0) (at-else1 .if1 .left) (at-find .find .ensures .1) .0, at-start .good)
 
 add-k : tie.Need-add-k Inv-loop μ-loop
-add-k c = omega (arith, next-more 10 (c .before .before .before .before .before .before .before .before .before .before .before .before .before .before .before .before .before .before .before .before .before .before .before .args .text .now) (c .before .before .before .before .before .before .before .before .before .before .before .before .loop .at) (c .before .before .before .before .before .before .before .before .before .before .find .result) (c .before .before .before .before .before .before .before .before .before .before .before .before .loop .inv .0) (c .before .before .before .before .before .before .before .before .before .before .find .ensures .0) (c .before .before .before .before .before .before .before .before .before .if1 .left) (c .before .before .before .before .before .before .before .before .before .before .find .ensures .1) .0, c .before .before .before .before .before .before .before .before .before .before .before .before .loop .inv .1, c .before .before .before .before .before .before .before .before .before .before .before .before .before .before .before .before .before .before .before .before .before .before .before .good)
+add-k c =
+    let at-else1 : tie.Else1 Inv-loop μ-loop = search in
+    let at-find : tie.After-find Inv-loop μ-loop = search in
+    let at-loop : tie.At-loop Inv-loop μ-loop = search in
+    let at-start : tie.Start Inv-loop μ-loop = search ways in
+    omega (arith, next-more 10 (at-start .args .text .now) (at-loop .loop .at) (at-find .find .result) (at-loop .loop .inv .0) (at-find .find .ensures .0) (at-else1 .if1 .left) (at-find .find .ensures .1) .0, at-loop .loop .inv .1, at-start .good)
 
 loop-less : tie.Need-loop-less Inv-loop μ-loop
 loop-less c = search needs
 
 loop-again : tie.Need-loop-again Inv-loop μ-loop
 unfolding bytes
-loop-again c = (search needs, search needs, search needs, answers-next (answerAt (c .before .before .before .before .before .before .before .before .before .before .before .before .before .before .before .before .before .before .before .before .before .before .before .args .counts .now) (c .before .before .before .before .before .before .before .before .before .before .before .before .before .before .before .before .before .before .before .before .before .before .before .args .lines .now) (c .before .before .before .before .before .before .before .before .before .before .before .before .before .before .before .before .before .before .before .before .before .before .before .args .stmts .now) (c .before .before .before .before .before .before .before .before .before .before .before .before .before .before .before .before .before .before .before .before .before .before .before .args .args .now) (c .before .before .before .before .before .before .before .before .before .before .before .before .before .before .before .before .before .before .before .before .before .before .before .args .entries .now) (c .before .before .before .before .before .before .before .before .before .before .before .before .before .before .before .before .before .before .before .before .before .before .before .args .falls .now) (c .before .before .before .before .before .before .before .before .before .before .before .before .before .before .before .before .before .before .before .before .before .before .before .args .lists .now) (c .before .before .before .before .before .before .before .before .before .before .before .before .before .before .before .before .before .before .before .before .before .before .before .args .succ .now) (c .before .before .before .before .before .before .before .before .before .before .before .before .before .before .before .before .before .before .before .before .before .before .before .args .pred .now)) (c .before .before .before .before .before .before .before .before .before .before .before .before .before .before .before .before .before .before .before .before .before .before .before .args .text .now) _ _ _ _ _ _ _ _ (c .before .before .before .before .before .before .before .before .before .before .before .before .loop .inv .0) (c .before .before .before .before .before .before .before .before .before .before .find .ensures .0) (c .before .before .before .before .before .before .before .before .before .before .before .before .loop .inv .3) (c .before .before .before .before .before .before .before .before .before .if1 .left) (c .before .before .before .before .before .before .before .before .before .before .find .ensures .1) (sym (c .before .before .before .before .before .before .equal .ensures) ∙ c .before .before .before .before .before .if2 .left) (c .before .before .answer-row .ensures))
+loop-again c =
+    let at-else2 : tie.Else2 Inv-loop μ-loop = search in
+    let at-equal : tie.After-equal Inv-loop μ-loop = search in
+    let at-else1 : tie.Else1 Inv-loop μ-loop = search in
+    let at-find : tie.After-find Inv-loop μ-loop = search in
+    let at-loop : tie.At-loop Inv-loop μ-loop = search in
+    let at-start : tie.Start Inv-loop μ-loop = search ways in
+    (search needs, search needs, search needs, answers-next (answerAt (at-start .args .counts .now) (at-start .args .lines .now) (at-start .args .stmts .now) (at-start .args .args .now) (at-start .args .entries .now) (at-start .args .falls .now) (at-start .args .lists .now) (at-start .args .succ .now) (at-start .args .pred .now)) (at-start .args .text .now) _ _ _ _ _ _ _ _ (at-loop .loop .inv .0) (at-find .find .ensures .0) (at-loop .loop .inv .3) (at-else1 .if1 .left) (at-find .find .ensures .1) (sym (at-equal .equal .ensures) ∙ at-else2 .if2 .left) (c .before .before .answer-row .ensures))
 
 pub answer-rows-spec : {M : Type 1} → statement M
 answer-rows-spec =

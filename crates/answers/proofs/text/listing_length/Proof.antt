@@ -34,7 +34,9 @@ add-to : tie.Need-add-to Inv-loop μ-loop
 add-to c = search needs
 
 returns : tie.Need-returns Inv-loop μ-loop
-returns c = subst (CutAt (c .before .before .before .before .before .args .text .now)) (sym (c .if1 .taken)) (cut-alone (c .before .before .before .before .before .args .text .now) (c .before .before .before .loop .at) (c .before .find .result) (c .before .before .before .loop .inv .0) (c .before .find .ensures .0) (c .before .before .before .loop .inv .1) (c .if1 .taken))
+returns c =
+    let at-start : tie.Start Inv-loop μ-loop = search in
+    subst (CutAt (at-start .args .text .now)) (sym (c .if1 .taken)) (cut-alone (at-start .args .text .now) (c .before .before .before .loop .at) (c .before .find .result) (c .before .before .before .loop .inv .0) (c .before .find .ensures .0) (c .before .before .before .loop .inv .1) (c .if1 .taken))
 
 sub-equal : tie.Need-sub-equal Inv-loop μ-loop
 sub-equal c = search needs
@@ -53,7 +55,11 @@ equal-requires c κs = search needs
 
 returns-2 : tie.Need-returns-2 Inv-loop μ-loop
 unfolding bytes
-returns-2 c = cut-here (c .before .before .before .before .before .before .before .before .before .args .text .now) (c .before .before .before .before .before .before .before .loop .at) (c .before .before .before .before .before .find .result) (c .before .before .before .before .before .before .before .loop .inv .0) (c .before .before .before .before .before .find .ensures .0) (c .before .before .before .before .before .before .before .loop .inv .1) (c .before .before .before .before .if1 .left) (c .before .before .before .before .before .find .ensures .1) (sym (c .before .equal .ensures) ∙ c .if2 .taken)
+returns-2 c =
+    let at-find : tie.After-find Inv-loop μ-loop = search in
+    let at-loop : tie.At-loop Inv-loop μ-loop = search in
+    let at-start : tie.Start Inv-loop μ-loop = search in
+    cut-here (at-start .args .text .now) (at-loop .loop .at) (at-find .find .result) (at-loop .loop .inv .0) (at-find .find .ensures .0) (at-loop .loop .inv .1) (c .before .before .before .before .if1 .left) (at-find .find .ensures .1) (sym (c .before .equal .ensures) ∙ c .if2 .taken)
 
 add-at : tie.Need-add-at Inv-loop μ-loop
 add-at c = search needs
@@ -63,7 +69,11 @@ loop-less c = search needs
 
 loop-again : tie.Need-loop-again Inv-loop μ-loop
 unfolding bytes
-loop-again c = (omega arith, cut-next (c .before .before .before .before .before .before .before .before .before .args .text .now) (c .before .before .before .before .before .before .before .loop .at) (c .before .before .before .before .before .find .result) (c .before .before .before .before .before .before .before .loop .inv .0) (c .before .before .before .before .before .find .ensures .0) (c .before .before .before .before .before .before .before .loop .inv .1) (c .before .before .before .before .if1 .left) (c .before .before .before .before .before .find .ensures .1) (sym (c .before .equal .ensures) ∙ c .if2 .left))
+loop-again c =
+    let at-find : tie.After-find Inv-loop μ-loop = search in
+    let at-loop : tie.At-loop Inv-loop μ-loop = search in
+    let at-start : tie.Start Inv-loop μ-loop = search in
+    (omega arith, cut-next (at-start .args .text .now) (at-loop .loop .at) (at-find .find .result) (at-loop .loop .inv .0) (at-find .find .ensures .0) (at-loop .loop .inv .1) (c .before .before .before .before .if1 .left) (at-find .find .ensures .1) (sym (c .before .equal .ensures) ∙ c .if2 .left))
 
 pub listing-length-spec : {M : Type 1} → statement M
 listing-length-spec =

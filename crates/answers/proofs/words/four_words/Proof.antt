@@ -29,9 +29,11 @@ add-b : tie.Need-add-b
 add-b c = search needs
 
 returns-2 : tie.Need-returns-2
-returns-2 c = let g = c .before .before .before .before .find in
+returns-2 c =
+    let at-start : tie.Start = search in
+    let g = c .before .before .before .before .find in
     let h = c .before .find2 in
-    four-one (c .before .before .before .before .before .before .args .s .now) (g .result) (g .ensures .0) (g .ensures .1) (c .before .before .before .if1 .left) (h .result) (h .ensures .0) (h .ensures .1) (c .if2 .taken)
+    four-one (at-start .args .s .now) (g .result) (g .ensures .0) (g .ensures .1) (c .before .before .before .if1 .left) (h .result) (h .ensures .0) (h .ensures .1) (c .if2 .taken)
 
 add-v : tie.Need-add-v
 add-v c = search needs
@@ -52,10 +54,14 @@ add-c : tie.Need-add-c
 add-c c = search needs
 
 returns-3 : tie.Need-returns-3
-returns-3 c = let g = c .before .before .before .before .before .before .before .find in
+returns-3 c =
+    let at-else1 : tie.Else1 = search in
+    let at-find : tie.After-find = search in
+    let at-start : tie.Start = search in
+    let g = at-find .find in
     let h = c .before .before .before .before .find2 in
     let k = c .before .find3 in
-    four-two (c .before .before .before .before .before .before .before .before .before .args .s .now) (g .result) (g .ensures .0) (g .ensures .1) (c .before .before .before .before .before .before .if1 .left) (h .result) (h .ensures .0) (h .ensures .1) (c .before .before .before .if2 .left) (k .result) (k .ensures .0) (k .ensures .1) (c .if3 .taken)
+    four-two (at-start .args .s .now) (g .result) (g .ensures .0) (g .ensures .1) (at-else1 .if1 .left) (h .result) (h .ensures .0) (h .ensures .1) (c .before .before .before .if2 .left) (k .result) (k .ensures .0) (k .ensures .1) (c .if3 .taken)
 
 add-f : tie.Need-add-f
 add-f c = search needs
@@ -76,18 +82,30 @@ add-if4 : tie.Need-add-if4
 add-if4 c = search needs
 
 returns-4 : tie.Need-returns-4
-returns-4 c = let g = c .before .before .before .before .before .before .before .before .before .before .find in
-    let h = c .before .before .before .before .before .before .before .find2 in
+returns-4 c =
+    let at-else2 : tie.Else2 = search in
+    let at-find2 : tie.After-find2 = search in
+    let at-else1 : tie.Else1 = search in
+    let at-find : tie.After-find = search in
+    let at-start : tie.Start = search in
+    let g = at-find .find in
+    let h = at-find2 .find2 in
     let k = c .before .before .before .before .find3 in
     let l = c .before .find4 in
-    four-more (c .before .before .before .before .before .before .before .before .before .before .before .before .args .s .now) (g .result) (g .ensures .0) (g .ensures .1) (c .before .before .before .before .before .before .before .before .before .if1 .left) (h .result) (h .ensures .0) (h .ensures .1) (c .before .before .before .before .before .before .if2 .left) (k .result) (k .ensures .0) (k .ensures .1) (c .before .before .before .if3 .left) (l .result) (l .ensures .0) (l .ensures .1) (c .if4 .taken)
+    four-more (at-start .args .s .now) (g .result) (g .ensures .0) (g .ensures .1) (at-else1 .if1 .left) (h .result) (h .ensures .0) (h .ensures .1) (at-else2 .if2 .left) (k .result) (k .ensures .0) (k .ensures .1) (c .before .before .before .if3 .left) (l .result) (l .ensures .0) (l .ensures .1) (c .if4 .taken)
 
 returns-5 : tie.Need-returns-5
-returns-5 c = let g = c .before .before .before .before .before .before .before .before .before .before .find in
-    let h = c .before .before .before .before .before .before .before .find2 in
+returns-5 c =
+    let at-else2 : tie.Else2 = search in
+    let at-find2 : tie.After-find2 = search in
+    let at-else1 : tie.Else1 = search in
+    let at-find : tie.After-find = search in
+    let at-start : tie.Start = search in
+    let g = at-find .find in
+    let h = at-find2 .find2 in
     let k = c .before .before .before .before .find3 in
     let l = c .before .find4 in
-    four-found (c .before .before .before .before .before .before .before .before .before .before .before .before .args .s .now) (g .result) (g .ensures .0) (g .ensures .1) (c .before .before .before .before .before .before .before .before .before .if1 .left) (h .result) (h .ensures .0) (h .ensures .1) (c .before .before .before .before .before .before .if2 .left) (k .result) (k .ensures .0) (k .ensures .1) (c .before .before .before .if3 .left) (l .result) (l .ensures .0) (l .ensures .1) (c .if4 .left)
+    four-found (at-start .args .s .now) (g .result) (g .ensures .0) (g .ensures .1) (at-else1 .if1 .left) (h .result) (h .ensures .0) (h .ensures .1) (at-else2 .if2 .left) (k .result) (k .ensures .0) (k .ensures .1) (c .before .before .before .if3 .left) (l .result) (l .ensures .0) (l .ensures .1) (c .if4 .left)
 
 pub four-words-spec : {M : Type 1} → statement M
 four-words-spec =

@@ -40,22 +40,37 @@ returns-2 : tie.Need-returns-2
 returns-2 c = frame-numbers (c .before .before .before .args .h) (c .before .before .before .args .i) number.Malformed (c .before .before .before .args .i) (c .before .before .before .args .start) (c .before .before .before .args .end) (c .before .before .before .args .flag) (c .before .before .if1 .left) (c .enum-told .given .1) (refl)
 
 returns-3 : tie.Need-returns-3
-returns-3 c = frame-numbers (c .before .before .before .before .before .args .h) (c .before .before .before .before .before .args .i) number.Invalid number.Malformed (c .before .before .before .before .before .args .start) (c .before .before .before .before .before .args .end) (c .before .before .before .before .before .args .flag) (c .before .before .before .before .if1 .left) (c .before .before .enum-told2 .given .1) (c .enum-told3 .given .1)
+returns-3 c =
+    let at-start : tie.Start = search in
+    frame-numbers (at-start .args .h) (at-start .args .i) number.Invalid number.Malformed (at-start .args .start) (at-start .args .end) (at-start .args .flag) (c .before .before .before .before .if1 .left) (c .before .before .enum-told2 .given .1) (c .enum-told3 .given .1)
 
 returns-4 : tie.Need-returns-4
-returns-4 c = frame-numbers (c .before .before .before .before .before .args .h) (c .before .before .before .before .before .args .i) number.Invalid number.Invalid (c .before .before .before .before .before .args .start) (c .before .before .before .before .before .args .end) (c .before .before .before .before .before .args .flag) (c .before .before .before .before .if1 .left) (c .before .before .enum-told2 .given .1) (c .enum-told4 .given .1)
+returns-4 c =
+    let at-start : tie.Start = search in
+    frame-numbers (at-start .args .h) (at-start .args .i) number.Invalid number.Invalid (at-start .args .start) (at-start .args .end) (at-start .args .flag) (c .before .before .before .before .if1 .left) (c .before .before .enum-told2 .given .1) (c .enum-told4 .given .1)
 
 returns-5 : tie.Need-returns-5
-returns-5 c = frame-numbers (c .before .before .before .before .before .args .h) (c .before .before .before .before .before .args .i) number.Invalid (number.Value _) (c .before .before .before .before .before .args .start) (c .before .before .before .before .before .args .end) (c .before .before .before .before .before .args .flag) (c .before .before .before .before .if1 .left) (c .before .before .enum-told2 .given .1) (c .enum-told5 .given .1)
+returns-5 c =
+    let at-start : tie.Start = search in
+    frame-numbers (at-start .args .h) (at-start .args .i) number.Invalid (number.Value _) (at-start .args .start) (at-start .args .end) (at-start .args .flag) (c .before .before .before .before .if1 .left) (c .before .before .enum-told2 .given .1) (c .enum-told5 .given .1)
 
 returns-6 : tie.Need-returns-6
-returns-6 c = frame-numbers (c .before .before .before .before .before .before .args .h) (c .before .before .before .before .before .before .args .i) (number.Value _) number.Malformed (c .before .before .before .before .before .before .args .start) (c .before .before .before .before .before .before .args .end) (c .before .before .before .before .before .before .args .flag) (c .before .before .before .before .before .if1 .left) (c .before .before .before .h .given .1) (c .enum-told6 .given .1)
+returns-6 c =
+    let at-else1 : tie.Else1 = search in
+    let at-start : tie.Start = search in
+    frame-numbers (at-start .args .h) (at-start .args .i) (number.Value _) number.Malformed (at-start .args .start) (at-start .args .end) (at-start .args .flag) (at-else1 .if1 .left) (c .before .before .before .h .given .1) (c .enum-told6 .given .1)
 
 returns-7 : tie.Need-returns-7
-returns-7 c = frame-numbers (c .before .before .before .before .before .before .args .h) (c .before .before .before .before .before .before .args .i) (number.Value _) number.Invalid (c .before .before .before .before .before .before .args .start) (c .before .before .before .before .before .before .args .end) (c .before .before .before .before .before .before .args .flag) (c .before .before .before .before .before .if1 .left) (c .before .before .before .h .given .1) (c .enum-told7 .given .1)
+returns-7 c =
+    let at-else1 : tie.Else1 = search in
+    let at-start : tie.Start = search in
+    frame-numbers (at-start .args .h) (at-start .args .i) (number.Value _) number.Invalid (at-start .args .start) (at-start .args .end) (at-start .args .flag) (at-else1 .if1 .left) (c .before .before .before .h .given .1) (c .enum-told7 .given .1)
 
 returns-8 : tie.Need-returns-8
-returns-8 c = frame-numbers (c .before .before .before .before .before .before .before .args .h) (c .before .before .before .before .before .before .before .args .i) (number.Value _) (number.Value _) (c .before .before .before .before .before .before .before .args .start) (c .before .before .before .before .before .before .before .args .end) (c .before .before .before .before .before .before .before .args .flag) (c .before .before .before .before .before .before .if1 .left) (c .before .before .before .before .h .given .1) (c .before .i .given .1)
+returns-8 c =
+    let at-else1 : tie.Else1 = search in
+    let at-start : tie.Start = search in
+    frame-numbers (at-start .args .h) (at-start .args .i) (number.Value _) (number.Value _) (at-start .args .start) (at-start .args .end) (at-start .args .flag) (at-else1 .if1 .left) (c .before .before .before .before .h .given .1) (c .before .i .given .1)
 
 pub frame-by-spec : {M : Type 1} → statement M
 frame-by-spec =

@@ -17,10 +17,14 @@ find-requires : tie.Need-find-requires
 find-requires c κs = search needs
 
 returns-2 : tie.Need-returns-2
-returns-2 c = form-alone (c .before .before .before .before .before .args .s .now) (c .before .find .result) (c .before .find .ensures .0) (sym (c .before .before .before .are-words .ensures) ∙ not-false _ (c .before .before .if1 .left)) (c .if2 .taken)
+returns-2 c =
+    let at-start : tie.Start = search in
+    form-alone (at-start .args .s .now) (c .before .find .result) (c .before .find .ensures .0) (sym (c .before .before .before .are-words .ensures) ∙ not-false _ (c .before .before .if1 .left)) (c .if2 .taken)
 
 slice-aggregate-question-word : tie.Need-slice-aggregate-question-word
-slice-aggregate-question-word c = sym (length-take-le (c .before .before .find .result) (c .before .before .before .before .before .before .args .s .now) (c .before .before .find .ensures .1))
+slice-aggregate-question-word c =
+    let at-start : tie.Start = search in
+    sym (length-take-le (c .before .before .find .result) (at-start .args .s .now) (c .before .before .find .ensures .1))
 
 question-word-requires : tie.Need-question-word-requires
 question-word-requires c κs = search needs
@@ -29,7 +33,10 @@ add-t8 : tie.Need-add-t8
 add-t8 c = search needs
 
 returns-3 : tie.Need-returns-3
-returns-3 c = form-words (c .before .before .before .before .before .before .before .args .s .now) (c .before .before .before .find .result) (c .before .before .before .find .ensures .0) (sym (c .before .before .before .before .before .are-words .ensures) ∙ not-false _ (c .before .before .before .before .if1 .left)) (c .question-word .result) (c .before .before .if2 .left) (c .before .before .before .find .ensures .1) (c .question-word .ensures)
+returns-3 c =
+    let at-are-words : tie.After-are-words = search in
+    let at-start : tie.Start = search in
+    form-words (at-start .args .s .now) (c .before .before .before .find .result) (c .before .before .before .find .ensures .0) (sym (at-are-words .are-words .ensures) ∙ not-false _ (c .before .before .before .before .if1 .left)) (c .question-word .result) (c .before .before .if2 .left) (c .before .before .before .find .ensures .1) (c .question-word .ensures)
 
 pub open-form-spec : {M : Type 1} → statement M
 open-form-spec =

@@ -39,11 +39,17 @@ same-length c = search needs
 
 returns : tie.Need-returns
 unfolding bytes wordOf
-returns c = let a = c .before .before .before .before .before .before .before .before .before .before .before .before .args in puts-back _ _ _ _ (a .stmts .now) (a .falls .now) (a .i) (sym (c .before .before .before .before .before .before .before .is-call .ensures) ∙ c .before .before .before .before .before .before .if1 .taken) (c .before .before .put-some .ensures)
+returns c =
+    let at-then1 : tie.Then1 = search in
+    let at-is-call : tie.After-is-call = search in
+    let at-start : tie.Start = search in
+    let a = at-start .args in puts-back _ _ _ _ (a .stmts .now) (a .falls .now) (a .i) (sym (at-is-call .is-call .ensures) ∙ at-then1 .if1 .taken) (c .before .before .put-some .ensures)
 
 returns-2 : tie.Need-returns-2
 unfolding wordOf
-returns-2 c = let a = c .before .before .before .before .before .before .args in puts-no-back _ _ (a .stmts .now) (a .falls .now) (a .i) (sym (c .before .is-call .ensures) ∙ c .if1 .left)
+returns-2 c =
+    let at-start : tie.Start = search in
+    let a = at-start .args in puts-no-back _ _ (a .stmts .now) (a .falls .now) (a .i) (sym (c .before .is-call .ensures) ∙ c .if1 .left)
 
 pub put-back-spec : {M : Type 1} → statement M
 put-back-spec =

@@ -29,13 +29,18 @@ loop-less : tie.Need-loop-less Inv-loop μ-loop
 loop-less c = search needs
 
 loop-again : tie.Need-loop-again Inv-loop μ-loop
-loop-again c = let a = c .before .before .before .before .before .before .before .before .before .args in let l = c .before .before .before .before .before .loop in (search needs, search needs, below-on (backText (a .stmts .now) (a .falls .now)) _ _ _ _ _ _ (l .i) (l .inv .2) (c .before .before .put-back .ensures))
+loop-again c =
+    let at-loop : tie.At-loop Inv-loop μ-loop = search in
+    let at-start : tie.Start Inv-loop μ-loop = search in
+    let a = at-start .args in let l = at-loop .loop in (search needs, search needs, below-on (backText (a .stmts .now) (a .falls .now)) _ _ _ _ _ _ (l .i) (l .inv .2) (c .before .before .put-back .ensures))
 
 same-length : tie.Need-same-length Inv-loop μ-loop
 same-length c = search needs
 
 returns : tie.Need-returns Inv-loop μ-loop
-returns c = let a = c .before .before .before .before .before .args in let l = c .before .loop in below-end (backText (a .stmts .now) (a .falls .now)) _ _ _ _ (l .i) (a .n) (l .inv .0) (c .loop-test .left) (l .inv .2)
+returns c =
+    let at-start : tie.Start Inv-loop μ-loop = search in
+    let a = at-start .args in let l = c .before .loop in below-end (backText (a .stmts .now) (a .falls .now)) _ _ _ _ (l .i) (a .n) (l .inv .0) (c .loop-test .left) (l .inv .2)
 
 pub put-backs-spec : {M : Type 1} → statement M
 put-backs-spec =

@@ -31,7 +31,9 @@ same-length c = search needs
 
 returns : tie.Need-returns
 unfolding bytes
-returns c = let a = c .before .before .before .before .before .before .before .before .before .before .before .args in puts-entry _ _ _ _ (a .lines .now) (a .entries .now) (a .l) _ (c .before .before .before .before .wide .ensures) (c .before .before .put-some .ensures)
+returns c =
+    let at-start : tie.Start = search in
+    let a = at-start .args in puts-entry _ _ _ _ (a .lines .now) (a .entries .now) (a .l) _ (c .before .before .before .before .wide .ensures) (c .before .before .put-some .ensures)
 
 pub put-entry-spec : {M : Type 1} → statement M
 put-entry-spec =

@@ -15,7 +15,9 @@ put-bytes-requires : tie.Need-put-bytes-requires
 put-bytes-requires c κs = search needs
 
 slice-aggregate-put-spaced : tie.Need-slice-aggregate-put-spaced
-slice-aggregate-put-spaced c = sym (length-take-le (c .before .before .before .before .before .before .before .before .before .args .targets) (c .before .before .before .before .before .before .before .before .before .args .returns .now) (c .before .before .before .before .before .before .before .before .before .pre))
+slice-aggregate-put-spaced c =
+    let at-start : tie.Start = search in
+    sym (length-take-le (at-start .args .targets) (at-start .args .returns .now) (at-start .pre))
 
 put-spaced-requires : tie.Need-put-spaced-requires
 put-spaced-requires c κs = search needs
@@ -31,7 +33,11 @@ same-length c = search needs
 
 returns : tie.Need-returns
 unfolding bytes
-returns c = let a = c .before .before .before .before .before .before .before .before .before .before .before .before .before .before .before .before .before .args in puts-returns _ _ _ _ _ _ _ _ (take (a .targets) (a .returns .now)) (c .before .before .before .before .before .before .before .before .before .before .before .before .put-bytes .ensures) (c .before .before .before .before .before .before .before .put-spaced .ensures) (c .before .before .put-bytes2 .ensures)
+returns c =
+    let at-put-spaced : tie.After-put-spaced = search in
+    let at-put-bytes : tie.After-put-bytes = search in
+    let at-start : tie.Start = search in
+    let a = at-start .args in puts-returns _ _ _ _ _ _ _ _ (take (a .targets) (a .returns .now)) (at-put-bytes .put-bytes .ensures) (at-put-spaced .put-spaced .ensures) (c .before .before .put-bytes2 .ensures)
 
 pub put-returns-spec : {M : Type 1} → statement M
 put-returns-spec =

@@ -20,7 +20,10 @@ same-length : tie.Need-same-length
 same-length c = search needs
 
 returns-2 : tie.Need-returns-2
-returns-2 c = let a = c .before .before .before .before .before .before .before .before .args in puts-some _ _ _ _ (a .word .now) (a .a) (a .e) _ (c .before .before .before .before .before .if1 .left) (c .before .before .before .wide .ensures) (c .before .before .put-pair-row .ensures)
+returns-2 c =
+    let at-else1 : tie.Else1 = search in
+    let at-start : tie.Start = search in
+    let a = at-start .args in puts-some _ _ _ _ (a .word .now) (a .a) (a .e) _ (at-else1 .if1 .left) (c .before .before .before .wide .ensures) (c .before .before .put-pair-row .ensures)
 
 pub put-some-spec : {M : Type 1} → statement M
 put-some-spec =

@@ -61,7 +61,10 @@ put-path-same-length : (t : ℕ) → put-path-lts.Need-same-length (claims t) (p
 put-path-same-length t c = search needs
 
 put-path-returns : (t : ℕ) → put-path-lts.Need-returns (claims t) (put-path-at t) put-path.Post
-put-path-returns t c = let a = c .before .before .before .before .before .before .before .before .before .before .before .args in path-top (a .stmts .now) _ _ (a .i) _ (c .before .before .before .before .before .before .before .wide .ensures) (a .left) (c .before .before .before .before .if1 .taken) (c .before .before .put-decimal .ensures)
+put-path-returns t c =
+    let at-wide : put-path-lts.After-wide (claims t) (put-path-at t) put-path.Post = search in
+    let at-start : put-path-lts.Start (claims t) (put-path-at t) put-path.Post = search in
+    let a = at-start .args in path-top (a .stmts .now) _ _ (a .i) _ (at-wide .wide .ensures) (a .left) (c .before .before .before .before .if1 .taken) (c .before .before .put-decimal .ensures)
 
 put-path-put-decimal-requires-2 : (t : ℕ) → put-path-lts.Need-put-decimal-requires-2 (claims t) (put-path-at t) put-path.Post
 put-path-put-decimal-requires-2 t c κs = search needs
@@ -70,7 +73,10 @@ put-path-same-length-2 : (t : ℕ) → put-path-lts.Need-same-length-2 (claims t
 put-path-same-length-2 t c = search needs
 
 put-path-returns-2 : (t : ℕ) → put-path-lts.Need-returns-2 (claims t) (put-path-at t) put-path.Post
-put-path-returns-2 t c = let a = c .before .before .before .before .before .before .before .before .before .before .before .before .args in path-first (a .stmts .now) _ _ (a .i) _ (c .before .before .before .before .before .before .before .before .wide .ensures) (a .left) _ (c .before .before .before .before .before .before .wide2 .ensures) (c .before .before .before .before .if2 .taken) (c .before .before .put-decimal2 .ensures)
+put-path-returns-2 t c =
+    let at-wide : put-path-lts.After-wide (claims t) (put-path-at t) put-path.Post = search in
+    let at-start : put-path-lts.Start (claims t) (put-path-at t) put-path.Post = search in
+    let a = at-start .args in path-first (a .stmts .now) _ _ (a .i) _ (at-wide .wide .ensures) (a .left) _ (c .before .before .before .before .before .before .wide2 .ensures) (c .before .before .before .before .if2 .taken) (c .before .before .put-decimal2 .ensures)
 
 put-path-sub-put-path : (t : ℕ) → put-path-lts.Need-sub-put-path (claims t) (put-path-at t) put-path.Post
 put-path-sub-put-path t c = search needs
@@ -79,7 +85,9 @@ put-path-sub-put-path-2 : (t : ℕ) → put-path-lts.Need-sub-put-path-2 (claims
 put-path-sub-put-path-2 t c = search needs
 
 put-path-put-path-requires : (t : ℕ) → put-path-lts.Need-put-path-requires (claims t) (put-path-at t) put-path.Post
-put-path-put-path-requires t c κs = (search needs, (holder-in (c .before .before .before .before .before .before .before .before .before .pre .1 .1) (c .before .before .before .before .before .before .before .before .before .pre .1 .0) (c .before .before .before .wide2 .ensures) (c .before .if2 .left), c .before .before .before .before .before .before .before .before .before .pre .1 .1))
+put-path-put-path-requires t c κs =
+    let at-start : put-path-lts.Start (claims t) (put-path-at t) put-path.Post = search in
+    (search needs, (holder-in (at-start .pre .1 .1) (at-start .pre .1 .0) (c .before .before .before .wide2 .ensures) (c .before .if2 .left), at-start .pre .1 .1))
 
 put-path-put-number-requires : (t : ℕ) → put-path-lts.Need-put-number-requires (claims t) (put-path-at t) put-path.Post
 put-path-put-number-requires t c κs = search needs
@@ -88,7 +96,13 @@ put-path-same-length-3 : (t : ℕ) → put-path-lts.Need-same-length-3 (claims t
 put-path-same-length-3 t c = search needs
 
 put-path-returns-3 : (t : ℕ) → put-path-lts.Need-returns-3 (claims t) (put-path-at t) put-path.Post
-put-path-returns-3 t c = let a = c .before .before .before .before .before .before .before .before .before .before .before .before .before .before .before .before .args in path-next (a .stmts .now) _ _ (a .i) _ (c .before .before .before .before .before .before .before .before .before .before .before .before .wide .ensures) _ _ _ _ (a .left) _ (c .before .before .before .before .before .before .before .before .before .before .wide2 .ensures) (c .before .before .before .before .before .before .before .before .before .if1 .left) (c .before .before .before .before .before .before .before .before .if2 .left) (c .before .before .before .before .before .before .put-path .ensures) (c .before .before .put-number .ensures)
+put-path-returns-3 t c =
+    let at-else2 : put-path-lts.Else2 (claims t) (put-path-at t) put-path.Post = search in
+    let at-else1 : put-path-lts.Else1 (claims t) (put-path-at t) put-path.Post = search in
+    let at-wide2 : put-path-lts.After-wide2 (claims t) (put-path-at t) put-path.Post = search in
+    let at-wide : put-path-lts.After-wide (claims t) (put-path-at t) put-path.Post = search in
+    let at-start : put-path-lts.Start (claims t) (put-path-at t) put-path.Post = search in
+    let a = at-start .args in path-next (a .stmts .now) _ _ (a .i) _ (at-wide .wide .ensures) _ _ _ _ (a .left) _ (at-wide2 .wide2 .ensures) (at-else1 .if1 .left) (at-else2 .if2 .left) (c .before .before .before .before .before .before .put-path .ensures) (c .before .before .put-number .ensures)
 
 pub +put-path-spec : {M : Type 1} → statement M
 +put-path-spec = close μ-put-path λ t. put-path-lts.spec (claims t)

@@ -25,7 +25,10 @@ same-length c = search needs
 
 returns : tie.Need-returns
 unfolding bytes
-returns c = puts-head _ _ _ _ _ _ _ _ _ _ _ (c .before .before .before .before .before .before .before .before .before .before .before .put-pair .ensures) (c .before .before .before .before .before .before .before .put-number .ensures) (c .before .before .put-bytes .ensures)
+returns c =
+    let at-put-number : tie.After-put-number = search in
+    let at-put-pair : tie.After-put-pair = search in
+    puts-head _ _ _ _ _ _ _ _ _ _ _ (at-put-pair .put-pair .ensures) (at-put-number .put-number .ensures) (c .before .before .put-bytes .ensures)
 
 pub put-head-spec : {M : Type 1} → statement M
 put-head-spec =

@@ -29,7 +29,10 @@ same-length : tie.Need-same-length
 same-length c = search needs
 
 returns : tie.Need-returns
-returns c = let a = c .before .before .before .before .before .before .before .before .before .before .before .before .args in puts-list _ _ _ _ _ _ (a .word .now) (a .table .now) (a .start) (a .count) (c .before .before .before .before .before .before .before .put-bytes .ensures) (c .before .before .put-spaced .ensures)
+returns c =
+    let at-put-bytes : tie.After-put-bytes = search in
+    let at-start : tie.Start = search in
+    let a = at-start .args in puts-list _ _ _ _ _ _ (a .word .now) (a .table .now) (a .start) (a .count) (at-put-bytes .put-bytes .ensures) (c .before .before .put-spaced .ensures)
 
 pub put-list-spec : {M : Type 1} → statement M
 put-list-spec =

@@ -74,9 +74,23 @@ put-bytes-requires c κs = search needs
 same-length : tie.Need-same-length
 same-length c = search needs
 
+-- Ways back from a place to an earlier one. `search` finds each by its type.
+abbrev start-of-put-list : tie.After-put-list → tie.Start
+start-of-put-list c = search
+
+ruleset ways = (start-of-put-list)
+
 returns : tie.Need-returns
 unfolding bytes
-returns c = let a = c .before .before .before .before .before .before .before .before .before .before .before .before .before .before .before .before .before .before .before .before .before .before .before .before .before .before .before .args in puts-lists _ _ _ _ _ _ _ _ (a .lists .now) (a .succ .now) (a .pred .now) (a .i) _ _ _ _ (c .before .before .before .before .before .before .before .before .before .before .before .before .before .before .before .before .before .before .before .wide .ensures) (c .before .before .before .before .before .before .before .before .before .before .before .before .before .before .before .before .before .wide2 .ensures) (c .before .before .before .before .before .before .before .before .before .before .wide3 .ensures) (c .before .before .before .before .before .before .before .before .wide4 .ensures) (c .before .before .before .before .before .before .before .before .before .before .before .before .before .before .before .before .put-list .ensures) (c .before .before .before .before .before .before .before .put-list2 .ensures) (c .before .before .put-bytes .ensures)
+returns c =
+    let at-put-list2 : tie.After-put-list2 = search in
+    let at-wide4 : tie.After-wide4 = search in
+    let at-wide3 : tie.After-wide3 = search in
+    let at-put-list : tie.After-put-list = search in
+    let at-wide2 : tie.After-wide2 = search in
+    let at-wide : tie.After-wide = search in
+    let at-start : tie.Start = search ways in
+    let a = at-start .args in puts-lists _ _ _ _ _ _ _ _ (a .lists .now) (a .succ .now) (a .pred .now) (a .i) _ _ _ _ (at-wide .wide .ensures) (at-wide2 .wide2 .ensures) (at-wide3 .wide3 .ensures) (at-wide4 .wide4 .ensures) (at-put-list .put-list .ensures) (at-put-list2 .put-list2 .ensures) (c .before .before .put-bytes .ensures)
 
 pub put-lists-spec : {M : Type 1} → statement M
 put-lists-spec =

@@ -17,10 +17,12 @@ abbrev μ-loop : tie.MeasureT-loop
 μ-loop out₀ at lines stmts lists succ pred n r₀ i₀ out r i = n - i
 
 loop-holds : tie.Need-loop-holds Inv-loop μ-loop
-loop-holds c = let a = c .before .before .before .before .before .before .args in (omega arith, refl, below-start (nodeText (a .lines .now) (a .stmts .now) (a .lists .now) (a .succ .now) (a .pred .now)) _ _)
+loop-holds c =
+    let at-start : tie.Start Inv-loop μ-loop = search in
+    let a = at-start .args in (omega arith, refl, below-start (nodeText (a .lines .now) (a .stmts .now) (a .lists .now) (a .succ .now) (a .pred .now)) _ _)
 
 put-node-requires : tie.Need-put-node-requires Inv-loop μ-loop
-put-node-requires c κs = (c .before .loop-test .taken, c .before .before .before .before .before .before .before .before .before .pre)
+put-node-requires c κs = let at-start : tie.Start Inv-loop μ-loop = search in (c .before .loop-test .taken, at-start .pre)
 
 add-i : tie.Need-add-i Inv-loop μ-loop
 add-i c = search needs
@@ -29,13 +31,18 @@ loop-less : tie.Need-loop-less Inv-loop μ-loop
 loop-less c = search needs
 
 loop-again : tie.Need-loop-again Inv-loop μ-loop
-loop-again c = let a = c .before .before .before .before .before .before .before .before .before .before .before .before .args in let l = c .before .before .before .before .before .loop in (search needs, search needs, below-on (nodeText (a .lines .now) (a .stmts .now) (a .lists .now) (a .succ .now) (a .pred .now)) _ _ _ _ _ _ (l .i) (l .inv .2) (c .before .before .put-node .ensures))
+loop-again c =
+    let at-loop : tie.At-loop Inv-loop μ-loop = search in
+    let at-start : tie.Start Inv-loop μ-loop = search in
+    let a = at-start .args in let l = at-loop .loop in (search needs, search needs, below-on (nodeText (a .lines .now) (a .stmts .now) (a .lists .now) (a .succ .now) (a .pred .now)) _ _ _ _ _ _ (l .i) (l .inv .2) (c .before .before .put-node .ensures))
 
 same-length : tie.Need-same-length Inv-loop μ-loop
 same-length c = search needs
 
 returns : tie.Need-returns Inv-loop μ-loop
-returns c = let a = c .before .before .before .before .before .before .before .before .args in let l = c .before .loop in below-end (nodeText (a .lines .now) (a .stmts .now) (a .lists .now) (a .succ .now) (a .pred .now)) _ _ _ _ (l .i) (a .n) (l .inv .0) (c .loop-test .left) (l .inv .2)
+returns c =
+    let at-start : tie.Start Inv-loop μ-loop = search in
+    let a = at-start .args in let l = c .before .loop in below-end (nodeText (a .lines .now) (a .stmts .now) (a .lists .now) (a .succ .now) (a .pred .now)) _ _ _ _ (l .i) (a .n) (l .inv .0) (c .loop-test .left) (l .inv .2)
 
 pub put-nodes-spec : {M : Type 1} → statement M
 put-nodes-spec =

@@ -47,10 +47,10 @@ same-length c = search needs
 
 returns-2 : tie.Need-returns-2
 returns-2 c =
-    let s = c .before .before .before .before .before .before .before .before in
-    let k : s .args .i * 64 + 64 - s .args .i * 64 ≡ 64 = omega arith in
-    clear-return (s .args .stmts .now) (s .args .i) _ (s .args .sets .now) (c .before .before .zero64 .last .0) (c .before .before .before .before .if1 .left) k
-    (omega (arith, s .pre .2)) (c .before .before .zero64 .ensures)
+    let at-start : tie.Start = search in
+    let k : at-start .args .i * 64 + 64 - at-start .args .i * 64 ≡ 64 = omega arith in
+    clear-return (at-start .args .stmts .now) (at-start .args .i) _ (at-start .args .sets .now) (c .before .before .zero64 .last .0) (c .before .before .before .before .if1 .left) k
+    (omega (arith, at-start .pre .2)) (c .before .before .zero64 .ensures)
 
 pub clear-set-spec : {M : Type 1} → statement M
 clear-set-spec =

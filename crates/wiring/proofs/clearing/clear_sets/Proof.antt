@@ -29,9 +29,10 @@ loop-less c = search needs
 
 loop-again : tie.Need-loop-again Inv-loop μ-loop
 loop-again c =
-    let s = c .before .before .before .before .before .before .before .before in
-    let l = c .before .before .before .before .before .loop in
-    (omega arith, clear-more (s .args .stmts .now) (l .i) (s .args .sets .now) (l .sets) _ (l .inv .1) (c .before .before .clear-set .ensures))
+    let at-loop : tie.At-loop Inv-loop μ-loop = search in
+    let at-start : tie.Start Inv-loop μ-loop = search in
+    let l = at-loop .loop in
+    (omega arith, clear-more (at-start .args .stmts .now) (l .i) (at-start .args .sets .now) (l .sets) _ (l .inv .1) (c .before .before .clear-set .ensures))
 
 same-length : tie.Need-same-length Inv-loop μ-loop
 same-length c = c .before .loop .inv .1 .size

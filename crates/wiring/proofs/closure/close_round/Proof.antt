@@ -33,18 +33,19 @@ loop-less c = search needs
 
 loop-again : tie.Need-loop-again Inv-loop μ-loop
 loop-again c =
-    let s = c .before .before .before .before .before .before .before .before .before .before in
-    let l = c .before .before .before .before .before .before .loop in
-    (omega arith, rows-more (s .args .k) _ (l .i) (s .args .rows .now) (l .rows) _ (omega arith) (l .inv .1) (c .before .before .close-row .ensures))
+    let at-loop : tie.At-loop Inv-loop μ-loop = search in
+    let at-start : tie.Start Inv-loop μ-loop = search in
+    let l = at-loop .loop in
+    (omega arith, rows-more (at-start .args .k) _ (l .i) (at-start .args .rows .now) (l .rows) _ (omega arith) (l .inv .1) (c .before .before .close-row .ensures))
 
 same-length : tie.Need-same-length Inv-loop μ-loop
 same-length c = c .before .loop .inv .1 .size
 
 returns : tie.Need-returns Inv-loop μ-loop
 returns c =
-    let s = c .before .before .before .before .before in
+    let at-start : tie.Start Inv-loop μ-loop = search in
     let l = c .before .loop in
-    let e : l .i ≡ s .args .n = omega arith in
+    let e : l .i ≡ at-start .args .n = omega arith in
     rw (e, c .before .before .row-copy .ensures) at (l .inv .1)
 
 pub close-round-spec : {M : Type 1} → statement M

@@ -45,12 +45,14 @@ same-length-2 c = search needs
 
 returns-2 : tie.Need-returns-2
 returns-2 c =
-    let s = c .before .before .before .before .before .before .before .before .before in
-    let k : s .args .i * 64 + 64 - s .args .i * 64 ≡ 64 = omega arith in
-    let l : length (s .args .row .now) ≡ 64 = search needs in
-    let b = c .before .before .before .before .before .before .row-bit .ensures in
-    row-joined (s .args .k) (s .args .row .now) (s .args .i) _ (s .args .rows .now) (c .before .before .join .last .0)
-    (sym b ∙ c .before .before .before .before .before .if1 .left) l k (s .pre .1) (c .before .before .join .ensures)
+    let at-else1 : tie.Else1 = search in
+    let at-row-bit : tie.After-row-bit = search in
+    let at-start : tie.Start = search in
+    let k : at-start .args .i * 64 + 64 - at-start .args .i * 64 ≡ 64 = omega arith in
+    let l : length (at-start .args .row .now) ≡ 64 = search needs in
+    let b = at-row-bit .row-bit .ensures in
+    row-joined (at-start .args .k) (at-start .args .row .now) (at-start .args .i) _ (at-start .args .rows .now) (c .before .before .join .last .0)
+    (sym b ∙ at-else1 .if1 .left) l k (at-start .pre .1) (c .before .before .join .ensures)
 
 pub close-row-spec : {M : Type 1} → statement M
 close-row-spec =

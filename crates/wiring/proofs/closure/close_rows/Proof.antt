@@ -30,9 +30,10 @@ loop-less c = search needs
 
 loop-again : tie.Need-loop-again Inv-loop μ-loop
 loop-again c =
-    let s = c .before .before .before .before .before .before .before in
-    let l = c .before .before .before .before .before .loop in
-    (omega arith, closed-more (s .args .n) (l .k) _ (s .args .rows .now) (l .rows) _ (omega arith) refl (l .inv .1) (c .before .before .close-round .ensures))
+    let at-loop : tie.At-loop Inv-loop μ-loop = search in
+    let at-start : tie.Start Inv-loop μ-loop = search in
+    let l = at-loop .loop in
+    (omega arith, closed-more (at-start .args .n) (l .k) _ (at-start .args .rows .now) (l .rows) _ (omega arith) refl (l .inv .1) (c .before .before .close-round .ensures))
 
 same-length : tie.Need-same-length Inv-loop μ-loop
 same-length c = c .before .loop .inv .1 .size

@@ -13,16 +13,19 @@ slice-aggregate-members : tie.Need-slice-aggregate-members
 slice-aggregate-members c = search needs
 
 members-requires : tie.Need-members-requires
-members-requires c κs = (search needs, omega (arith, members-few (c .before .before .row-region .result), c .before .before .before .before .before .before .pre .4))
+members-requires c κs =
+    let at-start : tie.Start = search in
+    (search needs, omega (arith, members-few (c .before .before .row-region .result), at-start .pre .4))
 
 same-length : tie.Need-same-length
 same-length c = search needs
 
 returns : tie.Need-returns
 returns c =
-    let s = c .before .before .before .before .before .before .before .before .before in
+    let at-row-region : tie.After-row-region = search in
+    let at-start : tie.Start = search in
     let m = c .before .before .members .ensures in
-    (omega (arith, m .count, members-few (c .before .before .before .before .before .row-region .result), s .pre .4), row-listed (s .args .stmts .now) (s .args .rows .now) (s .args .n) (s .args .from) (c .before .before .before .before .before .row-region .result) _ (c .before .before .before .before .before .row-region .ensures) (m .list))
+    (omega (arith, m .count, members-few (at-row-region .row-region .result), at-start .pre .4), row-listed (at-start .args .stmts .now) (at-start .args .rows .now) (at-start .args .n) (at-start .args .from) (at-row-region .row-region .result) _ (at-row-region .row-region .ensures) (m .list))
 
 pub list-row-spec : {M : Type 1} → statement M
 list-row-spec =

@@ -19,7 +19,9 @@ zero64-requires : tie.Need-zero64-requires Inv-loop μ-loop
 zero64-requires c κs = search needs
 
 loop-holds : tie.Need-loop-holds Inv-loop μ-loop
-loop-holds c = (omega arith, row-none _ _ (c .before .before .zero64 .ensures) (c .before .before .before .before .before .before .pre .0))
+loop-holds c =
+    let at-start : tie.Start Inv-loop μ-loop = search in
+    (omega arith, row-none _ _ (c .before .before .zero64 .ensures) (at-start .pre .0))
 
 mul-wide : tie.Need-mul-wide Inv-loop μ-loop
 mul-wide c = search needs
@@ -32,9 +34,9 @@ wide-requires c κs = search needs
 
 insert-requires : tie.Need-insert-requires Inv-loop μ-loop
 insert-requires c κs =
-    let s = c .before .before .before .before .before .before .before .before .before .before .before in
+    let at-start : tie.Start Inv-loop μ-loop = search in
     let l = c .before .before .before .before .loop in
-    let h = row-id (s .args .list .now) (s .args .count) (l .k) (s .pre .2) (c .before .before .before .loop-test .taken) (s .pre .1) in
+    let h = row-id (at-start .args .list .now) (at-start .args .count) (l .k) (at-start .pre .2) (c .before .before .before .loop-test .taken) (at-start .pre .1) in
     omega (arith, l .inv .1 .size, h, c .wide .ensures)
 
 add-k : tie.Need-add-k Inv-loop μ-loop
@@ -45,21 +47,23 @@ loop-less c = search needs
 
 loop-again : tie.Need-loop-again Inv-loop μ-loop
 loop-again c =
-    let s = c .before .before .before .before .before .before .before .before .before .before .before .before .before .before in
-    let l = c .before .before .before .before .before .before .before .loop in
+    let in-loop : tie.In-loop Inv-loop μ-loop = search in
+    let at-loop : tie.At-loop Inv-loop μ-loop = search in
+    let at-start : tie.Start Inv-loop μ-loop = search in
+    let l = at-loop .loop in
     let w = c .before .before .before .wide in
-    let h = row-id (s .args .list .now) (s .args .count) (l .k) (s .pre .2) (c .before .before .before .before .before .before .loop-test .taken) (s .pre .1) in
-    let m = row-more (l .row) (s .args .list .now) (l .k) (w .result) (omega (arith, s .pre .1)) (w .ensures) (omega (arith, h, w .ensures)) (l .inv .1) in
+    let h = row-id (at-start .args .list .now) (at-start .args .count) (l .k) (at-start .pre .2) (in-loop .loop-test .taken) (at-start .pre .1) in
+    let m = row-more (l .row) (at-start .args .list .now) (l .k) (w .result) (omega (arith, at-start .pre .1)) (w .ensures) (omega (arith, h, w .ensures)) (l .inv .1) in
     (omega arith, rw (sym (c .before .before .insert .ensures)) at m)
 
 same-length : tie.Need-same-length Inv-loop μ-loop
-same-length c = c .before .loop .inv .1 .size ∙ sym (c .before .before .before .before .before .before .before .before .pre .0)
+same-length c = let at-start : tie.Start Inv-loop μ-loop = search in c .before .loop .inv .1 .size ∙ sym (at-start .pre .0)
 
 returns : tie.Need-returns Inv-loop μ-loop
 returns c =
-    let s = c .before .before .before .before .before .before .before .before in
+    let at-start : tie.Start Inv-loop μ-loop = search in
     let l = c .before .loop in
-    let e : l .k ≡ s .args .count = omega arith in
+    let e : l .k ≡ at-start .args .count = omega arith in
     rw e at (l .inv .1)
 
 pub put-row-spec : {M : Type 1} → statement M

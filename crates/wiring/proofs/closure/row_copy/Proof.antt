@@ -38,12 +38,12 @@ join-requires c κs = search needs
 
 returns : tie.Need-returns
 returns c =
-    let s = c .before .before .before .before .before .before in
-    let rows = s .args .rows .now in
-    let i = s .args .i in
+    let at-start : tie.Start = search in
+    let rows = at-start .args .rows .now in
+    let i = at-start .args .i in
     let k : i * 64 + 64 - i * 64 ≡ 64 = omega arith in
     let e = row-part rows i _ k in
-    row-copied _ _ _ (c .before .before .before .before .no-words .ensures) (ap length e ∙ row-length rows i (s .pre .1)) (c .before .join .ensures) ∙ e
+    row-copied _ _ _ (c .before .before .before .before .no-words .ensures) (ap length e ∙ row-length rows i (at-start .pre .1)) (c .before .join .ensures) ∙ e
 
 pub row-copy-spec : {M : Type 1} → statement M
 row-copy-spec =

@@ -27,9 +27,10 @@ shared-slice-read-if1 c = search needs
 
 returns : tie.Need-returns
 returns c =
-    let s = c .before .before .before .before .before .before .before .before in
-    let a = s .args in
-    return-reached (a .from) (omega (arith, s .pre .0, s .pre .3)) (c .before .before .before .before .before .no-words .result) (c .before .before .before .before .before .no-words .ensures) (a .stmts .now) (a .rows .now) (a .n) (s .pre .3) _ (c .before .before .before .insert .ensures) (c .if1 .taken)
+    let at-no-words : tie.After-no-words = search in
+    let at-start : tie.Start = search in
+    let a = at-start .args in
+    return-reached (a .from) (omega (arith, at-start .pre .0, at-start .pre .3)) (at-no-words .no-words .result) (at-no-words .no-words .ensures) (a .stmts .now) (a .rows .now) (a .n) (at-start .pre .3) _ (c .before .before .before .insert .ensures) (c .if1 .taken)
 
 mul-start : tie.Need-mul-start
 mul-start c = search needs
@@ -57,10 +58,12 @@ join-requires c κs = search needs
 
 returns-2 : tie.Need-returns-2
 returns-2 c =
-    let s = c .before .before .before .before .before .before .before .before .before .before .before .before in
-    let a = s .args in
+    let at-insert : tie.After-insert = search in
+    let at-no-words : tie.After-no-words = search in
+    let at-start : tie.Start = search in
+    let a = at-start .args in
     let k : a .from * 64 + 64 - a .from * 64 ≡ 64 = omega arith in
-    row-reached (a .from) (omega (arith, s .pre .0, s .pre .3)) (c .before .before .before .before .before .before .before .before .before .no-words .result) (c .before .before .before .before .before .before .before .before .before .no-words .ensures) (a .stmts .now) (a .rows .now) (a .n) (s .pre .3) _ _ _ (c .before .before .before .before .before .before .before .insert .ensures) k (omega (arith, s .pre .2, s .pre .3)) (c .before .join .ensures) (c .before .before .before .before .if1 .left)
+    row-reached (a .from) (omega (arith, at-start .pre .0, at-start .pre .3)) (at-no-words .no-words .result) (at-no-words .no-words .ensures) (a .stmts .now) (a .rows .now) (a .n) (at-start .pre .3) _ _ _ (at-insert .insert .ensures) k (omega (arith, at-start .pre .2, at-start .pre .3)) (c .before .join .ensures) (c .before .before .before .before .if1 .left)
 
 pub row-region-spec : {M : Type 1} → statement M
 row-region-spec =

@@ -14,7 +14,10 @@ same-length : tie.Need-same-length
 same-length c = search needs
 
 returns : tie.Need-returns
-returns c = entries-both _ _ _ _ _ _ (c .before .before .before .before .before .before .before .before .before .before .pre .2) (c .before .before .before .before .before .before .store-first-nodes .ensures) (c .before .before .fill-empty-lines .ensures)
+returns c =
+    let at-store-first-nodes : tie.After-store-first-nodes = search in
+    let at-start : tie.Start = search in
+    entries-both _ _ _ _ _ _ (at-start .pre .2) (at-store-first-nodes .store-first-nodes .ensures) (c .before .before .fill-empty-lines .ensures)
 
 pub compute-line-after-spec : {M : Type 1} → statement M
 compute-line-after-spec =

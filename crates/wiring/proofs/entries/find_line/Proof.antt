@@ -42,10 +42,11 @@ loop-less c = search needs
 
 loop-again : tie.Need-loop-again Inv-loop μ-loop
 loop-again c =
+    let at-start : tie.Start Inv-loop μ-loop = search in
     let l = c .before .before .before .before .loop in (
       search needs,
       search needs,
-      λ a. narrow-low _ _ _ (c .before .before .before .before .before .pre) (l .low) (l .high) (l .low + (l .high - l .low) / 2) (omega arith) (omega arith) (omega arith) a (c .if2 .taken) (l .inv .2 a),
+      λ a. narrow-low _ _ _ (at-start .pre) (l .low) (l .high) (l .low + (l .high - l .low) / 2) (omega arith) (omega arith) (omega arith) a (c .if2 .taken) (l .inv .2 a),
     )
 
 loop-less-2 : tie.Need-loop-less-2 Inv-loop μ-loop
@@ -53,10 +54,11 @@ loop-less-2 c = search needs
 
 loop-again-2 : tie.Need-loop-again-2 Inv-loop μ-loop
 loop-again-2 c =
+    let at-start : tie.Start Inv-loop μ-loop = search in
     let l = c .before .before .before .before .loop in (
       search needs,
       search needs,
-      λ a. narrow-high _ _ _ (c .before .before .before .before .before .pre) (l .low) (l .high) (l .low + (l .high - l .low) / 2) (omega arith) (omega arith) (omega arith) a (c .before .if1 .left) (c .if2 .left) (l .inv .2 a),
+      λ a. narrow-high _ _ _ (at-start .pre) (l .low) (l .high) (l .low + (l .high - l .low) / 2) (omega arith) (omega arith) (omega arith) a (c .before .if1 .left) (c .if2 .left) (l .inv .2 a),
     )
 
 returns-2 : tie.Need-returns-2 Inv-loop μ-loop

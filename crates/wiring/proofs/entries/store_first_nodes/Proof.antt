@@ -53,12 +53,15 @@ loop-less c = search needs
 
 loop-again : tie.Need-loop-again Inv-loop μ-loop
 loop-again c =
-    let l = c .before .before .before .before .before .before .before .before .loop in (
+    let at-wide : tie.After-wide Inv-loop μ-loop = search in
+    let in-loop : tie.In-loop Inv-loop μ-loop = search in
+    let at-loop : tie.At-loop Inv-loop μ-loop = search in
+    let l = at-loop .loop in (
       search needs,
       c .before .before .store .kept .0 ∙ l .inv .1,
       λ rs rest e k.
           c .before .before .store .ensures
-          ∙ first-down rs _ rest _ _ (l .i) _ _ (c .before .before .before .before .before .before .before .loop-test .taken) (omega (arith, l .inv .0)) e (c .before .before .before .before .before .wide .ensures) (c .before .before .before .narrow .ensures) (l .inv .2 rs rest e k),
+          ∙ first-down rs _ rest _ _ (l .i) _ _ (in-loop .loop-test .taken) (omega (arith, l .inv .0)) e (at-wide .wide .ensures) (c .before .before .before .narrow .ensures) (l .inv .2 rs rest e k),
     )
 
 same-length : tie.Need-same-length Inv-loop μ-loop

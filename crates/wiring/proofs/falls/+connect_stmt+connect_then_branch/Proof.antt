@@ -88,7 +88,8 @@ connect-stmt-same-length t c = search needs
 
 connect-stmt-returns : (t : ℕ) → connect-stmt-lts.Need-returns (stmt-claims t) (connect-stmt-at t) connect-stmt.Post
 connect-stmt-returns t c =
-    let a = c .before .before .before .before .before .before .before .before .before .before .args in
+    let at-start : connect-stmt-lts.Start (stmt-claims t) (connect-stmt-at t) connect-stmt.Post = search in
+    let a = at-start .args in
     stmt-leaf (a .lines .now) (a .entries .now) (a .stmts .now) (a .depth) (a .i) (a .end) (a .next) (a .falls .now) _ (c .before .before .before .before .if1 .taken) (c .before .before .put-row .ensures)
 
 connect-stmt-add-wide : (t : ℕ) → connect-stmt-lts.Need-add-wide (stmt-claims t) (connect-stmt-at t) connect-stmt.Post
@@ -111,12 +112,15 @@ connect-stmt-out-of-order-requires t c κs = search needs
 
 connect-stmt-returns-2 : (t : ℕ) → connect-stmt-lts.Need-returns-2 (stmt-claims t) (connect-stmt-at t) connect-stmt.Post
 connect-stmt-returns-2 t c =
-    let a = c .before .before .before .before .before .before .before .before .before .before .args in
+    let at-start : connect-stmt-lts.Start (stmt-claims t) (connect-stmt-at t) connect-stmt.Post = search in
+    let a = at-start .args in
     stmt-false (a .lines .now) (a .entries .now) (a .stmts .now) (a .depth) (a .i) (a .end) (a .next) (a .falls .now) (c .before .before .before .before .if1 .left) _ (c .before .before .wide .ensures) _
     (c .before .out-of-order .ensures .1 (c .if2 .taken))
 
 connect-stmt-connect-row-requires : (t : ℕ) → connect-stmt-lts.Need-connect-row-requires (stmt-claims t) (connect-stmt-at t) connect-stmt.Post
-connect-stmt-connect-row-requires t c κs = let io = c .before .before .out-of-order .ensures .0 (c .before .if2 .left) in omega (arith, io, c .before .before .before .before .before .before .before .before .before .before .before .pre)
+connect-stmt-connect-row-requires t c κs =
+    let at-start : connect-stmt-lts.Start (stmt-claims t) (connect-stmt-at t) connect-stmt.Post = search in
+    let io = c .before .before .out-of-order .ensures .0 (c .before .if2 .left) in omega (arith, io, at-start .pre)
 
 connect-stmt-sub-connect-then-branch : (t : ℕ) → connect-stmt-lts.Need-sub-connect-then-branch (stmt-claims t) (connect-stmt-at t) connect-stmt.Post
 connect-stmt-sub-connect-then-branch t c = omega (arith, c .before .before .before .before .before .before .out-of-order .ensures .0 (c .before .before .before .before .before .if2 .left))
@@ -146,13 +150,21 @@ connect-stmt-same-length-2 t c = search needs
 
 connect-stmt-returns-3 : (t : ℕ) → connect-stmt-lts.Need-returns-3 (stmt-claims t) (connect-stmt-at t) connect-stmt.Post
 connect-stmt-returns-3 t c =
-    let a = c .before .before .before .before .before .before .before .before .before .before .before .before .before .before .before .before .before .before .before .args in
-    let io = c .before .before .before .before .before .before .before .before .before .before .out-of-order .ensures .0 (c .before .before .before .before .before .before .before .before .before .if2 .left) in
-    stmt-first (a .lines .now) (a .entries .now) (a .stmts .now) (a .depth) (a .i) (a .end) (a .next) (a .falls .now) (c .before .before .before .before .before .before .before .before .before .before .before .before .before .if1 .left) _ (c .before .before .before .before .before .before .before .before .before .before .before .wide .ensures) _ _ _ (io .0)
+    let at-else2 : connect-stmt-lts.Else2 (stmt-claims t) (connect-stmt-at t) connect-stmt.Post = search in
+    let at-out-of-order : connect-stmt-lts.After-out-of-order (stmt-claims t) (connect-stmt-at t) connect-stmt.Post = search in
+    let at-wide : connect-stmt-lts.After-wide (stmt-claims t) (connect-stmt-at t) connect-stmt.Post = search in
+    let at-else1 : connect-stmt-lts.Else1 (stmt-claims t) (connect-stmt-at t) connect-stmt.Post = search in
+    let at-start : connect-stmt-lts.Start (stmt-claims t) (connect-stmt-at t) connect-stmt.Post = search in
+    let a = at-start .args in
+    let io = at-out-of-order .out-of-order .ensures .0 (at-else2 .if2 .left) in
+    stmt-first (a .lines .now) (a .entries .now) (a .stmts .now) (a .depth) (a .i) (a .end) (a .next) (a .falls .now) (at-else1 .if1 .left) _ (at-wide .wide .ensures) _ _ _ (io .0)
     (c .before .before .before .connect-then-branch .ensures) (c .if3 .taken)
 
 connect-stmt-sub-connect-then-branch-2 : (t : ℕ) → connect-stmt-lts.Need-sub-connect-then-branch-2 (stmt-claims t) (connect-stmt-at t) connect-stmt.Post
-connect-stmt-sub-connect-then-branch-2 t c = omega (arith, c .before .before .before .before .before .before .before .before .before .before .before .out-of-order .ensures .0 (c .before .before .before .before .before .before .before .before .before .before .if2 .left))
+connect-stmt-sub-connect-then-branch-2 t c =
+    let at-else2 : connect-stmt-lts.Else2 (stmt-claims t) (connect-stmt-at t) connect-stmt.Post = search in
+    let at-out-of-order : connect-stmt-lts.After-out-of-order (stmt-claims t) (connect-stmt-at t) connect-stmt.Post = search in
+    omega (arith, at-out-of-order .out-of-order .ensures .0 (at-else2 .if2 .left))
 
 connect-stmt-connect-then-branch-requires-2 :
     (t : ℕ) → connect-stmt-lts.Need-connect-then-branch-requires-2 (
@@ -174,12 +186,24 @@ connect-stmt-connect-then-branch-requires-2 t c κs =
 connect-stmt-same-length-3 : (t : ℕ) → connect-stmt-lts.Need-same-length-3 (stmt-claims t) (connect-stmt-at t) connect-stmt.Post
 connect-stmt-same-length-3 t c = search needs
 
+-- Ways back from a place to an earlier one. `search` finds each by its type.
+abbrev connect-stmt-start-of-out-of-order : (t : ℕ) → connect-stmt-lts.After-out-of-order (stmt-claims t) (connect-stmt-at t) connect-stmt.Post → connect-stmt-lts.Start (stmt-claims t) (connect-stmt-at t) connect-stmt.Post
+connect-stmt-start-of-out-of-order t c = search
+
+ruleset ways = (connect-stmt-start-of-out-of-order)
+
 connect-stmt-returns-4 : (t : ℕ) → connect-stmt-lts.Need-returns-4 (stmt-claims t) (connect-stmt-at t) connect-stmt.Post
 connect-stmt-returns-4 t c =
-    let a = c .before .before .before .before .before .before .before .before .before .before .before .before .before .before .before .before .before .before .before .before .before .before .before .args in
-    let io = c .before .before .before .before .before .before .before .before .before .before .before .before .before .before .out-of-order .ensures .0 (c .before .before .before .before .before .before .before .before .before .before .before .before .before .if2 .left) in
-    stmt-both (a .lines .now) (a .entries .now) (a .stmts .now) (a .depth) (a .i) (a .end) (a .next) (a .falls .now) (c .before .before .before .before .before .before .before .before .before .before .before .before .before .before .before .before .before .if1 .left) _ (c .before .before .before .before .before .before .before .before .before .before .before .before .before .before .before .wide .ensures) _ _ _ _ _ (io .0)
-    (c .before .before .before .before .before .before .before .before .before .before .before .connect-row .ensures) (c .before .before .before .before .before .before .before .connect-then-branch .ensures) (c .before .before .connect-then-branch2 .ensures)
+    let at-connect-row : connect-stmt-lts.After-connect-row (stmt-claims t) (connect-stmt-at t) connect-stmt.Post = search in
+    let at-else2 : connect-stmt-lts.Else2 (stmt-claims t) (connect-stmt-at t) connect-stmt.Post = search in
+    let at-out-of-order : connect-stmt-lts.After-out-of-order (stmt-claims t) (connect-stmt-at t) connect-stmt.Post = search in
+    let at-wide : connect-stmt-lts.After-wide (stmt-claims t) (connect-stmt-at t) connect-stmt.Post = search in
+    let at-else1 : connect-stmt-lts.Else1 (stmt-claims t) (connect-stmt-at t) connect-stmt.Post = search in
+    let at-start : connect-stmt-lts.Start (stmt-claims t) (connect-stmt-at t) connect-stmt.Post = search ways in
+    let a = at-start .args in
+    let io = at-out-of-order .out-of-order .ensures .0 (at-else2 .if2 .left) in
+    stmt-both (a .lines .now) (a .entries .now) (a .stmts .now) (a .depth) (a .i) (a .end) (a .next) (a .falls .now) (at-else1 .if1 .left) _ (at-wide .wide .ensures) _ _ _ _ _ (io .0)
+    (at-connect-row .connect-row .ensures) (c .before .before .before .before .before .before .before .connect-then-branch .ensures) (c .before .before .connect-then-branch2 .ensures)
 
 abbrev connect-then-branch-Inv-loop : connect-then-branch-lts.InvT-loop
 connect-then-branch-Inv-loop lines entries stmts falls₀ depth from end next i₀ falls i =

@@ -43,7 +43,8 @@ same-length c = c .before .before .before .before .loop .inv .2
 
 returns : tie.Need-returns Inv-loop μ-loop
 returns c =
-    let a = c .before .before .before .before .before .before .before .before .before .args in
+    let at-start : tie.Start Inv-loop μ-loop = search in
+    let a = at-start .args in
     let l = c .before .before .before .before .loop in
     λ ls lh eh sh.
     let r = ahead-down (a .lines .now) (a .entries .now) (a .stmts .now) (a .falls .now) (definition.entries ls) _ (entry-table ls _ _ _ lh eh) (l .falls) (l .falls) (l .l) (l .end) (l .next) _ true
@@ -51,18 +52,27 @@ returns c =
     absurd (omega (arith, r .0, c .if1 .taken))
 
 connect-then-branch-requires : tie.Need-connect-then-branch-requires Inv-loop μ-loop
-connect-then-branch-requires c κs = omega (arith, c .before .if1 .left, c .before .before .before .before .before .before .before .before .before .before .pre, c .before .before .before .before .before .loop .inv .1, c .before .before .before .before .before .loop .inv .2)
+connect-then-branch-requires c κs =
+    let at-loop : tie.At-loop Inv-loop μ-loop = search in
+    let at-start : tie.Start Inv-loop μ-loop = search in
+    omega (arith, c .before .if1 .left, at-start .pre, at-loop .loop .inv .1, at-loop .loop .inv .2)
 
 same-length-2 : tie.Need-same-length-2 Inv-loop μ-loop
-same-length-2 c = c .before .before .before .connect-then-branch .kept .1 .1 .1 .0 ∙ c .before .before .before .before .before .before .before .before .before .loop .inv .2
+same-length-2 c =
+    let at-loop : tie.At-loop Inv-loop μ-loop = search in
+    c .before .before .before .connect-then-branch .kept .1 .1 .1 .0 ∙ at-loop .loop .inv .2
 
 returns-2 : tie.Need-returns-2 Inv-loop μ-loop
 returns-2 c =
-    let a = c .before .before .before .before .before .before .before .before .before .before .before .before .before .before .args in
-    let l = c .before .before .before .before .before .before .before .before .before .loop in
+    let at-start-of : tie.After-start-of Inv-loop μ-loop = search in
+    let in-loop : tie.In-loop Inv-loop μ-loop = search in
+    let at-loop : tie.At-loop Inv-loop μ-loop = search in
+    let at-start : tie.Start Inv-loop μ-loop = search in
+    let a = at-start .args in
+    let l = at-loop .loop in
     λ ls lh eh sh.
     let r = ahead-down (a .lines .now) (a .entries .now) (a .stmts .now) (a .falls .now) (definition.entries ls) _ (entry-table ls _ _ _ lh eh) (l .falls) _ (l .l) (l .end) (l .next) _ _
-    (c .before .before .before .before .before .before .before .before .loop-test .taken) (c .before .before .before .before .before .before .start-of .ensures) (l .inv .3 ls lh eh sh) (λ h. c .before .before .before .connect-then-branch .ensures) in
+    (in-loop .loop-test .taken) (at-start-of .start-of .ensures) (l .inv .3 ls lh eh sh) (λ h. c .before .before .before .connect-then-branch .ensures) in
     not-both (c .before .before .before .connect-then-branch .result) (r .1) (c .if2 .taken)
 
 loop-less : tie.Need-loop-less Inv-loop μ-loop
@@ -70,14 +80,19 @@ loop-less c = search needs
 
 loop-again : tie.Need-loop-again Inv-loop μ-loop
 loop-again c =
-    let a = c .before .before .before .before .before .before .before .before .before .before .before .before .before .before .args in
-    let l = c .before .before .before .before .before .before .before .before .before .loop in (
+    let at-else1 : tie.Else1 Inv-loop μ-loop = search in
+    let at-start-of : tie.After-start-of Inv-loop μ-loop = search in
+    let in-loop : tie.In-loop Inv-loop μ-loop = search in
+    let at-loop : tie.At-loop Inv-loop μ-loop = search in
+    let at-start : tie.Start Inv-loop μ-loop = search in
+    let a = at-start .args in
+    let l = at-loop .loop in (
       omega (arith, l .inv .0),
-      omega (arith, l .inv .1, c .before .before .before .before .before .if1 .left),
+      omega (arith, l .inv .1, at-else1 .if1 .left),
       c .before .before .before .connect-then-branch .kept .1 .1 .1 .0 ∙ l .inv .2,
       λ ls lh eh sh.
           ahead-down (a .lines .now) (a .entries .now) (a .stmts .now) (a .falls .now) (definition.entries ls) _ (entry-table ls _ _ _ lh eh) (l .falls) _ (l .l) (l .end) (l .next) _ _
-          (c .before .before .before .before .before .before .before .before .loop-test .taken) (c .before .before .before .before .before .before .start-of .ensures) (l .inv .3 ls lh eh sh) (λ h. c .before .before .before .connect-then-branch .ensures) .2,
+          (in-loop .loop-test .taken) (at-start-of .start-of .ensures) (l .inv .3 ls lh eh sh) (λ h. c .before .before .before .connect-then-branch .ensures) .2,
     )
 
 same-length-3 : tie.Need-same-length-3 Inv-loop μ-loop

@@ -10,13 +10,13 @@ slice-aggregate-connect-from-last : tie.Need-slice-aggregate-connect-from-last
 slice-aggregate-connect-from-last c = simp length-take (omega arith)
 
 connect-from-last-requires : tie.Need-connect-from-last-requires
-connect-from-last-requires c κs = let p = c .before .before .before .before .before .before .pre in simp length-take ((omega (arith, p), p .0 .2), p .1)
+connect-from-last-requires c κs = let at-start : tie.Start = search in let p = at-start .pre in simp length-take ((omega (arith, p), p .0 .2), p .1)
 
 same-length : tie.Need-same-length
 same-length c = search needs
 
 returns : tie.Need-returns
-returns c = lines-connected _ _ _ _ _ _ _ _ (c .before .before .before .before .before .before .before .before .before .pre .1 .1) (c .before .before .connect-from-last .ensures)
+returns c = let at-start : tie.Start = search in lines-connected _ _ _ _ _ _ _ _ (at-start .pre .1 .1) (c .before .before .connect-from-last .ensures)
 
 pub connect-lines-spec : {M : Type 1} → statement M
 connect-lines-spec =

@@ -60,7 +60,9 @@ same-length : tie.Need-same-length
 same-length c = search needs
 
 returns : tie.Need-returns
-returns c = λ es et f a g b r em ee. c .before .before .put-row .ensures ∙ row-both _ _ _ _ _ _ _ _ _ _ (c .before .before .before .before .before .before .before .branch-target .ensures) (c .before .before .before .before .branch-target2 .ensures) es et f a g b r em ee
+returns c =
+    let at-branch-target : tie.After-branch-target = search in
+    λ es et f a g b r em ee. c .before .before .put-row .ensures ∙ row-both _ _ _ _ _ _ _ _ _ _ (at-branch-target .branch-target .ensures) (c .before .before .before .before .branch-target2 .ensures) es et f a g b r em ee
 
 pub connect-row-spec : {M : Type 1} → statement M
 connect-row-spec =

@@ -21,12 +21,12 @@ loop-holds c = (omega arith, refl, pass-none _ _ _ _ _ _ _ _ _ _ _)
 
 fill-row-requires : tie.Need-fill-row-requires Inv-loop μ-loop
 fill-row-requires c κs =
-    let s = c .before .before .before .before .before .before .before .before .before .before .before .before in
-    let a = s .args in
+    let at-start : tie.Start Inv-loop μ-loop = search in
+    let a = at-start .args in
     let l = c .before .before .before .loop in
     let r =
     pass-ready (a .stmts .now) (a .args .now) (a .entries .now) (a .falls .now) (a .links .now) (a .frames .now) (a .dispatched .now) (a .lines) (a .n) (a .d) (a .nexts)
-    (l .i) (length (a .part .now)) (l .args) (c .before .before .loop-test .taken) (s .pre) (l .inv .2) in
+    (l .i) (length (a .part .now)) (l .args) (c .before .before .loop-test .taken) (at-start .pre) (l .inv .2) in
     rw (sym (l .inv .1)) at r
 
 add-i : tie.Need-add-i Inv-loop μ-loop
@@ -37,13 +37,16 @@ loop-less c = search needs
 
 loop-again : tie.Need-loop-again Inv-loop μ-loop
 loop-again c =
-    let a = c .before .before .before .before .before .before .before .before .before .before .before .before .before .before .before .before .before .args in
-    let l = c .before .before .before .before .before .before .before .before .loop in
+    let in-loop : tie.In-loop Inv-loop μ-loop = search in
+    let at-loop : tie.At-loop Inv-loop μ-loop = search in
+    let at-start : tie.Start Inv-loop μ-loop = search in
+    let a = at-start .args in
+    let l = at-loop .loop in
     let t = c .before .before .before .before .fill-row in (
       omega arith,
       t .kept .1 .1 .1 .1 .1 .1 .1 .1 .1 .1 .1 .0 ∙ l .inv .1,
       pass-more (a .stmts .now) (a .args .now) (a .entries .now) (a .falls .now) (a .links .now) (a .frames .now) (a .dispatched .now) (a .lines) (a .n) (a .d) (a .nexts)
-          (l .i) (l .args) _ (c .before .before .before .before .before .before .before .loop-test .taken) (l .inv .2) (t .ensures),
+          (l .i) (l .args) _ (in-loop .loop-test .taken) (l .inv .2) (t .ensures),
     )
 
 same-length : tie.Need-same-length Inv-loop μ-loop
@@ -54,8 +57,9 @@ same-length-2 c = c .before .loop .inv .1
 
 returns : tie.Need-returns Inv-loop μ-loop
 returns c =
+    let at-start : tie.Start Inv-loop μ-loop = search in
     let l = c .before .loop in
-    let e : l .i ≡ c .before .before .before .before .before .before .before .before .before .before .args .n = omega arith in
+    let e : l .i ≡ at-start .args .n = omega arith in
     rw e at (l .inv .2)
 
 pub fill-pass-spec : {M : Type 1} → statement M

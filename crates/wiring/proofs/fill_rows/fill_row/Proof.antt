@@ -26,14 +26,16 @@ in-pass-requires c κs = search needs
 returns : tie.Need-returns
 unfolding passes
 returns c =
-    let a = c .before .before .before .before .before .before .before .before .before .before .before .args in
+    let at-start : tie.Start = search in
+    let a = at-start .args in
     row-left (a .stmts .now) (a .args .now) (a .entries .now) (a .falls .now) (a .links .now) (a .frames .now) (a .dispatched .now) (a .lines) (a .d) (a .i) (a .nexts)
     (sym (c .before .in-pass .ensures) ∙ not-true _ (c .if1 .taken))
 
 skip-list-requires : tie.Need-skip-list-requires
 unfolding passes
 skip-list-requires c κs =
-    c .before .before .before .before .before .before .before .before .before .before .before .before .before .pre .skips (sym (c .before .before .before .in-pass .ensures) ∙ not-false _ (c .before .before .if1 .left))
+    let at-start : tie.Start = search in
+    at-start .pre .skips (sym (c .before .before .before .in-pass .ensures) ∙ not-false _ (c .before .before .if1 .left))
 
 mul-start : tie.Need-mul-start
 mul-start c = search needs
@@ -53,17 +55,25 @@ part-put-row-start c = search needs
 part-put-row-end : tie.Need-part-put-row-end
 part-put-row-end c = search needs
 
+-- Ways back from a place to an earlier one. `search` finds each by its type.
+abbrev start-of-in-pass : tie.After-in-pass → tie.Start
+start-of-in-pass c = search
+
+ruleset ways = (start-of-in-pass)
+
 put-row-requires : tie.Need-put-row-requires
 unfolding passes
 put-row-requires c κs =
-    let s = c .before .before .before .before .before .before .before .before .before .before .before .before .before .before .before .before .before .before in
-    let a = s .args in
+    let at-else1 : tie.Else1 = search in
+    let at-in-pass : tie.After-in-pass = search in
+    let at-start : tie.Start = search ways in
+    let a = at-start .args in
     let k : a .i * 64 + 64 - a .i * 64 ≡ 64 = omega arith in
-    let ready = s .pre .skips (sym (c .before .before .before .before .before .before .before .before .in-pass .ensures) ∙ not-false _ (c .before .before .before .before .before .before .before .if1 .left)) in
+    let ready = at-start .pre .skips (sym (at-in-pass .in-pass .ensures) ∙ not-false _ (at-else1 .if1 .left)) in
     let f =
     skip-fits (a .stmts .now) (a .args .now) (a .entries .now) (a .falls .now) (a .links .now) (a .frames .now) (a .dispatched .now) (a .lines) (a .d) (a .i)
     (a .part .now) _ _ ready (c .before .before .before .before .skip-list .ensures) in
-    (ap length (row-part (a .args .now) (a .i) _ k) ∙ row-length (a .args .now) (a .i) (s .pre .fits), f .0, f .1)
+    (ap length (row-part (a .args .now) (a .i) _ k) ∙ row-length (a .args .now) (a .i) (at-start .pre .fits), f .0, f .1)
 
 same-length : tie.Need-same-length
 same-length c = search needs
@@ -74,11 +84,14 @@ same-length-2 c = search needs
 returns-2 : tie.Need-returns-2
 unfolding passes
 returns-2 c =
-    let s = c .before .before .before .before .before .before .before .before .before .before .before .before .before .before .before .before .before .before .before .before .before in
-    let a = s .args in
+    let at-skip-list : tie.After-skip-list = search in
+    let at-else1 : tie.Else1 = search in
+    let at-in-pass : tie.After-in-pass = search in
+    let at-start : tie.Start = search ways in
+    let a = at-start .args in
     let k : a .i * 64 + 64 - a .i * 64 ≡ 64 = omega arith in
     row-filled (a .stmts .now) (a .args .now) (a .entries .now) (a .falls .now) (a .links .now) (a .frames .now) (a .dispatched .now) (a .lines) (a .d) (a .i) (a .nexts)
-    (a .part .now) _ _ _ _ (sym (c .before .before .before .before .before .before .before .before .before .before .before .in-pass .ensures) ∙ not-false _ (c .before .before .before .before .before .before .before .before .before .before .if1 .left)) k (s .pre .fits) (c .before .before .before .before .before .before .before .skip-list .ensures) (c .before .before .put-row .ensures)
+    (a .part .now) _ _ _ _ (sym (at-in-pass .in-pass .ensures) ∙ not-false _ (at-else1 .if1 .left)) k (at-start .pre .fits) (at-skip-list .skip-list .ensures) (c .before .before .put-row .ensures)
 
 pub fill-row-spec : {M : Type 1} → statement M
 fill-row-spec =

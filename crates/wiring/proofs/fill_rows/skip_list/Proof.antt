@@ -17,8 +17,8 @@ shared-slice-read-word c = search needs
 
 returns : tie.Need-returns
 returns c =
-    let s = c .before .before .before .before .before .before .before .before .before .before in
-    λ L ks n P R K l h. skip-return (wire L) (s .args .stmts .now) (s .args .falls .now) (s .args .links .now) n (s .args .i) R h (s .args .part .now) (c .if1 .taken)
+    let at-start : tie.Start = search in
+    λ L ks n P R K l h. skip-return (wire L) (at-start .args .stmts .now) (at-start .args .falls .now) (at-start .args .links .now) n (at-start .args .i) R h (at-start .args .part .now) (c .if1 .taken)
 
 is-call-requires : tie.Need-is-call-requires
 is-call-requires c κs = search needs
@@ -31,9 +31,10 @@ same-length c = search needs
 
 returns-2 : tie.Need-returns-2
 returns-2 c =
-    let s = c .before .before .before .before .before .before .before .before .before .before .before .before .before .before .before .before in
+    let at-is-call : tie.After-is-call = search in
+    let at-start : tie.Start = search in
     λ L ks n P R K l h.
-    skip-call (wire L) (s .args .stmts .now) (s .args .falls .now) (s .args .links .now) n (s .args .i) R h (s .args .part .now) _ _ (sym (c .before .before .before .before .before .is-call .ensures) ∙ c .before .before .before .before .if2 .taken)
+    skip-call (wire L) (at-start .args .stmts .now) (at-start .args .falls .now) (at-start .args .links .now) n (at-start .args .i) R h (at-start .args .part .now) _ _ (sym (at-is-call .is-call .ensures) ∙ c .before .before .before .before .if2 .taken)
     (c .before .before .put-fall .ensures)
 
 list-of-requires : tie.Need-list-of-requires
@@ -44,10 +45,12 @@ same-length-2 c = search needs
 
 returns-3 : tie.Need-returns-3
 returns-3 c =
-    let s = c .before .before .before .before .before .before .before .before .before .before .before .before .before .before .before .before in
+    let at-is-call : tie.After-is-call = search in
+    let at-else1 : tie.Else1 = search in
+    let at-start : tie.Start = search in
     λ L ks n P R K l h.
-    skip-other (wire L) (s .args .stmts .now) (s .args .falls .now) (s .args .links .now) n (s .args .i) R h (s .args .part .now) _ _ (sym (c .before .before .before .before .before .is-call .ensures) ∙ c .before .before .before .before .if2 .left)
-    (c .before .before .before .before .before .before .if1 .left) (c .before .before .list-of .ensures L ks n P K l h)
+    skip-other (wire L) (at-start .args .stmts .now) (at-start .args .falls .now) (at-start .args .links .now) n (at-start .args .i) R h (at-start .args .part .now) _ _ (sym (at-is-call .is-call .ensures) ∙ c .before .before .before .before .if2 .left)
+    (at-else1 .if1 .left) (c .before .before .list-of .ensures L ks n P K l h)
 
 pub skip-list-spec : {M : Type 1} → statement M
 skip-list-spec =

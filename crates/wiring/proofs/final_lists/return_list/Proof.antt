@@ -9,18 +9,18 @@ use Rattle.wiring.proofs.final_lists.return_list.Tie as tie
 
 store-list-requires : tie.Need-store-list-requires
 store-list-requires c κs =
-    let s = c .before .before .before .before .before in
-    let a = s .args in
-    through-ready (a .handlers) (a .args .now) (a .i) (a .returns .now) (a .targets) (c .before .if1 .taken) (s .pre .2) (s .pre .3)
+    let at-start : tie.Start = search in
+    let a = at-start .args in
+    through-ready (a .handlers) (a .args .now) (a .i) (a .returns .now) (a .targets) (c .before .if1 .taken) (at-start .pre .2) (at-start .pre .3)
 
 same-length : tie.Need-same-length
 same-length c = search needs
 
 returns : tie.Need-returns
 returns c =
-    let s = c .before .before .before .before .before .before .before .before in
-    let a = s .args in
-    through-done (a .handlers) (a .args .now) (a .i) (a .returns .now) (a .targets) (c .before .before .before .before .if1 .taken) (s .pre .2) (s .pre .3) (c .before .before .store-list .ensures)
+    let at-start : tie.Start = search in
+    let a = at-start .args in
+    through-done (a .handlers) (a .args .now) (a .i) (a .returns .now) (a .targets) (c .before .before .before .before .if1 .taken) (at-start .pre .2) (at-start .pre .3) (c .before .before .store-list .ensures)
 
 mul-start : tie.Need-mul-start
 mul-start c = search needs
@@ -42,20 +42,21 @@ part-members-end c = search needs
 
 members-requires : tie.Need-members-requires
 members-requires c κs =
-    let s = c .before .before .before .before .before .before in
-    let a = s .args in
+    let at-start : tie.Start = search in
+    let a = at-start .args in
     let k : a .i * 64 + 64 - a .i * 64 ≡ 64 = omega arith in
-    back-ready (a .handlers) (a .args .now) (a .i) (a .returns .now) (a .targets) (c .before .before .if1 .left) k (s .pre .1) (s .pre .3)
+    back-ready (a .handlers) (a .args .now) (a .i) (a .returns .now) (a .targets) (c .before .before .if1 .left) k (at-start .pre .1) (at-start .pre .3)
 
 same-length-2 : tie.Need-same-length-2
 same-length-2 c = search needs
 
 returns-2 : tie.Need-returns-2
 returns-2 c =
-    let s = c .before .before .before .before .before .before .before .before .before in
-    let a = s .args in
+    let at-else1 : tie.Else1 = search in
+    let at-start : tie.Start = search in
+    let a = at-start .args in
     let k : a .i * 64 + 64 - a .i * 64 ≡ 64 = omega arith in
-    back-done (a .handlers) (a .args .now) (a .i) (a .returns .now) (a .targets) (c .before .before .before .before .before .if1 .left) k (c .before .before .members .ensures) (s .pre .3) (same-length-2 c)
+    back-done (a .handlers) (a .args .now) (a .i) (a .returns .now) (a .targets) (at-else1 .if1 .left) k (c .before .before .members .ensures) (at-start .pre .3) (same-length-2 c)
 
 pub return-list-spec : {M : Type 1} → statement M
 return-list-spec =

@@ -16,16 +16,32 @@ shared-slice-read-word : tie.Need-shared-slice-read-word
 shared-slice-read-word c = search needs
 
 return-list-requires : tie.Need-return-list-requires
-return-list-requires c κs = return-ready (c .before .before .before .before .before .before .before .before .before .before .before .before .before .before .before .pre) (c .before .if1 .taken)
+return-list-requires c κs = let at-start : tie.Start = search in return-ready (at-start .pre) (c .before .if1 .taken)
 
 slice-reshare-prefix-append-list : tie.Need-slice-reshare-prefix-append-list
 slice-reshare-prefix-append-list c = search needs
 
 slice-aggregate-append-list : tie.Need-slice-aggregate-append-list
-slice-aggregate-append-list c = list-kept (c .before .before .before .before .before .return-list .ensures)
+slice-aggregate-append-list c = let at-return-list : tie.After-return-list = search in list-kept (at-return-list .return-list .ensures)
+
+-- Ways back from a place to an earlier one. `search` finds each by its type.
+abbrev start-of-return-list : tie.After-return-list → tie.Start
+start-of-return-list c = search
+
+abbrev start-of-list-of : tie.After-list-of → tie.Start
+start-of-list-of c = search
+
+abbrev start-of-move-list : tie.After-move-list → tie.Start
+start-of-move-list c = search
+
+ruleset ways = (start-of-return-list, start-of-list-of, start-of-move-list)
 
 append-list-requires : tie.Need-append-list-requires
-append-list-requires c κs = return-fits (c .before .before .before .before .before .before .before .before .before .before .before .before .before .before .before .before .before .before .before .before .before .pre) (c .before .before .before .before .before .before .before .if1 .taken) (c .before .before .before .before .before .return-list .ensures)
+append-list-requires c κs =
+    let at-return-list : tie.After-return-list = search in
+    let at-then1 : tie.Then1 = search in
+    let at-start : tie.Start = search ways in
+    return-fits (at-start .pre) (at-then1 .if1 .taken) (at-return-list .return-list .ensures)
 
 same-length : tie.Need-same-length
 same-length c = c .before .before .before .lists .given
@@ -34,25 +50,40 @@ same-length-2 : tie.Need-same-length-2
 same-length-2 c = c .before .succ .given
 
 same-length-3 : tie.Need-same-length-3
-same-length-3 c = c .before .before .before .before .before .before .before .before .before .buffer .given
+same-length-3 c = search
 
 returns : tie.Need-returns
-returns c = return-done (c .before .before .before .before .before .before .before .before .before .before .before .before .before .before .before .before .before .before .before .before .before .before .before .before .before .before .pre) (c .before .before .before .before .before .before .before .before .before .before .before .before .if1 .taken) (c .before .before .before .before .before .before .before .before .before .before .return-list .ensures) (c .before .before .before .before .append-list .ensures)
+returns c =
+    let at-return-list : tie.After-return-list = search in
+    let at-then1 : tie.Then1 = search in
+    let at-start : tie.Start = search ways in
+    return-done (at-start .pre) (at-then1 .if1 .taken) (at-return-list .return-list .ensures) (c .before .before .before .before .append-list .ensures)
 
 is-call-requires : tie.Need-is-call-requires
 is-call-requires c κs = search needs
 
 list-of-requires : tie.Need-list-of-requires
-list-of-requires c κs = call-ready (c .before .before .before .before .before .before .before .before .before .before .before .before .before .before .before .before .before .pre) (c .before .before .before .if1 .left)
+list-of-requires c κs = let at-start : tie.Start = search in call-ready (at-start .pre) (c .before .before .before .if1 .left)
 
 slice-reshare-prefix-append-list-2 : tie.Need-slice-reshare-prefix-append-list-2
-slice-reshare-prefix-append-list-2 c = call-inside (c .before .before .before .before .before .before .before .before .before .before .before .before .before .before .before .before .before .before .before .before .before .before .pre) (c .before .before .before .before .before .before .before .before .if1 .left) (c .before .before .before .before .list-of .ensures)
+slice-reshare-prefix-append-list-2 c =
+    let at-else1 : tie.Else1 = search in
+    let at-start : tie.Start = search in
+    call-inside (at-start .pre) (at-else1 .if1 .left) (c .before .before .before .before .list-of .ensures)
 
 slice-aggregate-append-list-2 : tie.Need-slice-aggregate-append-list-2
-slice-aggregate-append-list-2 c = call-kept (c .before .before .before .before .before .before .before .before .before .before .before .before .before .before .before .before .before .before .before .before .before .before .before .pre) (c .before .before .before .before .before .before .before .before .before .if1 .left) (c .before .before .before .before .before .list-of .ensures)
+slice-aggregate-append-list-2 c =
+    let at-list-of : tie.After-list-of = search in
+    let at-else1 : tie.Else1 = search in
+    let at-start : tie.Start = search ways in
+    call-kept (at-start .pre) (at-else1 .if1 .left) (at-list-of .list-of .ensures)
 
 append-list-requires-2 : tie.Need-append-list-requires-2
-append-list-requires-2 c κs = call-fits (c .before .before .before .before .before .before .before .before .before .before .before .before .before .before .before .before .before .before .before .before .before .before .before .pre) (c .before .before .before .before .before .before .before .before .before .if1 .left) (c .before .before .before .before .before .list-of .ensures)
+append-list-requires-2 c κs =
+    let at-list-of : tie.After-list-of = search in
+    let at-else1 : tie.Else1 = search in
+    let at-start : tie.Start = search ways in
+    call-fits (at-start .pre) (at-else1 .if1 .left) (at-list-of .list-of .ensures)
 
 same-length-4 : tie.Need-same-length-4
 same-length-4 c = c .before .before .before .lists2 .given
@@ -61,14 +92,19 @@ same-length-5 : tie.Need-same-length-5
 same-length-5 c = c .before .succ2 .given
 
 same-length-6 : tie.Need-same-length-6
-same-length-6 c = c .before .before .before .before .before .before .before .before .before .buffer2 .given
+same-length-6 c = search
 
 returns-2 : tie.Need-returns-2
-returns-2 c = call-done (c .before .before .before .before .before .before .before .before .before .before .before .before .before .before .before .before .before .before .before .before .before .before .before .before .before .before .before .before .pre) (c .before .before .before .before .before .before .before .before .before .before .before .before .before .before .if1 .left) (c .before .before .before .before .before .before .before .before .before .before .list-of .ensures) (c .before .before .before .before .append-list2 .ensures)
+returns-2 c =
+    let at-list-of : tie.After-list-of = search in
+    let at-else1 : tie.Else1 = search in
+    let at-start : tie.Start = search ways in
+    call-done (at-start .pre) (at-else1 .if1 .left) (at-list-of .list-of .ensures) (c .before .before .before .before .append-list2 .ensures)
 
 move-list-requires : tie.Need-move-list-requires
 move-list-requires c κs =
-    let m = move-fits (c .before .before .before .before .before .before .before .before .before .before .before .before .before .before .before .before .before .before .pre) (c .before .before .before .before .if1 .left) (sym (c .before .before .before .is-call .ensures) ∙ c .before .before .if2 .left) in
+    let at-start : tie.Start = search in
+    let m = move-fits (at-start .pre) (c .before .before .before .before .if1 .left) (sym (c .before .before .before .is-call .ensures) ∙ c .before .before .if2 .left) in
     ((m .0, m .1), (m .2, m .3))
 
 same-length-7 : tie.Need-same-length-7
@@ -78,7 +114,12 @@ same-length-8 : tie.Need-same-length-8
 same-length-8 c = c .before .succ3 .given
 
 returns-3 : tie.Need-returns-3
-returns-3 c = move-done (c .before .before .before .before .before .before .before .before .before .before .before .before .before .before .before .before .before .before .before .before .before .before .before .pre) (c .before .before .before .before .before .before .before .before .before .if1 .left) (sym (c .before .before .before .before .before .before .before .before .is-call .ensures) ∙ c .before .before .before .before .before .before .before .if2 .left) (c .before .before .before .before .move-list .ensures)
+returns-3 c =
+    let at-else2 : tie.Else2 = search in
+    let at-is-call : tie.After-is-call = search in
+    let at-else1 : tie.Else1 = search in
+    let at-start : tie.Start = search ways in
+    move-done (at-start .pre) (at-else1 .if1 .left) (sym (at-is-call .is-call .ensures) ∙ at-else2 .if2 .left) (c .before .before .before .before .move-list .ensures)
 
 pub write-list-spec : {M : Type 1} → statement M
 write-list-spec =

@@ -20,12 +20,14 @@ abbrev μ-loop : tie.MeasureT-loop
 
 loop-holds : tie.Need-loop-holds Inv-loop μ-loop
 loop-holds c =
-    let a = c .before .before .before .before .before .before .before .before .before .before .before .before .args in
+    let at-start : tie.Start Inv-loop μ-loop = search in
+    let a = at-start .args in
     (omega arith, refl, refl, refl, λ L ks t k. writes-none (successors L) (a .lists .now) (a .succ .now))
 
 write-list-requires : tie.Need-write-list-requires Inv-loop μ-loop
 write-list-requires c κs =
-    let q = c .before .before .before .before .before .before .before .before .before .before .before .before .before .before .before .before .before .pre in
+    let at-start : tie.Start Inv-loop μ-loop = search in
+    let q = at-start .pre in
     let l = c .before .before .before .before .loop in
     let h = c .before .before .before .loop-test .taken in
     let s = l .inv .4 (q .listing) (q .keys₀) (q .tables) (q .held) in
@@ -33,7 +35,7 @@ write-list-requires c κs =
     record {
       listing = q .listing;
       keys₀ = q .keys₀;
-      nodes = c .before .before .before .before .before .before .before .before .before .before .before .before .before .before .before .before .before .args .n;
+      nodes = at-start .args .n;
       tables = q .tables;
       place = place-now (q .held) s (length-lists (successors (q .listing)) (l .i)) h;
       node = h;
@@ -51,17 +53,28 @@ loop-less c = search needs
 
 loop-again : tie.Need-loop-again Inv-loop μ-loop
 loop-again c =
-    let p = c .before .before .before .before .before .before .before .before .before .before .before .before .before .before .before .before .before .before .before .before .before .before .before .before in
-    let q = p .pre in
-    let l = c .before .before .before .before .before .before .before .before .before .before .before .loop in
-    let h = c .before .before .before .before .before .before .before .before .before .before .loop-test .taken in
-    let w = c .before .before .before .before .before .before .write-list .ensures in (
+    let q = at-start .pre in
+    let l = at-loop .loop in
+    let h = in-loop .loop-test .taken in
+    let w = at-write-list .write-list .ensures in (
       search needs,
       search needs,
       search needs,
       search needs,
-      λ L ks t k. let s = l .inv .4 L ks t k in stored-next (successors L) (l .i) s (omega (arith, q .rows)) (w L ks (p .args .n) t h (place-now k s (length-lists (successors L) (l .i)) h)),
+      λ L ks t k. let s = l .inv .4 L ks t k in stored-next (successors L) (l .i) s (omega (arith, q .rows)) (w L ks (at-start .args .n) t h (place-now k s (length-lists (successors L) (l .i)) h)),
     )
+  where
+    at-write-list : tie.After-write-list Inv-loop μ-loop
+    at-write-list = search
+
+    in-loop : tie.In-loop Inv-loop μ-loop
+    in-loop = search
+
+    at-loop : tie.At-loop Inv-loop μ-loop
+    at-loop = search
+
+    at-start : tie.Start Inv-loop μ-loop
+    at-start = search
 
 same-length : tie.Need-same-length Inv-loop μ-loop
 same-length c = search needs
@@ -74,8 +87,9 @@ same-length-3 c = search needs
 
 returns : tie.Need-returns Inv-loop μ-loop
 returns c =
+    let at-start : tie.Start Inv-loop μ-loop = search in
     let l = c .before .loop in
-    let e : l .i ≡ c .before .before .before .before .before .before .before .before .before .before .before .before .before .before .args .n = omega arith in
+    let e : l .i ≡ at-start .args .n = omega arith in
     λ L ks t k. writes-done L (t .roles .nodes-are) (l .inv .4 L ks t k) e
 
 pub write-lists-spec : {M : Type 1} → statement M

@@ -29,7 +29,8 @@ no-notes-requires c κs = search needs
 
 loop-holds : tie.Need-loop-holds Inv-loop μ-loop
 loop-holds c =
-    let a = c .before .before .before .before .before .args in
+    let at-start : tie.Start Inv-loop μ-loop = search in
+    let a = at-start .args in
     let e = c .before .new .ensures in (
       omega arith,
       refl,
@@ -52,10 +53,12 @@ moves-fors-requires c κs = search needs
 
 link-node-requires : tie.Need-link-node-requires Inv-loop μ-loop
 link-node-requires c κs =
-    let p = c .before .before .before .before .before .before .before .before .before .before .before .before in
-    let l = c .before .before .before .before .before .before .loop in
-    let counted : AllCounted (p .args .stmts .now) (p .args .n) = p .pre .1 in
-    (omega (arith, p .pre .0), (sym (c .before .before .before .moves-fors .ensures) ∙ c .before .before .if1 .taken, (counted (l .i) (c .before .before .before .before .before .loop-test .taken), (l .inv .2, l .inv .3))))
+    let in-loop : tie.In-loop Inv-loop μ-loop = search in
+    let at-loop : tie.At-loop Inv-loop μ-loop = search in
+    let at-start : tie.Start Inv-loop μ-loop = search in
+    let l = at-loop .loop in
+    let counted : AllCounted (at-start .args .stmts .now) (at-start .args .n) = at-start .pre .1 in
+    (omega (arith, at-start .pre .0), (sym (c .before .before .before .moves-fors .ensures) ∙ c .before .before .if1 .taken, (counted (l .i) (in-loop .loop-test .taken), (l .inv .2, l .inv .3))))
 
 add-i : tie.Need-add-i Inv-loop μ-loop
 add-i c = search needs
@@ -65,8 +68,8 @@ loop-less c = search needs
 
 loop-again : tie.Need-loop-again Inv-loop μ-loop
 loop-again c =
-    let p = c .before .before .before .before .before .before .before .before .before .before in
-    let a = p .args in
+    let at-start : tie.Start Inv-loop μ-loop = search in
+    let a = at-start .args in
     let l = c .before .before .before .before .loop in
     let e : NodeLinked (a .stmts .now) (a .args .now) (l .i) (l .s .words) (c .if1 .s .words) (l .links) (c .if1 .links) × (length (c .if1 .links) ≡ length (l .links)) × KeysNoted (a .args .now) (c .if1 .notes) (c .if1 .s .words)
     = ⊎-elim
@@ -77,7 +80,7 @@ loop-again c =
       e .1 ∙ l .inv .1,
       node-open _ _ _ _ _ _ _ (l .inv .2) (e .0),
       e .2,
-      going-on (a .stmts .now) (a .args .now) (a .n) (a .links .now) _ _ _ _ (l .i) (c .before .before .before .loop-test .taken) (omega (arith, p .pre .0)) (omega (arith, p .pre .0)) (l .inv .4) (e .0),
+      going-on (a .stmts .now) (a .args .now) (a .n) (a .links .now) _ _ _ _ (l .i) (c .before .before .before .loop-test .taken) (omega (arith, at-start .pre .0)) (omega (arith, at-start .pre .0)) (l .inv .4) (e .0),
     )
 
 same-length : tie.Need-same-length Inv-loop μ-loop
@@ -85,7 +88,8 @@ same-length c = search needs
 
 returns : tie.Need-returns Inv-loop μ-loop
 returns c =
-    let a = c .before .before .before .before .before .before .before .args in
+    let at-start : tie.Start Inv-loop μ-loop = search in
+    let a = at-start .args in
     let l = c .before .loop in
     going-end (a .stmts .now) (a .args .now) (a .n) (a .links .now) _ _ (l .i) (omega arith) (l .inv .0) (l .inv .4)
 

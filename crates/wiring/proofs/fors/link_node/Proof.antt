@@ -10,13 +10,18 @@ use Rattle.passes.specs.NotedKeys.{noted-slots}
 use Rattle.wiring.proofs.fors.link_node.Statement.{statement}
 use Rattle.wiring.proofs.fors.link_node.Tie as tie
 
+-- Ways back from a place to an earlier one. `search` finds each by its type.
+abbrev start-of-wide : tie.After-wide → tie.Start
+start-of-wide c = search
+
 -- what is no FOR is a NEXT, with at most 64 slots
-is-next : (c : tie.After-wide) → getD (c .before .before .before .before .before .before .before .args .stmts .now) (c .before .before .before .before .before .before .before .args .i * 12) 0 ≡ 14
-is-next c = must-next _ (c .before .before .before .before .before .before .before .pre .1 .0) (c .before .before .if1 .left)
+is-next : (c : tie.After-wide) → getD (start-of-wide c .args .stmts .now) (start-of-wide c .args .i * 12) 0 ≡ 14
+is-next c = must-next _ (start-of-wide c .pre .1 .0) (c .before .before .if1 .left)
 
 few : (c : tie.After-wide) → c .wide .result ≤ 64
 few c =
-    let slots : SlotsCounted (c .before .before .before .before .before .before .before .args .stmts .now) (c .before .before .before .before .before .before .before .args .i) = c .before .before .before .before .before .before .before .pre .1 .1 .0 in
+    let at-start : tie.Start = search in
+    let slots : SlotsCounted (at-start .args .stmts .now) (at-start .args .i) = at-start .pre .1 .1 .0 in
     omega (arith, c .wide .ensures, slots (is-next c))
 
 mul-if1 : tie.Need-mul-if1
@@ -33,7 +38,8 @@ open-for-requires c κs = search needs
 
 returns : tie.Need-returns
 returns c =
-    let a = c .before .before .before .before .before .before .before .args in
+    let at-start : tie.Start = search in
+    let a = at-start .args in
     (c .open-for .ensures .1, node-for (a .stmts .now) (a .args .now) (a .i) (a .s .words) _ (a .links .now) (c .before .before .if1 .taken) (c .open-for .ensures .0))
 
 mul-at : tie.Need-mul-at
@@ -55,7 +61,7 @@ wide-requires : tie.Need-wide-requires
 wide-requires c κs = search needs
 
 add-end : tie.Need-add-end
-add-end c = omega (arith, few c, c .before .before .before .before .before .before .before .pre .0)
+add-end c = let at-start : tie.Start = search in omega (arith, few c, at-start .pre .0)
 
 mul-pop-slots : tie.Need-mul-pop-slots
 mul-pop-slots c = search needs
@@ -67,7 +73,7 @@ part-pop-slots-start : tie.Need-part-pop-slots-start
 part-pop-slots-start c = search needs
 
 part-pop-slots-end : tie.Need-part-pop-slots-end
-part-pop-slots-end c = omega (arith, few c, c .before .before .before .before .before .before .before .pre .0)
+part-pop-slots-end c = let at-start : tie.Start = search in omega (arith, few c, at-start .pre .0)
 
 mul-pop-slots-2 : tie.Need-mul-pop-slots-2
 mul-pop-slots-2 c = search needs
@@ -79,7 +85,7 @@ part-pop-slots-start-2 : tie.Need-part-pop-slots-start-2
 part-pop-slots-start-2 c = search needs
 
 part-pop-slots-end-2 : tie.Need-part-pop-slots-end-2
-part-pop-slots-end-2 c = omega (arith, few (c .before .before), c .before .before .before .before .before .before .before .before .before .pre .0)
+part-pop-slots-end-2 c = let at-start : tie.Start = search in omega (arith, few (c .before .before), at-start .pre .0)
 
 pop-slots-requires : tie.Need-pop-slots-requires
 pop-slots-requires c κs = search needs
@@ -89,12 +95,13 @@ same-length c = search needs
 
 returns-2 : tie.Need-returns-2
 returns-2 c =
-    let p = c .before .before .before .before .before .before .before .before .before .before .before .before .before in
-    let a = p .args in
-    let w = c .before .before .before .before .before .before .wide in
+    let at-wide : tie.After-wide = search in
+    let at-start : tie.Start = search in
+    let a = at-start .args in
+    let w = at-wide .wide in
     let e = c .before .before .pop-slots .ensures in (
-      noted-slots (a .args .now) (a .notes .now) (a .s .words) _ (a .i) (p .pre .1 .1 .1 .0) (p .pre .1 .1 .1 .1) _ _ e,
-      node-next (a .stmts .now) (a .args .now) (a .i) (a .s .words) _ (a .links .now) (w .result) _ (w .ensures) (omega (arith, few (c .before .before .before .before .before .before), p .pre .0)) (is-next (c .before .before .before .before .before .before)) e,
+      noted-slots (a .args .now) (a .notes .now) (a .s .words) _ (a .i) (at-start .pre .1 .1 .1 .0) (at-start .pre .1 .1 .1 .1) _ _ e,
+      node-next (a .stmts .now) (a .args .now) (a .i) (a .s .words) _ (a .links .now) (w .result) _ (w .ensures) (omega (arith, few at-wide, at-start .pre .0)) (is-next at-wide) e,
     )
 
 pub link-node-spec : {M : Type 1} → statement M

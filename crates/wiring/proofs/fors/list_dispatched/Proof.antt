@@ -18,7 +18,7 @@ loop-holds : tie.Need-loop-holds Inv-loop μ-loop
 loop-holds c = (omega arith, refl, dispatched-start _ _ _)
 
 list-one-requires : tie.Need-list-one-requires Inv-loop μ-loop
-list-one-requires c κs = omega (arith, c .before .before .before .before .before .before .pre, c .before .before .loop .inv .2 .few)
+list-one-requires c κs = let at-start : tie.Start Inv-loop μ-loop = search in omega (arith, at-start .pre, c .before .before .loop .inv .2 .few)
 
 add-i : tie.Need-add-i Inv-loop μ-loop
 add-i c = search needs
@@ -27,15 +27,18 @@ loop-less : tie.Need-loop-less Inv-loop μ-loop
 loop-less c = search needs
 
 loop-again : tie.Need-loop-again Inv-loop μ-loop
-loop-again c = (search needs, search needs, dispatched-on _ _ _ _ _ _ _ _ (c .before .before .before .before .before .loop .inv .2) (c .before .before .list-one .ensures))
+loop-again c =
+    let at-loop : tie.At-loop Inv-loop μ-loop = search in
+    (search needs, search needs, dispatched-on _ _ _ _ _ _ _ _ (at-loop .loop .inv .2) (c .before .before .list-one .ensures))
 
 same-length : tie.Need-same-length Inv-loop μ-loop
 same-length c = search needs
 
 returns : tie.Need-returns Inv-loop μ-loop
 returns c =
+    let at-start : tie.Start Inv-loop μ-loop = search in
     let l = c .before .loop in
-    let a = c .before .before .before .before .before .args in
+    let a = at-start .args in
     let e : l .i ≡ a .n = omega arith in
     subst (λ (x : ℕ). DispatchedTo (a .stmts .now) (a .falls .now) x (a .dispatched .now) (l .dispatched) (l .d)) e (l .inv .2)
 

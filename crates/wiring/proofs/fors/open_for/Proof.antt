@@ -25,9 +25,9 @@ push-for-requires c κs = search needs
 
 returns : tie.Need-returns
 returns c =
-    let p = c .before .before .before .before .before .before in
-    let a = p .args in
-    (c .push-for .ensures, noted-for (a .args .now) (a .notes .now) (a .s .words) _ (a .i) (p .pre .1 .0) (p .pre .1 .1) (c .push-for .ensures) (eqb-true _ 1 (sym (c .before .before .is-noted .ensures) ∙ c .before .if1 .taken)))
+    let at-start : tie.Start = search in
+    let a = at-start .args in
+    (c .push-for .ensures, noted-for (a .args .now) (a .notes .now) (a .s .words) _ (a .i) (at-start .pre .1 .0) (at-start .pre .1 .1) (c .push-for .ensures) (eqb-true _ 1 (sym (c .before .before .is-noted .ensures) ∙ c .before .if1 .taken)))
 
 note-of-requires : tie.Need-note-of-requires
 note-of-requires c κs = search needs
@@ -36,16 +36,17 @@ insert-requires : tie.Need-insert-requires
 insert-requires c κs = search needs
 
 push-requires : tie.Need-push-requires
-push-requires c κs = (c .before .before .before .before .before .before .before .before .pre .0 .0, room-below _ _ (c .before .before .before .before .before .before .before .before .pre .1 .0))
+push-requires c κs = let at-start : tie.Start = search in (at-start .pre .0 .0, room-below _ _ (at-start .pre .1 .0))
 
 returns-2 : tie.Need-returns-2
 returns-2 c =
-    let p = c .before .before .before .before .before .before .before .before .before in
-    let a = p .args in
-    let k = p .pre .1 .1 in
-    let s = unnoted (a .args .now) (a .notes .now) (a .s .words) _ k (sym (c .before .before .before .before .before .is-noted .ensures) ∙ c .before .before .before .before .if1 .left) in
+    let at-is-noted : tie.After-is-noted = search in
+    let at-start : tie.Start = search in
+    let a = at-start .args in
+    let k = at-start .pre .1 .1 in
+    let s = unnoted (a .args .now) (a .notes .now) (a .s .words) _ k (sym (at-is-noted .is-noted .ensures) ∙ c .before .before .before .before .if1 .left) in
     let f = push-new (a .args .now) (a .i) (a .s .words) _ 0 s refl (c .push .ensures) in
-    (f, rw (c .before .insert .ensures, c .before .before .note-of .ensures) (noted-for (a .args .now) _ (a .s .words) _ (a .i) (p .pre .1 .0) (more-noted (a .args .now) (a .notes .now) _ (k .size) (a .s .words) k) f (own-note (a .args .now) (a .notes .now) _ (k .size))))
+    (f, rw (c .before .insert .ensures, c .before .before .note-of .ensures) (noted-for (a .args .now) _ (a .s .words) _ (a .i) (at-start .pre .1 .0) (more-noted (a .args .now) (a .notes .now) _ (k .size) (a .s .words) k) f (own-note (a .args .now) (a .notes .now) _ (k .size))))
 
 pub open-for-spec : {M : Type 1} → statement M
 open-for-spec =

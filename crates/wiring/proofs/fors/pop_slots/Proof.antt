@@ -20,10 +20,12 @@ abbrev μ-loop : tie.MeasureT-loop
 μ-loop args keys notes i row₀ t₀ top₀ j₀ row t top j = length row₀ - j
 
 newest-requires : tie.Need-newest-requires Inv-loop μ-loop
-newest-requires c κs = (c .before .before .before .before .before .pre .0 .0, c .before .before .before .before .before .pre .1 .0)
+newest-requires c κs = let at-start : tie.Start Inv-loop μ-loop = search in (at-start .pre .0 .0, at-start .pre .1 .0)
 
 loop-holds : tie.Need-loop-holds Inv-loop μ-loop
-loop-holds c = (omega arith, refl, c .before .before .before .before .before .before .pre .1 .0, c .newest .ensures, c .before .before .before .before .before .before .pre .1 .1, popping-start _ _ _ _)
+loop-holds c =
+    let at-start : tie.Start Inv-loop μ-loop = search in
+    (omega arith, refl, at-start .pre .1 .0, c .newest .ensures, at-start .pre .1 .1, popping-start _ _ _ _)
 
 clear-behind-requires : tie.Need-clear-behind-requires Inv-loop μ-loop
 clear-behind-requires c κs = search needs
@@ -33,9 +35,10 @@ same-length c = search needs
 
 returns : tie.Need-returns Inv-loop μ-loop
 returns c =
-    let p = c .before .before .before .before .before .before .before .before .before .before .before .before .before in
-    let l = c .before .before .before .before .before .before .loop in
-    λ m o. rw (c .before .before .clear-behind .ensures) (popping-none (p .args .args .now) (p .args .keys .now) (p .args .s .words) (l .t .words) (p .args .row .now) (l .row) (l .j) (l .top) (l .inv .0) (p .pre .0 .2) (c .before .before .before .before .if1 .taken) (l .inv .3) (l .inv .5) m o)
+    let at-loop : tie.At-loop Inv-loop μ-loop = search in
+    let at-start : tie.Start Inv-loop μ-loop = search in
+    let l = at-loop .loop in
+    λ m o. rw (c .before .before .clear-behind .ensures) (popping-none (at-start .args .args .now) (at-start .args .keys .now) (at-start .args .s .words) (l .t .words) (at-start .args .row .now) (l .row) (l .j) (l .top) (l .inv .0) (at-start .pre .0 .2) (c .before .before .before .before .if1 .taken) (l .inv .3) (l .inv .5) m o)
 
 mul-slot-frame : tie.Need-mul-slot-frame Inv-loop μ-loop
 mul-slot-frame c = search needs
@@ -44,10 +47,15 @@ shared-slice-read-slot-frame : tie.Need-shared-slice-read-slot-frame Inv-loop μ
 shared-slice-read-slot-frame c = search needs
 
 slot-frame-requires : tie.Need-slot-frame-requires Inv-loop μ-loop
-slot-frame-requires c κs = (open-wider _ _ (omega (arith, c .before .before .before .before .before .before .before .before .before .before .before .before .pre .0)) (c .before .before .before .before .before .loop .inv .2), (c .before .before .before .before .before .loop .inv .4, c .before .before .before .before .before .loop .inv .3))
+slot-frame-requires c κs =
+    let at-loop : tie.At-loop Inv-loop μ-loop = search in
+    let at-start : tie.Start Inv-loop μ-loop = search in
+    (open-wider _ _ (omega (arith, at-start .pre .0)) (at-loop .loop .inv .2), (at-loop .loop .inv .4, at-loop .loop .inv .3))
 
 narrow-requires : tie.Need-narrow-requires Inv-loop μ-loop
-narrow-requires c κs = omega (arith, slot-fits _ _ _ _ _ (open-few (c .before .before .before .before .before .before .loop .inv .2)) (c .slot-frame .ensures))
+narrow-requires c κs =
+    let at-loop : tie.At-loop Inv-loop μ-loop = search in
+    omega (arith, slot-fits _ _ _ _ _ (open-few (at-loop .loop .inv .2)) (c .slot-frame .ensures))
 
 mul-row : tie.Need-mul-row Inv-loop μ-loop
 mul-row c = search needs
@@ -59,13 +67,18 @@ sub-below : tie.Need-sub-below Inv-loop μ-loop
 sub-below c = search needs
 
 below-requires : tie.Need-below-requires Inv-loop μ-loop
-below-requires c κs = omega (arith, slot-fits _ _ _ _ _ (open-few (c .before .before .before .before .before .before .before .before .before .before .loop .inv .2)) (c .before .before .before .before .slot-frame .ensures))
+below-requires c κs =
+    let at-loop : tie.At-loop Inv-loop μ-loop = search in
+    omega (arith, slot-fits _ _ _ _ _ (open-few (at-loop .loop .inv .2)) (c .before .before .before .before .slot-frame .ensures))
 
 sub-cut : tie.Need-sub-cut Inv-loop μ-loop
 sub-cut c = search needs
 
 cut-requires : tie.Need-cut-requires Inv-loop μ-loop
-cut-requires c κs = omega (arith, slot-fits _ _ _ _ _ (open-few (c .before .before .before .before .before .before .before .before .before .before .before .loop .inv .2)) (c .before .before .before .before .before .slot-frame .ensures))
+cut-requires c κs =
+    let at-slot-frame : tie.After-slot-frame Inv-loop μ-loop = search in
+    let at-loop : tie.At-loop Inv-loop μ-loop = search in
+    omega (arith, slot-fits _ _ _ _ _ (open-few (at-loop .loop .inv .2)) (at-slot-frame .slot-frame .ensures))
 
 add-j : tie.Need-add-j Inv-loop μ-loop
 add-j c = search needs
@@ -99,7 +112,9 @@ same-length-2 : tie.Need-same-length-2 Inv-loop μ-loop
 same-length-2 c = search needs
 
 returns-2 : tie.Need-returns-2 Inv-loop μ-loop
-returns-2 c = popping-end _ _ _ _ _ _ (c .before .loop .j) (omega arith) (c .before .before .before .before .before .before .before .before .pre .0 .2) (c .before .loop .inv .5)
+returns-2 c =
+    let at-start : tie.Start Inv-loop μ-loop = search in
+    popping-end _ _ _ _ _ _ (c .before .loop .j) (omega arith) (at-start .pre .0 .2) (c .before .loop .inv .5)
 
 pub pop-slots-spec : {M : Type 1} → statement M
 pop-slots-spec =

@@ -19,10 +19,10 @@ shared-slice-read-seek : tie.Need-shared-slice-read-seek
 shared-slice-read-seek c = search needs
 
 seek-requires : tie.Need-seek-requires
-seek-requires c κs = (open-wider _ _ (omega arith) (c .before .before .before .before .before .before .pre .1), c .before .newest .ensures)
+seek-requires c κs = let at-start : tie.Start = search in (open-wider _ _ (omega arith) (at-start .pre .1), c .before .newest .ensures)
 
 push-requires : tie.Need-push-requires
-push-requires c κs = (c .before .before .before .before .before .before .before .before .pre .0 .0, room-below _ _ (c .before .before .before .before .before .before .before .before .pre .1))
+push-requires c κs = let at-start : tie.Start = search in (at-start .pre .0 .0, room-below _ _ (at-start .pre .1))
 
 returns : tie.Need-returns
 returns c = push-new _ _ _ _ _ (c .before .before .seek .ensures) (c .before .if1 .taken) (c .push .ensures)
@@ -31,10 +31,12 @@ sub-cut : tie.Need-sub-cut
 sub-cut c = search needs
 
 cut-requires : tie.Need-cut-requires
-cut-requires c κs = omega (arith, sought-fits _ _ _ _ _ (c .before .before .before .before .before .before .before .before .pre .1) (c .before .seek .ensures))
+cut-requires c κs = let at-start : tie.Start = search in omega (arith, sought-fits _ _ _ _ _ (at-start .pre .1) (c .before .seek .ensures))
 
 push-requires-2 : tie.Need-push-requires-2
-push-requires-2 c κs = (c .before .before .before .before .before .before .before .before .before .pre .0 .0, room-below _ _ (cut-open _ _ _ _ _ _ (c .before .before .seek .ensures) (c .before .if1 .left) (c .cut .ensures) (c .before .before .before .before .before .before .before .before .before .pre .1)))
+push-requires-2 c κs =
+    let at-start : tie.Start = search in
+    (at-start .pre .0 .0, room-below _ _ (cut-open _ _ _ _ _ _ (c .before .before .seek .ensures) (c .before .if1 .left) (c .cut .ensures) (at-start .pre .1)))
 
 returns-2 : tie.Need-returns-2
 returns-2 c = push-cut _ _ _ _ _ (c .before .before .before .seek .ensures) _ (c .before .before .if1 .left) (c .before .cut .ensures) (c .push2 .ensures)

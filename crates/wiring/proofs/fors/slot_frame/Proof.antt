@@ -16,7 +16,9 @@ seek-requires : tie.Need-seek-requires
 seek-requires c κs = search needs
 
 returns-2 : tie.Need-returns-2
-returns-2 c = let a = c .before .before .before .before .before .args in slot-name (a .args .now) (a .key) (a .words .now) (c .seek .result) (c .before .before .before .if1 .left) (c .seek .ensures)
+returns-2 c =
+    let at-start : tie.Start = search in
+    let a = at-start .args in slot-name (a .args .now) (a .key) (a .words .now) (c .seek .result) (c .before .before .before .if1 .left) (c .seek .ensures)
 
 returns-3 : tie.Need-returns-3
 returns-3 c =

@@ -30,18 +30,23 @@ shared-slice-read-link-node : tie.Need-shared-slice-read-link-node Inv-loop μ-l
 shared-slice-read-link-node c = search needs
 
 link-node-requires : tie.Need-link-node-requires Inv-loop μ-loop
-link-node-requires c κs = let l = c .before .before .before .loop in (omega arith, omega (arith, l .inv .1, c .before .before .before .before .before .before .pre .0), l .inv .2 .below (l .i - 1))
+link-node-requires c κs =
+    let at-start : tie.Start Inv-loop μ-loop = search in
+    let l = c .before .before .before .loop in (omega arith, omega (arith, l .inv .1, at-start .pre .0), l .inv .2 .below (l .i - 1))
 
 loop-less : tie.Need-loop-less Inv-loop μ-loop
 loop-less c = search needs
 
 loop-again : tie.Need-loop-again Inv-loop μ-loop
 loop-again c =
-    let l = c .before .before .before .before .before .before .loop in
+    let in-loop : tie.In-loop Inv-loop μ-loop = search in
+    let at-loop : tie.At-loop Inv-loop μ-loop = search in
+    let at-start : tie.Start Inv-loop μ-loop = search in
+    let l = at-loop .loop in
     let s = c .before .before .link-node in (
       omega arith,
       s .kept .1 .1 .0 ∙ l .inv .1,
-      linking-back _ _ _ _ _ (l .i) (c .before .before .before .before .before .loop-test .taken) (l .inv .0) (omega (arith, l .inv .1, c .before .before .before .before .before .before .before .before .before .pre .0)) refl (s .ensures) (l .inv .2),
+      linking-back _ _ _ _ _ (l .i) (in-loop .loop-test .taken) (l .inv .0) (omega (arith, l .inv .1, at-start .pre .0)) refl (s .ensures) (l .inv .2),
     )
 
 same-length : tie.Need-same-length Inv-loop μ-loop

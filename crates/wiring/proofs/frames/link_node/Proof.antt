@@ -74,20 +74,24 @@ same-length c = search needs
 
 returns-2 : tie.Need-returns-2
 returns-2 c =
-    let a = c .before .before .before .before .before .before .before .args in
+    let at-start : tie.Start = search in
+    let a = at-start .args in
     let w = c .before .before .before .before .wide in
     link-else (a .word) (a .i) (c .before .before .narrow .result) (a .frames .now) (w .result) (w .ensures) (c .before .before .before .if1 .left) (c .before .if2 .taken) (c .before .before .narrow .ensures)
 
 returns-3 : tie.Need-returns-3
 returns-3 c =
-    let a = c .before .before .before .before .before .before .before .args in
+    let at-start : tie.Start = search in
+    let a = at-start .args in
     let w = c .before .before .before .before .wide in
     link-exit (a .word) (a .i) 0 (a .frames .now) (w .result) (w .ensures) (c .before .before .before .if1 .left) (c .before .if2 .left) (c .if3 .taken)
 
 returns-4 : tie.Need-returns-4
 returns-4 c =
-    let a = c .before .before .before .before .before .before .before .before .args in
-    let w = c .before .before .before .before .before .wide in
+    let at-wide : tie.After-wide = search in
+    let at-start : tie.Start = search in
+    let a = at-start .args in
+    let w = at-wide .wide in
     link-exitif (a .word) (a .i) 0 (a .frames .now) (w .result) (w .ensures) (c .before .before .before .before .if1 .left) (c .before .before .if2 .left) (c .before .if3 .left) (c .if4 .taken)
 
 mul-frames-7 : tie.Need-mul-frames-7
@@ -107,8 +111,10 @@ same-length-2 c = search needs
 
 returns-5 : tie.Need-returns-5
 returns-5 c =
-    let a = c .before .before .before .before .before .before .before .before .args in
-    let w = c .before .before .before .before .before .wide in
+    let at-wide : tie.After-wide = search in
+    let at-start : tie.Start = search in
+    let a = at-start .args in
+    let w = at-wide .wide in
     link-closer (a .word) (a .i) (c .before .before .before .narrow .result) (a .frames .now) (w .result) (w .ensures) (c .before .before .before .before .if1 .left) (c .before .before .if2 .left) (c .before .if3 .left) (c .if4 .left) (c .before .before .before .narrow .ensures)
 
 pub link-node-spec : {M : Type 1} → statement M

@@ -49,7 +49,8 @@ same-length c = search needs
 
 returns-3 : tie.Need-returns-3
 returns-3 c =
-    let a = c .before .before .before .before .before .args in
+    let at-start : tie.Start = search in
+    let a = at-start .args in
     λ l. met-closes (a .i) (a .words .now) (a .frames .now) (moveOf (a .m)) (c .before .newest .result) (c .narrow .result) (ap moveOf (c .before .before .enum-told3 .given .1)) (c .before .newest .ensures) (c .narrow .ensures) l
 
 enum-told-4 : tie.Need-enum-told-4
@@ -77,7 +78,8 @@ same-length-2 c = search needs
 
 returns-4 : tie.Need-returns-4
 returns-4 c =
-    let a = c .before .before .before .before .before .args in
+    let at-start : tie.Start = search in
+    let a = at-start .args in
     λ l. met-joins (a .i) (a .words .now) (a .frames .now) (moveOf (a .m)) (c .before .newest2 .result) (c .narrow2 .result) (ap moveOf (c .before .before .enum-told4 .given .1)) (c .before .newest2 .ensures) (c .narrow2 .ensures) l
 
 pub meet-frame-spec : {M : Type 1} → statement M

@@ -38,25 +38,25 @@ loop-move-requires : tie.Need-loop-move-requires Inv-loop μ-loop
 loop-move-requires c κs = search needs
 
 meet-frame-requires : tie.Need-meet-frame-requires Inv-loop μ-loop
-meet-frame-requires c κs = (omega arith, c .before .before .before .before .before .before .loop .inv .2 .loops)
+meet-frame-requires c κs = let at-loop : tie.At-loop Inv-loop μ-loop = search in (omega arith, at-loop .loop .inv .2 .loops)
 
 moves-requires : tie.Need-moves-requires Inv-loop μ-loop
 moves-requires c κs = search needs
 
 move-stack-requires : tie.Need-move-stack-requires Inv-loop μ-loop
-move-stack-requires c κs = (omega arith, c .before .before .before .before .before .before .before .before .before .before .before .loop .inv .2 .loops)
+move-stack-requires c κs = let at-loop : tie.At-loop Inv-loop μ-loop = search in (omega arith, at-loop .loop .inv .2 .loops)
 
 do-move-requires : tie.Need-do-move-requires Inv-loop μ-loop
 do-move-requires c κs = search needs
 
 meet-frame-requires-2 : tie.Need-meet-frame-requires-2 Inv-loop μ-loop
-meet-frame-requires-2 c κs = (search needs, c .before .before .before .before .before .before .before .before .before .before .before .before .before .before .before .loop .inv .2 .dos)
+meet-frame-requires-2 c κs = let at-loop : tie.At-loop Inv-loop μ-loop = search in (search needs, at-loop .loop .inv .2 .dos)
 
 moves-requires-2 : tie.Need-moves-requires-2 Inv-loop μ-loop
 moves-requires-2 c κs = search needs
 
 move-stack-requires-2 : tie.Need-move-stack-requires-2 Inv-loop μ-loop
-move-stack-requires-2 c κs = (omega arith, c .before .before .before .before .before .before .before .before .before .before .before .before .before .before .before .before .before .before .before .before .loop .inv .2 .dos)
+move-stack-requires-2 c κs = let at-loop : tie.At-loop Inv-loop μ-loop = search in (omega arith, at-loop .loop .inv .2 .dos)
 
 add-i : tie.Need-add-i Inv-loop μ-loop
 add-i c = search needs
@@ -64,20 +64,34 @@ add-i c = search needs
 loop-less : tie.Need-loop-less Inv-loop μ-loop
 loop-less c = search needs
 
+-- Ways back from a place to an earlier one. `search` finds each by its type.
+abbrev start-of-loop : tie.At-loop Inv-loop μ-loop → tie.Start Inv-loop μ-loop
+start-of-loop c = search
+
+ruleset ways = (start-of-loop)
+
 loop-again : tie.Need-loop-again Inv-loop μ-loop
 loop-again c =
-    let l = c .before .before .before .before .before .before .before .before .before .before .before .before .before .before .before .before .before .before .before .before .loop in
-    let m = c .before .before .before .before .before .before .before .before .before .before .before .before .before .before .before .before .before .loop-move in
-    let k = c .before .before .before .before .before .before .before .before .do-move in
-    let s = c .before .before .before .before .before .before .before .before .before .before .before .before .before .meet-frame in
+    let at-do-move : tie.After-do-move Inv-loop μ-loop = search in
+    let at-joined1 : tie.Joined1 Inv-loop μ-loop = search in
+    let at-moves : tie.After-moves Inv-loop μ-loop = search in
+    let at-meet-frame : tie.After-meet-frame Inv-loop μ-loop = search in
+    let at-loop-move : tie.After-loop-move Inv-loop μ-loop = search in
+    let in-loop : tie.In-loop Inv-loop μ-loop = search in
+    let at-loop : tie.At-loop Inv-loop μ-loop = search in
+    let at-start : tie.Start Inv-loop μ-loop = search ways in
+    let l = at-loop .loop in
+    let m = at-loop-move .loop-move in
+    let k = at-do-move .do-move in
+    let s = at-meet-frame .meet-frame in
     let d = c .before .before .before .before .meet-frame2 in
-    let ml : FrameMoved (moveOf (m .result)) (l .i) (l .loops .words) (c .before .before .before .before .before .before .before .before .before .if1 .loops .words)
-    = ⊎-elim (λ w. rw (w .2) (w .1 .ensures)) (λ w. rw (w .1) (moved-none _ _ _ (sym (c .before .before .before .before .before .before .before .before .before .before .moves .ensures) ∙ w .0 .left))) (c .before .before .before .before .before .before .before .before .before .if1 .came) in
+    let ml : FrameMoved (moveOf (m .result)) (l .i) (l .loops .words) (at-joined1 .if1 .loops .words)
+    = ⊎-elim (λ w. rw (w .2) (w .1 .ensures)) (λ w. rw (w .1) (moved-none _ _ _ (sym (at-moves .moves .ensures) ∙ w .0 .left))) (at-joined1 .if1 .came) in
     let md : FrameMoved (moveOf (k .result)) (l .i) (l .dos .words) (c .if2 .dos .words)
     = ⊎-elim (λ w. rw (w .2) (w .1 .ensures)) (λ w. rw (w .1) (moved-none _ _ _ (sym (c .before .moves2 .ensures) ∙ w .0 .left))) (c .if2 .came) in (
       omega arith,
       d .kept .1 .1 .1 .0 ∙ s .kept .1 .1 .1 .0 ∙ l .inv .1,
-      meeting-next _ _ _ _ _ _ _ _ _ (l .i) _ _ _ (c .before .before .before .before .before .before .before .before .before .before .before .before .before .before .before .before .before .before .before .loop-test .taken) refl (m .ensures) (k .ensures) (omega (arith, l .inv .1, c .before .before .before .before .before .before .before .before .before .before .before .before .before .before .before .before .before .before .before .before .before .before .before .before .before .pre .0)) (record { held = ml; written = s .ensures }) (record { held = md; written = d .ensures }) (l .inv .2),
+      meeting-next _ _ _ _ _ _ _ _ _ (l .i) _ _ _ (in-loop .loop-test .taken) refl (m .ensures) (k .ensures) (omega (arith, l .inv .1, at-start .pre .0)) (record { held = ml; written = s .ensures }) (record { held = md; written = d .ensures }) (l .inv .2),
     )
 
 same-length : tie.Need-same-length Inv-loop μ-loop

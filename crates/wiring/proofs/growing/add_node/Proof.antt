@@ -27,16 +27,16 @@ same-length c = search needs
 
 returns-2 : tie.Need-returns-2
 returns-2 c =
-    let p = c .before .before .before .before .before in
-    grows-old (p .args .l .now) (p .args .n) (p .args .t) (c .before .before .before .if1 .left) (p .pre .within) (sym (c .before .holds .ensures) ∙ c .if2 .taken)
+    let at-start : tie.Start = search in
+    grows-old (at-start .args .l .now) (at-start .args .n) (at-start .args .t) (c .before .before .before .if1 .left) (at-start .pre .within) (sym (c .before .holds .ensures) ∙ c .if2 .taken)
 
 mul-l : tie.Need-mul-l
 mul-l c = search needs
 
 slice-write-l : tie.Need-slice-write-l
 slice-write-l c =
-    let p = c .before .before .before .before .before in
-    p .pre .free (c .before .before .before .if1 .left) (sym (c .before .holds .ensures) ∙ c .if2 .left)
+    let at-start : tie.Start = search in
+    at-start .pre .free (c .before .before .before .if1 .left) (sym (c .before .holds .ensures) ∙ c .if2 .left)
 
 add-result : tie.Need-add-result
 add-result c = search needs
@@ -46,10 +46,10 @@ same-length-2 c = search needs
 
 returns-3 : tie.Need-returns-3
 returns-3 c =
-    let p = c .before .before .before .before .before in
+    let at-start : tie.Start = search in
     let z = c .before .before .before .if1 .left in
     let e = sym (c .before .holds .ensures) ∙ c .if2 .left in
-    grows-new (p .args .l .now) (p .args .n) (p .args .t) z _ refl (p .pre .free z e) e
+    grows-new (at-start .args .l .now) (at-start .args .n) (at-start .args .t) z _ refl (at-start .pre .free z e) e
 
 pub add-node-spec : {M : Type 1} → statement M
 add-node-spec =

@@ -84,10 +84,12 @@ part-link-row-end-2 c = search needs
 
 link-row-requires : tie.Need-link-row-requires Inv-loop μ-loop
 link-row-requires c κs =
-    let a = c .before .before .before .before .before .before .before .before .before .before .before .before .args in
-    let l = c .before .before .before .before .before .before .loop in
+    let at-loop : tie.At-loop Inv-loop μ-loop = search in
+    let at-start : tie.Start Inv-loop μ-loop = search in
+    let a = at-start .args in
+    let l = at-loop .loop in
     let few : c .before .before .jump-count .result ≤ 64 = rw (c .before .before .jump-count .ensures) (count-few _ _) in
-    simp (length-take, length-drop) ((c .before .before .before .before .before .before .before .before .before .before .before .before .pre .0 .0, c .before .before .before .before .before .before .before .before .before .before .before .before .pre .0 .1), (omega (arith, few), omega (arith, few, l .inv .1)))
+    simp (length-take, length-drop) ((at-start .pre .0 .0, at-start .pre .0 .1), (omega (arith, few), omega (arith, few, l .inv .1)))
 
 add-i : tie.Need-add-i Inv-loop μ-loop
 add-i c = search needs
@@ -97,15 +99,19 @@ loop-less c = search needs
 
 loop-again : tie.Need-loop-again Inv-loop μ-loop
 loop-again c =
-    let a = c .before .before .before .before .before .before .before .before .before .before .before .before .before .before .before .args in
-    let l = c .before .before .before .before .before .before .before .before .before .loop in
+    let at-jump-count : tie.After-jump-count Inv-loop μ-loop = search in
+    let in-loop : tie.In-loop Inv-loop μ-loop = search in
+    let at-loop : tie.At-loop Inv-loop μ-loop = search in
+    let at-start : tie.Start Inv-loop μ-loop = search in
+    let a = at-start .args in
+    let l = at-loop .loop in
     let w : l .i * 64 + 64 - l .i * 64 ≡ 64 = omega arith in
     let room : l .i * 64 + 64 ≤ length (l .links) = omega (arith, l .inv .1) in (
       omega arith,
       lent-length (l .links) (c .before .before .link-row .last .1 .1 .1 .1 .0) (l .i * 64) (l .i * 64 + 64 - l .i * 64) (omega (arith, room)) (c .before .before .link-row .kept .1 .1 .1 .1 .0) ∙ l .inv .1,
       λ ls lh eh sh ah.
-          jumps-lent (a .lines .now) (a .entries .now) (a .count) (a .stmts .now) (a .args .now) (a .n) ls lh eh sh ah _ (l .links) _ (l .i) _ _ w (c .before .before .before .before .before .before .before .before .loop-test .taken) room
-          (c .before .before .before .before .before .jump-count .ensures) (c .before .before .link-row .ensures) (l .inv .2 ls lh eh sh ah),
+          jumps-lent (a .lines .now) (a .entries .now) (a .count) (a .stmts .now) (a .args .now) (a .n) ls lh eh sh ah _ (l .links) _ (l .i) _ _ w (in-loop .loop-test .taken) room
+          (at-jump-count .jump-count .ensures) (c .before .before .link-row .ensures) (l .inv .2 ls lh eh sh ah),
     )
 
 same-length : tie.Need-same-length Inv-loop μ-loop

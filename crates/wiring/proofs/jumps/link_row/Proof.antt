@@ -35,7 +35,7 @@ mul-links : tie.Need-mul-links Inv-loop μ-loop
 mul-links c = search needs
 
 slice-write-links : tie.Need-slice-write-links Inv-loop μ-loop
-slice-write-links c = omega (arith, c .before .before .before .loop .inv .1, c .before .before .before .before .before .before .before .before .pre)
+slice-write-links c = let at-start : tie.Start Inv-loop μ-loop = search in omega (arith, c .before .before .before .loop .inv .1, at-start .pre)
 
 add-j : tie.Need-add-j Inv-loop μ-loop
 add-j c = search needs
@@ -45,18 +45,21 @@ loop-less c = omega (arith, c .before .before .loop-test .taken)
 
 loop-again : tie.Need-loop-again Inv-loop μ-loop
 loop-again c =
+    let at-start : tie.Start Inv-loop μ-loop = search in
     let l = c .before .before .before .loop in
-    let a = c .before .before .before .before .before .before .before .before .args in (
+    let a = at-start .args in (
       omega (arith, c .before .before .loop-test .taken),
       simp length-set (l .inv .1),
-      λ es et. link-step es (a .args .now) _ _ (l .j) _ (omega (arith, c .before .before .loop-test .taken, c .before .before .before .before .before .before .before .before .pre)) (c .entry-of-argument .ensures es et) (l .inv .2 es et),
+      λ es et. link-step es (a .args .now) _ _ (l .j) _ (omega (arith, c .before .before .loop-test .taken, at-start .pre)) (c .entry-of-argument .ensures es et) (l .inv .2 es et),
     )
 
 same-length : tie.Need-same-length Inv-loop μ-loop
 same-length c = c .before .loop .inv .1
 
 returns : tie.Need-returns Inv-loop μ-loop
-returns c = λ es et. link-end es (c .before .before .before .before .before .before .args .args .now) _ _ _ _ (c .before .loop .inv .0) (c .loop-test .left) (c .before .loop .inv .2 es et)
+returns c =
+    let at-start : tie.Start Inv-loop μ-loop = search in
+    λ es et. link-end es (at-start .args .args .now) _ _ _ _ (c .before .loop .inv .0) (c .loop-test .left) (c .before .loop .inv .2 es et)
 
 pub link-row-spec : {M : Type 1} → statement M
 link-row-spec =

@@ -21,58 +21,74 @@ sub-j c = search needs
 
 mul-add-node : tie.Need-mul-add-node Inv-loop μ-loop
 mul-add-node c =
-    let a = c .before .before .before .before .before .before .args in
+    let at-start : tie.Start Inv-loop μ-loop = search in
+    let a = at-start .args in
     let l = c .before .before .loop in
     let v = walk-visit (a .falls .now) (a .frames .now) (a .first) (a .part .now) (a .n) (l .part) (l .r) (l .c) (c .before .loop-test .taken) (l .inv) in
     omega (arith, v .there)
 
 mul-add-node-2 : tie.Need-mul-add-node-2 Inv-loop μ-loop
 mul-add-node-2 c =
-    let a = c .before .before .before .before .before .before .args in
+    let at-start : tie.Start Inv-loop μ-loop = search in
+    let a = at-start .args in
     let l = c .before .before .loop in
     let v = walk-visit (a .falls .now) (a .frames .now) (a .first) (a .part .now) (a .n) (l .part) (l .r) (l .c) (c .before .loop-test .taken) (l .inv) in
     omega (arith, v .there)
 
 shared-slice-read-add-node : tie.Need-shared-slice-read-add-node Inv-loop μ-loop
 shared-slice-read-add-node c =
-    let a = c .before .before .before .before .before .before .before .args in
+    let at-start : tie.Start Inv-loop μ-loop = search in
+    let a = at-start .args in
     let l = c .before .before .before .loop in
     let v = walk-visit (a .falls .now) (a .frames .now) (a .first) (a .part .now) (a .n) (l .part) (l .r) (l .c) (c .before .before .loop-test .taken) (l .inv) in
     v .there
 
 add-node-requires : tie.Need-add-node-requires Inv-loop μ-loop
 add-node-requires c κs =
-    let a = c .before .before .before .before .before .before .before .args in
+    let at-start : tie.Start Inv-loop μ-loop = search in
+    let a = at-start .args in
     let l = c .before .before .before .loop in
     let v = walk-visit (a .falls .now) (a .frames .now) (a .first) (a .part .now) (a .n) (l .part) (l .r) (l .c) (c .before .before .loop-test .taken) (l .inv) in
     fits-room (l .part) (l .r) _ (l .inv .fits) (v .leads)
 
 mul-wide : tie.Need-mul-wide Inv-loop μ-loop
 mul-wide c =
-    let a = c .before .before .before .before .before .before .before .before .before .before .args in
-    let l = c .before .before .before .before .before .before .loop in
-    let v = walk-visit (a .falls .now) (a .frames .now) (a .first) (a .part .now) (a .n) (l .part) (l .r) (l .c) (c .before .before .before .before .before .loop-test .taken) (l .inv) in
+    let in-loop : tie.In-loop Inv-loop μ-loop = search in
+    let at-loop : tie.At-loop Inv-loop μ-loop = search in
+    let at-start : tie.Start Inv-loop μ-loop = search in
+    let a = at-start .args in
+    let l = at-loop .loop in
+    let v = walk-visit (a .falls .now) (a .frames .now) (a .first) (a .part .now) (a .n) (l .part) (l .r) (l .c) (in-loop .loop-test .taken) (l .inv) in
     omega (arith, v .linked)
 
 add-wide : tie.Need-add-wide Inv-loop μ-loop
 add-wide c =
-    let a = c .before .before .before .before .before .before .before .before .before .before .args in
-    let l = c .before .before .before .before .before .before .loop in
-    let v = walk-visit (a .falls .now) (a .frames .now) (a .first) (a .part .now) (a .n) (l .part) (l .r) (l .c) (c .before .before .before .before .before .loop-test .taken) (l .inv) in
+    let in-loop : tie.In-loop Inv-loop μ-loop = search in
+    let at-loop : tie.At-loop Inv-loop μ-loop = search in
+    let at-start : tie.Start Inv-loop μ-loop = search in
+    let a = at-start .args in
+    let l = at-loop .loop in
+    let v = walk-visit (a .falls .now) (a .frames .now) (a .first) (a .part .now) (a .n) (l .part) (l .r) (l .c) (in-loop .loop-test .taken) (l .inv) in
     omega (arith, v .linked)
 
 mul-wide-2 : tie.Need-mul-wide-2 Inv-loop μ-loop
 mul-wide-2 c =
-    let a = c .before .before .before .before .before .before .before .before .before .before .args in
-    let l = c .before .before .before .before .before .before .loop in
-    let v = walk-visit (a .falls .now) (a .frames .now) (a .first) (a .part .now) (a .n) (l .part) (l .r) (l .c) (c .before .before .before .before .before .loop-test .taken) (l .inv) in
+    let in-loop : tie.In-loop Inv-loop μ-loop = search in
+    let at-loop : tie.At-loop Inv-loop μ-loop = search in
+    let at-start : tie.Start Inv-loop μ-loop = search in
+    let a = at-start .args in
+    let l = at-loop .loop in
+    let v = walk-visit (a .falls .now) (a .frames .now) (a .first) (a .part .now) (a .n) (l .part) (l .r) (l .c) (in-loop .loop-test .taken) (l .inv) in
     omega (arith, v .linked)
 
 shared-slice-read-wide : tie.Need-shared-slice-read-wide Inv-loop μ-loop
 shared-slice-read-wide c =
-    let a = c .before .before .before .before .before .before .before .before .before .before .before .args in
-    let l = c .before .before .before .before .before .before .before .loop in
-    let v = walk-visit (a .falls .now) (a .frames .now) (a .first) (a .part .now) (a .n) (l .part) (l .r) (l .c) (c .before .before .before .before .before .before .loop-test .taken) (l .inv) in
+    let in-loop : tie.In-loop Inv-loop μ-loop = search in
+    let at-loop : tie.At-loop Inv-loop μ-loop = search in
+    let at-start : tie.Start Inv-loop μ-loop = search in
+    let a = at-start .args in
+    let l = at-loop .loop in
+    let v = walk-visit (a .falls .now) (a .frames .now) (a .first) (a .part .now) (a .n) (l .part) (l .r) (l .c) (in-loop .loop-test .taken) (l .inv) in
     v .linked
 
 wide-requires : tie.Need-wide-requires Inv-loop μ-loop
@@ -80,16 +96,22 @@ wide-requires c κs = search needs
 
 loop-less : tie.Need-loop-less Inv-loop μ-loop
 loop-less c =
-    let a = c .before .before .before .before .before .before .before .before .before .before .before .before .args in
-    let l = c .before .before .before .before .before .before .before .before .loop in
-    let v = walk-visit (a .falls .now) (a .frames .now) (a .first) (a .part .now) (a .n) (l .part) (l .r) (l .c) (c .before .before .before .before .before .before .before .loop-test .taken) (l .inv) in
+    let in-loop : tie.In-loop Inv-loop μ-loop = search in
+    let at-loop : tie.At-loop Inv-loop μ-loop = search in
+    let at-start : tie.Start Inv-loop μ-loop = search in
+    let a = at-start .args in
+    let l = at-loop .loop in
+    let v = walk-visit (a .falls .now) (a .frames .now) (a .first) (a .part .now) (a .n) (l .part) (l .r) (l .c) (in-loop .loop-test .taken) (l .inv) in
     rw (c .wide .ensures) (v .less)
 
 loop-again : tie.Need-loop-again Inv-loop μ-loop
 loop-again c =
-    let a = c .before .before .before .before .before .before .before .before .before .before .before .before .args in
-    let l = c .before .before .before .before .before .before .before .before .loop in
-    let t = c .before .before .before .before .before .before .before .loop-test .taken in
+    let in-loop : tie.In-loop Inv-loop μ-loop = search in
+    let at-loop : tie.At-loop Inv-loop μ-loop = search in
+    let at-start : tie.Start Inv-loop μ-loop = search in
+    let a = at-start .args in
+    let l = at-loop .loop in
+    let t = in-loop .loop-test .taken in
     let v = walk-visit (a .falls .now) (a .frames .now) (a .first) (a .part .now) (a .n) (l .part) (l .r) (l .c) t (l .inv) in
     let s = c .before .before .before .before .add-node in
     let f = fits-next (l .part) (s .last .0) (l .r) (s .result) _ (l .inv .fits) (v .leads) (s .kept .0) (s .ensures) in
@@ -101,7 +123,8 @@ same-length c = c .before .loop .inv .size
 
 returns : tie.Need-returns Inv-loop μ-loop
 returns c =
-    let a = c .before .before .before .before .before .args in
+    let at-start : tie.Start Inv-loop μ-loop = search in
+    let a = at-start .args in
     let l = c .before .loop in
     (walk-end (a .falls .now) (a .frames .now) (a .first) (a .part .now) (a .n) (l .part) (l .r) (l .c) (c .loop-test .left) (l .inv), l .inv .fits)
 

@@ -19,23 +19,26 @@ mul-add-node-2 : tie.Need-mul-add-node-2
 mul-add-node-2 c = let s = c .before .before .before .before in omega (arith, fall-fits (s .args .falls .now) _ (s .args .c) (c .before .if1 .left) (s .pre .1) .0)
 
 shared-slice-read-add-node : tie.Need-shared-slice-read-add-node
-shared-slice-read-add-node c = let s = c .before .before .before .before .before in fall-fits (s .args .falls .now) _ (s .args .c) (c .before .before .if1 .left) (s .pre .1) .0
+shared-slice-read-add-node c =
+    let at-start : tie.Start = search in
+    fall-fits (at-start .args .falls .now) _ (at-start .args .c) (c .before .before .if1 .left) (at-start .pre .1) .0
 
 add-node-requires : tie.Need-add-node-requires
 add-node-requires c κs =
-    let s = c .before .before .before .before .before in
-    fits-room (s .args .part .now) (s .args .n) _ (s .pre .0) (fall-fits (s .args .falls .now) _ (s .args .c) (c .before .before .if1 .left) (s .pre .1) .1)
+    let at-start : tie.Start = search in
+    fits-room (at-start .args .part .now) (at-start .args .n) _ (at-start .pre .0) (fall-fits (at-start .args .falls .now) _ (at-start .args .c) (c .before .before .if1 .left) (at-start .pre .1) .1)
 
 same-length : tie.Need-same-length
 same-length c = search needs
 
 returns-2 : tie.Need-returns-2
 returns-2 c =
-    let s = c .before .before .before .before .before .before .before .before in
+    let at-else1 : tie.Else1 = search in
+    let at-start : tie.Start = search in
     let a = c .before .before .add-node in
-    let z = c .before .before .before .before .before .if1 .left in (
-      fall-some (s .args .falls .now) _ _ _ _ (s .args .c) z (a .ensures .added),
-      fits-next (s .args .part .now) (a .last .0) (s .args .n) (a .result) _ (s .pre .0) (fall-fits (s .args .falls .now) _ (s .args .c) z (s .pre .1) .1) (a .kept .0) (a .ensures),
+    let z = at-else1 .if1 .left in (
+      fall-some (at-start .args .falls .now) _ _ _ _ (at-start .args .c) z (a .ensures .added),
+      fits-next (at-start .args .part .now) (a .last .0) (at-start .args .n) (a .result) _ (at-start .pre .0) (fall-fits (at-start .args .falls .now) _ (at-start .args .c) z (at-start .pre .1) .1) (a .kept .0) (a .ensures),
     )
 
 pub add-fall-spec : {M : Type 1} → statement M

@@ -18,28 +18,31 @@ shared-slice-read-add-link c = search needs
 
 add-link-requires : tie.Need-add-link-requires
 add-link-requires c κs =
-    let s = c .before .before .before .before .before .before in
-    body-room _ _ _ _ (s .pre .0 .2) (room-as (block-endloop (s .args .falls .now) (s .args .frames .now) (s .args .i) (s .args .word) (c .before .before .if1 .taken)) (s .pre .1))
+    let at-start : tie.Start = search in
+    body-room _ _ _ _ (at-start .pre .0 .2) (room-as (block-endloop (at-start .args .falls .now) (at-start .args .frames .now) (at-start .args .i) (at-start .args .word) (c .before .before .if1 .taken)) (at-start .pre .1))
 
 same-length : tie.Need-same-length
 same-length c = search needs
 
 returns : tie.Need-returns
 returns c =
-    let a = c .before .before .before .before .before .before .before .before .before .args in
-    grows-as (block-endloop (a .falls .now) (a .frames .now) (a .i) (a .word) (c .before .before .before .before .before .if1 .taken)) (c .before .before .add-link .ensures)
+    let at-then1 : tie.Then1 = search in
+    let at-start : tie.Start = search in
+    let a = at-start .args in
+    grows-as (block-endloop (a .falls .now) (a .frames .now) (a .i) (a .word) (at-then1 .if1 .taken)) (c .before .before .add-link .ensures)
 
 add-until-requires : tie.Need-add-until-requires
 add-until-requires c κs =
-    let s = c .before .before .before .before .before .before in
-    (s .pre .0, room-as (block-until (s .args .falls .now) (s .args .frames .now) (s .args .i) (s .args .word) (c .before .if2 .taken)) (s .pre .1))
+    let at-start : tie.Start = search in
+    (at-start .pre .0, room-as (block-until (at-start .args .falls .now) (at-start .args .frames .now) (at-start .args .i) (at-start .args .word) (c .before .if2 .taken)) (at-start .pre .1))
 
 same-length-2 : tie.Need-same-length-2
 same-length-2 c = search needs
 
 returns-2 : tie.Need-returns-2
 returns-2 c =
-    let a = c .before .before .before .before .before .before .before .before .before .args in
+    let at-start : tie.Start = search in
+    let a = at-start .args in
     grows-as (block-until (a .falls .now) (a .frames .now) (a .i) (a .word) (c .before .before .before .before .if2 .taken)) (c .before .before .add-until .ensures)
 
 falls-on-requires : tie.Need-falls-on-requires
@@ -56,20 +59,27 @@ shared-slice-read-add-node c = search needs
 
 add-node-requires : tie.Need-add-node-requires
 add-node-requires c κs =
-    let s = c .before .before .before .before .before .before .before .before .before in
-    room-one _ _ _ (room-as (block-falls (s .args .falls .now) (s .args .frames .now) (s .args .i) (s .args .word) (c .before .before .before .before .before .if1 .left) (c .before .before .before .before .if2 .left) (sym (c .before .before .before .falls-on .ensures) ∙ c .before .before .if3 .taken)) (s .pre .1))
+    let at-else1 : tie.Else1 = search in
+    let at-start : tie.Start = search in
+    room-one _ _ _ (room-as (block-falls (at-start .args .falls .now) (at-start .args .frames .now) (at-start .args .i) (at-start .args .word) (at-else1 .if1 .left) (c .before .before .before .before .if2 .left) (sym (c .before .before .before .falls-on .ensures) ∙ c .before .before .if3 .taken)) (at-start .pre .1))
 
 same-length-3 : tie.Need-same-length-3
 same-length-3 c = search needs
 
 returns-3 : tie.Need-returns-3
 returns-3 c =
-    let a = c .before .before .before .before .before .before .before .before .before .before .before .before .args in
-    grows-as (block-falls (a .falls .now) (a .frames .now) (a .i) (a .word) (c .before .before .before .before .before .before .before .before .if1 .left) (c .before .before .before .before .before .before .before .if2 .left) (sym (c .before .before .before .before .before .before .falls-on .ensures) ∙ c .before .before .before .before .before .if3 .taken)) (c .before .before .add-node .ensures)
+    let at-then3 : tie.Then3 = search in
+    let at-falls-on : tie.After-falls-on = search in
+    let at-else2 : tie.Else2 = search in
+    let at-else1 : tie.Else1 = search in
+    let at-start : tie.Start = search in
+    let a = at-start .args in
+    grows-as (block-falls (a .falls .now) (a .frames .now) (a .i) (a .word) (at-else1 .if1 .left) (at-else2 .if2 .left) (sym (at-falls-on .falls-on .ensures) ∙ at-then3 .if3 .taken)) (c .before .before .add-node .ensures)
 
 returns-4 : tie.Need-returns-4
 returns-4 c =
-    let a = c .before .before .before .before .before .before .before .args in
+    let at-start : tie.Start = search in
+    let a = at-start .args in
     grows-as (block-stops (a .falls .now) (a .frames .now) (a .i) (a .word) (c .before .before .before .if1 .left) (c .before .before .if2 .left) (sym (c .before .falls-on .ensures) ∙ c .if3 .left)) (grows-none _ _)
 
 pub add-block-spec : {M : Type 1} → statement M

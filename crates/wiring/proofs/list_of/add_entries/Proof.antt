@@ -31,15 +31,16 @@ same-length c = search needs
 
 returns : tie.Need-returns Inv-loop μ-loop
 returns c =
-    let a = c .before .before .before .before .before .before .args in
+    let at-start : tie.Start Inv-loop μ-loop = search in
+    let a = at-start .args in
     let l = c .before .before .before .loop in
     entries-end (a .row .now) (a .part .now) (l .part) (l .n) (l .k) (l .last) (c .before .before .loop-test .taken) (l .inv .2) (l .inv .4) (c .if1 .taken)
 
 add-entry-requires : tie.Need-add-entry-requires Inv-loop μ-loop
 add-entry-requires c κs =
-    let s = c .before .before .before .before .before .before .before in
+    let at-start : tie.Start Inv-loop μ-loop = search in
     let l = c .before .before .before .before .loop in
-    entry-room (s .args .row .now) (s .args .part .now) (l .part) (l .n) (l .k) (l .last) (c .before .before .before .loop-test .taken) (l .inv .2) (l .inv .4) (s .pre .0) (l .inv .3) (c .before .if1 .left)
+    entry-room (at-start .args .row .now) (at-start .args .part .now) (l .part) (l .n) (l .k) (l .last) (c .before .before .before .loop-test .taken) (l .inv .2) (l .inv .4) (at-start .pre .0) (l .inv .3) (c .before .if1 .left)
 
 add-k : tie.Need-add-k Inv-loop μ-loop
 add-k c = search needs
@@ -49,10 +50,13 @@ loop-less c = search needs
 
 loop-again : tie.Need-loop-again Inv-loop μ-loop
 loop-again c =
-    let a = c .before .before .before .before .before .before .before .before .before .before .args in
-    let l = c .before .before .before .before .before .before .before .loop in
+    let in-loop : tie.In-loop Inv-loop μ-loop = search in
+    let at-loop : tie.At-loop Inv-loop μ-loop = search in
+    let at-start : tie.Start Inv-loop μ-loop = search in
+    let a = at-start .args in
+    let l = at-loop .loop in
     let e = c .before .before .add-entry .ensures in
-    (search needs, search needs, each-on decode (a .row .now) _ _ _ _ _ _ (l .k) (c .before .before .before .before .before .before .loop-test .taken) (l .inv .2) (e .grows), e .added, rises-next (a .row .now) (a .part .now) (l .part) (l .n) (l .k) (l .last) (c .before .before .before .before .before .before .loop-test .taken) (l .inv .2) (l .inv .4) (c .before .before .before .before .if1 .left))
+    (search needs, search needs, each-on decode (a .row .now) _ _ _ _ _ _ (l .k) (in-loop .loop-test .taken) (l .inv .2) (e .grows), e .added, rises-next (a .row .now) (a .part .now) (l .part) (l .n) (l .k) (l .last) (in-loop .loop-test .taken) (l .inv .2) (l .inv .4) (c .before .before .before .before .if1 .left))
 
 same-length-2 : tie.Need-same-length-2 Inv-loop μ-loop
 same-length-2 c = search needs

@@ -11,13 +11,16 @@ shared-slice-read-add-node : tie.Need-shared-slice-read-add-node
 shared-slice-read-add-node c = search needs
 
 add-node-requires : tie.Need-add-node-requires
-add-node-requires c κs = first-room (c .before .before .before .before .before .args .row .now) _ (c .before .before .if1 .left) (c .before .before .before .before .before .pre)
+add-node-requires c κs = let at-start : tie.Start = search in first-room (at-start .args .row .now) _ (c .before .before .if1 .left) (at-start .pre)
 
 same-length : tie.Need-same-length
 same-length c = search needs
 
 returns-2 : tie.Need-returns-2
-returns-2 c = first-one (c .before .before .before .before .before .before .before .before .args .row .now) _ _ _ (c .before .before .before .before .before .if1 .left) (c .before .before .add-node .ensures)
+returns-2 c =
+    let at-else1 : tie.Else1 = search in
+    let at-start : tie.Start = search in
+    first-one (at-start .args .row .now) _ _ _ (at-else1 .if1 .left) (c .before .before .add-node .ensures)
 
 pub add-first-spec : {M : Type 1} → statement M
 add-first-spec =

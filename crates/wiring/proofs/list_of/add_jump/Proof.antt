@@ -42,8 +42,8 @@ part-add-targets-end c = search needs
 
 add-targets-requires : tie.Need-add-targets-requires
 add-targets-requires c κs =
-    let s = c .before .before .before .before .before .before .before .before in
-    room-first _ _ _ _ (room-as (jump-parts (s .args .stmts .now) (s .args .falls .now) (s .args .links .now) (s .args .i) (c .before .before .wide .result) (c .before .before .wide .ensures)) (s .pre .1))
+    let at-start : tie.Start = search in
+    room-first _ _ _ _ (room-as (jump-parts (at-start .args .stmts .now) (at-start .args .falls .now) (at-start .args .links .now) (at-start .args .i) (c .before .before .wide .result) (c .before .before .wide .ensures)) (at-start .pre .1))
 
 mul-if1 : tie.Need-mul-if1
 mul-if1 c = search needs
@@ -59,8 +59,10 @@ same-length c = c .before .before .before .part .given
 
 returns : tie.Need-returns
 returns c =
-    let a = c .before .before .before .before .before .before .before .before .before .before .before .before .before .args in
-    grows-as (jump-only (a .stmts .now) (a .falls .now) (a .links .now) (a .i) (c .before .before .before .before .before .before .before .wide .result) (c .before .before .before .before .before .before .before .wide .ensures) (c .if1 .taken)) (c .before .before .before .before .add-targets .ensures)
+    let at-wide : tie.After-wide = search in
+    let at-start : tie.Start = search in
+    let a = at-start .args in
+    grows-as (jump-only (a .stmts .now) (a .falls .now) (a .links .now) (a .i) (at-wide .wide .result) (at-wide .wide .ensures) (c .if1 .taken)) (c .before .before .before .before .add-targets .ensures)
 
 mul-add-node : tie.Need-mul-add-node
 mul-add-node c = search needs
@@ -73,17 +75,23 @@ shared-slice-read-add-node c = search needs
 
 add-node-requires : tie.Need-add-node-requires
 add-node-requires c κs =
-    let s = c .before .before .before .before .before .before .before .before .before .before .before .before .before .before .before in
-    let w = room-as (jump-falls (s .args .stmts .now) (s .args .falls .now) (s .args .links .now) (s .args .i) (c .before .before .before .before .before .before .before .before .before .wide .result) (c .before .before .before .before .before .before .before .before .before .wide .ensures) (c .before .before .if1 .left)) (s .pre .1) in
-    room-one _ _ _ (room-next _ _ _ _ w _ _ (c .before .before .before .before .before .before .add-targets .ensures))
+    let at-add-targets : tie.After-add-targets = search in
+    let at-wide : tie.After-wide = search in
+    let at-start : tie.Start = search in
+    let w = room-as (jump-falls (at-start .args .stmts .now) (at-start .args .falls .now) (at-start .args .links .now) (at-start .args .i) (at-wide .wide .result) (at-wide .wide .ensures) (c .before .before .if1 .left)) (at-start .pre .1) in
+    room-one _ _ _ (room-next _ _ _ _ w _ _ (at-add-targets .add-targets .ensures))
 
 same-length-2 : tie.Need-same-length-2
-same-length-2 c = c .before .part2 .given ∙ c .before .before .before .before .before .before .before .before .part .given
+same-length-2 c = let at-part : tie.After-part = search in c .before .part2 .given ∙ at-part .part .given
 
 returns-2 : tie.Need-returns-2
 returns-2 c =
-    let a = c .before .before .before .before .before .before .before .before .before .before .before .before .before .before .before .before .before .before .args in
-    grows-as (jump-falls (a .stmts .now) (a .falls .now) (a .links .now) (a .i) (c .before .before .before .before .before .before .before .before .before .before .before .before .wide .result) (c .before .before .before .before .before .before .before .before .before .before .before .before .wide .ensures) (c .before .before .before .before .before .if1 .left)) (grows-both _ _ _ _ _ _ _ _ (c .before .before .before .before .before .before .before .before .before .add-targets .ensures) (c .before .before .add-node .ensures))
+    let at-else1 : tie.Else1 = search in
+    let at-add-targets : tie.After-add-targets = search in
+    let at-wide : tie.After-wide = search in
+    let at-start : tie.Start = search in
+    let a = at-start .args in
+    grows-as (jump-falls (a .stmts .now) (a .falls .now) (a .links .now) (a .i) (at-wide .wide .result) (at-wide .wide .ensures) (at-else1 .if1 .left)) (grows-both _ _ _ _ _ _ _ _ (at-add-targets .add-targets .ensures) (c .before .before .add-node .ensures))
 
 pub add-jump-spec : {M : Type 1} → statement M
 add-jump-spec =

@@ -22,9 +22,7 @@ wide-requires : tie.Need-wide-requires
 wide-requires c κs = search needs
 
 add-popped-requires : tie.Need-add-popped-requires
-add-popped-requires c κs =
-    let s = c .before .before .before .before .before .before .before in
-    rw (c .before .wide .ensures) (s .pre .0 .2)
+add-popped-requires c κs = let at-start : tie.Start = search in rw (c .before .wide .ensures) (at-start .pre .0 .2)
 
 mul-add-node : tie.Need-mul-add-node
 mul-add-node c = search needs
@@ -37,8 +35,9 @@ shared-slice-read-add-node c = search needs
 
 add-node-requires : tie.Need-add-node-requires
 add-node-requires c κs =
-    let s = c .before .before .before .before .before .before .before .before .before .before .before .before in
-    let w = room-as (next-parts (s .args .stmts .now) (s .args .falls .now) (s .args .links .now) (s .args .i) (c .before .before .before .before .before .before .wide .result) (c .before .before .before .before .before .before .wide .ensures)) (s .pre .1) in
+    let at-wide : tie.After-wide = search in
+    let at-start : tie.Start = search in
+    let w = room-as (next-parts (at-start .args .stmts .now) (at-start .args .falls .now) (at-start .args .links .now) (at-start .args .i) (at-wide .wide .result) (at-wide .wide .ensures)) (at-start .pre .1) in
     room-one _ _ _ (room-next _ _ _ _ w _ _ (c .before .before .before .before .add-popped .ensures))
 
 same-length : tie.Need-same-length
@@ -46,8 +45,11 @@ same-length c = search needs
 
 returns : tie.Need-returns
 returns c =
-    let a = c .before .before .before .before .before .before .before .before .before .before .before .before .before .before .before .args in
-    grows-as (next-parts (a .stmts .now) (a .falls .now) (a .links .now) (a .i) (c .before .before .before .before .before .before .before .before .before .wide .result) (c .before .before .before .before .before .before .before .before .before .wide .ensures)) (grows-both _ _ _ _ _ _ _ _ (c .before .before .before .before .before .before .before .add-popped .ensures) (c .before .before .add-node .ensures))
+    let at-add-popped : tie.After-add-popped = search in
+    let at-wide : tie.After-wide = search in
+    let at-start : tie.Start = search in
+    let a = at-start .args in
+    grows-as (next-parts (a .stmts .now) (a .falls .now) (a .links .now) (a .i) (at-wide .wide .result) (at-wide .wide .ensures)) (grows-both _ _ _ _ _ _ _ _ (at-add-popped .add-popped .ensures) (c .before .before .add-node .ensures))
 
 pub add-next-spec : {M : Type 1} → statement M
 add-next-spec =

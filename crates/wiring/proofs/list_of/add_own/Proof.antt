@@ -38,71 +38,114 @@ part-add-targets-end : tie.Need-part-add-targets-end
 part-add-targets-end c = search needs
 
 add-targets-requires : tie.Need-add-targets-requires
-add-targets-requires c κs = let s = c .before .before .before .before .before .before .before .before .before .before in room-as (own-branches (s .args .stmts .now) (s .args .entries .now) (s .args .falls .now) (s .args .links .now) (s .args .frames .now) (s .args .lines) (s .args .i) (c .before .before .if1 .taken)) (s .pre .room)
+add-targets-requires c κs =
+    let at-start : tie.Start = search in
+    room-as (own-branches (at-start .args .stmts .now) (at-start .args .entries .now) (at-start .args .falls .now) (at-start .args .links .now) (at-start .args .frames .now) (at-start .args .lines) (at-start .args .i) (c .before .before .if1 .taken)) (at-start .pre .room)
 
 same-length : tie.Need-same-length
 same-length c = c .before .part .given
 
 returns : tie.Need-returns
-returns c = let a = c .before .before .before .before .before .before .before .before .before .before .before .before .before .args in grows-as (own-branches (a .stmts .now) (a .entries .now) (a .falls .now) (a .links .now) (a .frames .now) (a .lines) (a .i) (c .before .before .before .before .before .if1 .taken)) (c .before .before .add-targets .ensures)
+returns c =
+    let at-then1 : tie.Then1 = search in
+    let at-start : tie.Start = search in
+    let a = at-start .args in grows-as (own-branches (a .stmts .now) (a .entries .now) (a .falls .now) (a .links .now) (a .frames .now) (a .lines) (a .i) (at-then1 .if1 .taken)) (c .before .before .add-targets .ensures)
 
 add-run-requires : tie.Need-add-run-requires
 add-run-requires c κs =
-    let s = c .before .before .before .before .before .before .before .before .before .before in
-    ((s .pre .stmts, s .pre .entries, s .pre .links, s .pre .few (c .before .before .if1 .left)), room-as (own-run (s .args .stmts .now) (s .args .entries .now) (s .args .falls .now) (s .args .links .now) (s .args .frames .now) (s .args .lines) (s .args .i) (c .before .before .if1 .left) (c .before .if2 .taken)) (s .pre .room))
+    let at-start : tie.Start = search in
+    ((at-start .pre .stmts, at-start .pre .entries, at-start .pre .links, at-start .pre .few (c .before .before .if1 .left)), room-as (own-run (at-start .args .stmts .now) (at-start .args .entries .now) (at-start .args .falls .now) (at-start .args .links .now) (at-start .args .frames .now) (at-start .args .lines) (at-start .args .i) (c .before .before .if1 .left) (c .before .if2 .taken)) (at-start .pre .room))
 
 same-length-2 : tie.Need-same-length-2
 same-length-2 c = c .before .part2 .given
 
 returns-2 : tie.Need-returns-2
-returns-2 c = let a = c .before .before .before .before .before .before .before .before .before .before .before .before .before .args in grows-as (own-run (a .stmts .now) (a .entries .now) (a .falls .now) (a .links .now) (a .frames .now) (a .lines) (a .i) (c .before .before .before .before .before .if1 .left) (c .before .before .before .before .if2 .taken)) (c .before .before .add-run .ensures)
+returns-2 c =
+    let at-else1 : tie.Else1 = search in
+    let at-start : tie.Start = search in
+    let a = at-start .args in grows-as (own-run (a .stmts .now) (a .entries .now) (a .falls .now) (a .links .now) (a .frames .now) (a .lines) (a .i) (at-else1 .if1 .left) (c .before .before .before .before .if2 .taken)) (c .before .before .add-run .ensures)
 
 add-jump-requires : tie.Need-add-jump-requires
 add-jump-requires c κs =
-    let s = c .before .before .before .before .before .before .before .before .before .before .before in
-    ((s .pre .stmts, s .pre .falls, s .pre .links, s .pre .few (c .before .before .before .if1 .left)), room-as (own-jump (s .args .stmts .now) (s .args .entries .now) (s .args .falls .now) (s .args .links .now) (s .args .frames .now) (s .args .lines) (s .args .i) (c .before .before .before .if1 .left) (c .before .before .if2 .left) (c .before .if3 .taken)) (s .pre .room))
+    let at-start : tie.Start = search in
+    ((at-start .pre .stmts, at-start .pre .falls, at-start .pre .links, at-start .pre .few (c .before .before .before .if1 .left)), room-as (own-jump (at-start .args .stmts .now) (at-start .args .entries .now) (at-start .args .falls .now) (at-start .args .links .now) (at-start .args .frames .now) (at-start .args .lines) (at-start .args .i) (c .before .before .before .if1 .left) (c .before .before .if2 .left) (c .before .if3 .taken)) (at-start .pre .room))
 
 same-length-3 : tie.Need-same-length-3
 same-length-3 c = c .before .part3 .given
 
 returns-3 : tie.Need-returns-3
-returns-3 c = let a = c .before .before .before .before .before .before .before .before .before .before .before .before .before .before .args in grows-as (own-jump (a .stmts .now) (a .entries .now) (a .falls .now) (a .links .now) (a .frames .now) (a .lines) (a .i) (c .before .before .before .before .before .before .if1 .left) (c .before .before .before .before .before .if2 .left) (c .before .before .before .before .if3 .taken)) (c .before .before .add-jump .ensures)
+returns-3 c =
+    let at-else2 : tie.Else2 = search in
+    let at-else1 : tie.Else1 = search in
+    let at-start : tie.Start = search in
+    let a = at-start .args in grows-as (own-jump (a .stmts .now) (a .entries .now) (a .falls .now) (a .links .now) (a .frames .now) (a .lines) (a .i) (at-else1 .if1 .left) (at-else2 .if2 .left) (c .before .before .before .before .if3 .taken)) (c .before .before .add-jump .ensures)
 
 add-next-requires : tie.Need-add-next-requires
 add-next-requires c κs =
-    let s = c .before .before .before .before .before .before .before .before .before .before .before .before in
-    ((s .pre .stmts, s .pre .falls, s .pre .popped (c .before .if4 .taken)), room-as (own-next (s .args .stmts .now) (s .args .entries .now) (s .args .falls .now) (s .args .links .now) (s .args .frames .now) (s .args .lines) (s .args .i) (c .before .before .before .before .if1 .left) (c .before .before .before .if2 .left) (c .before .before .if3 .left) (c .before .if4 .taken)) (s .pre .room))
+    let at-start : tie.Start = search in
+    ((at-start .pre .stmts, at-start .pre .falls, at-start .pre .popped (c .before .if4 .taken)), room-as (own-next (at-start .args .stmts .now) (at-start .args .entries .now) (at-start .args .falls .now) (at-start .args .links .now) (at-start .args .frames .now) (at-start .args .lines) (at-start .args .i) (c .before .before .before .before .if1 .left) (c .before .before .before .if2 .left) (c .before .before .if3 .left) (c .before .if4 .taken)) (at-start .pre .room))
 
 same-length-4 : tie.Need-same-length-4
 same-length-4 c = c .before .part4 .given
 
 returns-4 : tie.Need-returns-4
-returns-4 c = let a = c .before .before .before .before .before .before .before .before .before .before .before .before .before .before .before .args in grows-as (own-next (a .stmts .now) (a .entries .now) (a .falls .now) (a .links .now) (a .frames .now) (a .lines) (a .i) (c .before .before .before .before .before .before .before .if1 .left) (c .before .before .before .before .before .before .if2 .left) (c .before .before .before .before .before .if3 .left) (c .before .before .before .before .if4 .taken)) (c .before .before .add-next .ensures)
+returns-4 c =
+    let at-else3 : tie.Else3 = search in
+    let at-else2 : tie.Else2 = search in
+    let at-else1 : tie.Else1 = search in
+    let at-start : tie.Start = search in
+    let a = at-start .args in grows-as (own-next (a .stmts .now) (a .entries .now) (a .falls .now) (a .links .now) (a .frames .now) (a .lines) (a .i) (at-else1 .if1 .left) (at-else2 .if2 .left) (at-else3 .if3 .left) (c .before .before .before .before .if4 .taken)) (c .before .before .add-next .ensures)
 
 slice-aggregate-add-entries : tie.Need-slice-aggregate-add-entries
-slice-aggregate-add-entries c = let s = c .before .before .before .before .before .before .before .before .before .before .before .before .before in sym (length-take-le (s .args .lines) (s .args .entries .now) (s .pre .entries))
+slice-aggregate-add-entries c =
+    let at-start : tie.Start = search in
+    sym (length-take-le (at-start .args .lines) (at-start .args .entries .now) (at-start .pre .entries))
 
 add-entries-requires : tie.Need-add-entries-requires
 add-entries-requires c κs =
-    let s = c .before .before .before .before .before .before .before .before .before .before .before .before .before .before in
-    (room-as (own-any (s .args .stmts .now) (s .args .entries .now) (s .args .falls .now) (s .args .links .now) (s .args .frames .now) (s .args .lines) (s .args .i) (c .before .before .before .before .before .before .if1 .left) (c .before .before .before .before .before .if2 .left) (c .before .before .before .before .if3 .left) (c .before .before .if5 .taken)) (s .pre .room), s .pre .rises)
+    let at-else2 : tie.Else2 = search in
+    let at-else1 : tie.Else1 = search in
+    let at-start : tie.Start = search in
+    (room-as (own-any (at-start .args .stmts .now) (at-start .args .entries .now) (at-start .args .falls .now) (at-start .args .links .now) (at-start .args .frames .now) (at-start .args .lines) (at-start .args .i) (at-else1 .if1 .left) (at-else2 .if2 .left) (c .before .before .before .before .if3 .left) (c .before .before .if5 .taken)) (at-start .pre .room), at-start .pre .rises)
 
 same-length-5 : tie.Need-same-length-5
 same-length-5 c = c .before .part5 .given
 
+-- Ways back from a place to an earlier one. `search` finds each by its type.
+abbrev start-of-add-entries : tie.After-add-entries → tie.Start
+start-of-add-entries c = search
+
+abbrev start-of-add-block : tie.After-add-block → tie.Start
+start-of-add-block c = search
+
+ruleset ways = (start-of-add-entries, start-of-add-block)
+
 returns-5 : tie.Need-returns-5
-returns-5 c = let a = c .before .before .before .before .before .before .before .before .before .before .before .before .before .before .before .before .before .args in grows-as (own-any (a .stmts .now) (a .entries .now) (a .falls .now) (a .links .now) (a .frames .now) (a .lines) (a .i) (c .before .before .before .before .before .before .before .before .before .if1 .left) (c .before .before .before .before .before .before .before .before .if2 .left) (c .before .before .before .before .before .before .before .if3 .left) (c .before .before .before .before .before .if5 .taken)) (c .before .before .add-entries .ensures)
+returns-5 c =
+    let at-then5 : tie.Then5 = search in
+    let at-else3 : tie.Else3 = search in
+    let at-else2 : tie.Else2 = search in
+    let at-else1 : tie.Else1 = search in
+    let at-start : tie.Start = search ways in
+    let a = at-start .args in grows-as (own-any (a .stmts .now) (a .entries .now) (a .falls .now) (a .links .now) (a .frames .now) (a .lines) (a .i) (at-else1 .if1 .left) (at-else2 .if2 .left) (at-else3 .if3 .left) (at-then5 .if5 .taken)) (c .before .before .add-entries .ensures)
 
 add-block-requires : tie.Need-add-block-requires
 add-block-requires c κs =
-    let s = c .before .before .before .before .before .before .before .before .before .before .before .before .before in
-    ((s .pre .falls, s .pre .frames, s .pre .opener), room-as (own-block (s .args .stmts .now) (s .args .entries .now) (s .args .falls .now) (s .args .links .now) (s .args .frames .now) (s .args .lines) (s .args .i) (c .before .before .before .before .before .if1 .left) (c .before .before .before .before .if2 .left) (c .before .before .before .if3 .left) (c .before .before .if4 .left) (c .before .if5 .left)) (s .pre .room))
+    let at-else1 : tie.Else1 = search in
+    let at-start : tie.Start = search in
+    ((at-start .pre .falls, at-start .pre .frames, at-start .pre .opener), room-as (own-block (at-start .args .stmts .now) (at-start .args .entries .now) (at-start .args .falls .now) (at-start .args .links .now) (at-start .args .frames .now) (at-start .args .lines) (at-start .args .i) (at-else1 .if1 .left) (c .before .before .before .before .if2 .left) (c .before .before .before .if3 .left) (c .before .before .if4 .left) (c .before .if5 .left)) (at-start .pre .room))
 
 same-length-6 : tie.Need-same-length-6
 same-length-6 c = c .before .part6 .given
 
 returns-6 : tie.Need-returns-6
-returns-6 c = let a = c .before .before .before .before .before .before .before .before .before .before .before .before .before .before .before .before .args in grows-as (own-block (a .stmts .now) (a .entries .now) (a .falls .now) (a .links .now) (a .frames .now) (a .lines) (a .i) (c .before .before .before .before .before .before .before .before .if1 .left) (c .before .before .before .before .before .before .before .if2 .left) (c .before .before .before .before .before .before .if3 .left) (c .before .before .before .before .before .if4 .left) (c .before .before .before .before .if5 .left)) (c .before .before .add-block .ensures)
+returns-6 c =
+    let at-else4 : tie.Else4 = search in
+    let at-else3 : tie.Else3 = search in
+    let at-else2 : tie.Else2 = search in
+    let at-else1 : tie.Else1 = search in
+    let at-start : tie.Start = search ways in
+    let a = at-start .args in grows-as (own-block (a .stmts .now) (a .entries .now) (a .falls .now) (a .links .now) (a .frames .now) (a .lines) (a .i) (at-else1 .if1 .left) (at-else2 .if2 .left) (at-else3 .if3 .left) (at-else4 .if4 .left) (c .before .before .before .before .if5 .left)) (c .before .before .add-block .ensures)
 
 pub add-own-spec : {M : Type 1} → statement M
 add-own-spec =

@@ -23,20 +23,25 @@ wide-requires : tie.Need-wide-requires
 wide-requires c κs = search needs
 
 slice-aggregate-add-first : tie.Need-slice-aggregate-add-first
-slice-aggregate-add-first c = let s = c .before .before .before .before .before .before .before .before in sym (length-take-le (s .args .lines) (s .args .entries .now) (s .pre .0 .1))
+slice-aggregate-add-first c =
+    let at-start : tie.Start = search in
+    sym (length-take-le (at-start .args .lines) (at-start .args .entries .now) (at-start .pre .0 .1))
 
 add-first-requires : tie.Need-add-first-requires
 add-first-requires c κs =
-    let s = c .before .before .before .before .before .before .before .before .before in
-    room-as (run-first (s .args .stmts .now) (s .args .entries .now) (s .args .links .now) (s .args .lines) (s .args .i) (c .before .before .before .wide .result) (c .before .before .before .wide .ensures) (c .before .before .if1 .taken)) (s .pre .1)
+    let at-start : tie.Start = search in
+    room-as (run-first (at-start .args .stmts .now) (at-start .args .entries .now) (at-start .args .links .now) (at-start .args .lines) (at-start .args .i) (c .before .before .before .wide .result) (c .before .before .before .wide .ensures) (c .before .before .if1 .taken)) (at-start .pre .1)
 
 same-length : tie.Need-same-length
 same-length c = search needs
 
 returns : tie.Need-returns
 returns c =
-    let a = c .before .before .before .before .before .before .before .before .before .before .before .before .args in
-    grows-as (run-first (a .stmts .now) (a .entries .now) (a .links .now) (a .lines) (a .i) (c .before .before .before .before .before .before .wide .result) (c .before .before .before .before .before .before .wide .ensures) (c .before .before .before .before .before .if1 .taken)) (c .before .before .add-first .ensures)
+    let at-then1 : tie.Then1 = search in
+    let at-wide : tie.After-wide = search in
+    let at-start : tie.Start = search in
+    let a = at-start .args in
+    grows-as (run-first (a .stmts .now) (a .entries .now) (a .links .now) (a .lines) (a .i) (at-wide .wide .result) (at-wide .wide .ensures) (at-then1 .if1 .taken)) (c .before .before .add-first .ensures)
 
 mul-at : tie.Need-mul-at
 mul-at c = search needs
@@ -58,16 +63,19 @@ part-add-targets-end c = search needs
 
 add-targets-requires : tie.Need-add-targets-requires
 add-targets-requires c κs =
-    let s = c .before .before .before .before .before .before .before .before .before in
-    room-as (run-target (s .args .stmts .now) (s .args .entries .now) (s .args .links .now) (s .args .lines) (s .args .i) (c .before .before .before .wide .result) (c .before .before .before .wide .ensures) (c .before .before .if1 .left)) (s .pre .1)
+    let at-start : tie.Start = search in
+    room-as (run-target (at-start .args .stmts .now) (at-start .args .entries .now) (at-start .args .links .now) (at-start .args .lines) (at-start .args .i) (c .before .before .before .wide .result) (c .before .before .before .wide .ensures) (c .before .before .if1 .left)) (at-start .pre .1)
 
 same-length-2 : tie.Need-same-length-2
 same-length-2 c = search needs
 
 returns-2 : tie.Need-returns-2
 returns-2 c =
-    let a = c .before .before .before .before .before .before .before .before .before .before .before .before .args in
-    grows-as (run-target (a .stmts .now) (a .entries .now) (a .links .now) (a .lines) (a .i) (c .before .before .before .before .before .before .wide .result) (c .before .before .before .before .before .before .wide .ensures) (c .before .before .before .before .before .if1 .left)) (c .before .before .add-targets .ensures)
+    let at-else1 : tie.Else1 = search in
+    let at-wide : tie.After-wide = search in
+    let at-start : tie.Start = search in
+    let a = at-start .args in
+    grows-as (run-target (a .stmts .now) (a .entries .now) (a .links .now) (a .lines) (a .i) (at-wide .wide .result) (at-wide .wide .ensures) (at-else1 .if1 .left)) (c .before .before .add-targets .ensures)
 
 pub add-run-spec : {M : Type 1} → statement M
 add-run-spec =

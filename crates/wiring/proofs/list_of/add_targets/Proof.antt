@@ -28,9 +28,9 @@ shared-slice-read-add-node c = search needs
 
 add-node-requires : tie.Need-add-node-requires Inv-loop μ-loop
 add-node-requires c κs =
-    let s = c .before .before .before .before .before .before in
+    let at-start : tie.Start Inv-loop μ-loop = search in
     let l = c .before .before .before .loop in
-    room-one _ _ _ (room-each decode (s .args .row .now) (s .args .part .now) (s .args .n) (s .pre) (l .part) (l .r) (l .k) (c .before .before .loop-test .taken) (l .inv .2))
+    room-one _ _ _ (room-each decode (at-start .args .row .now) (at-start .args .part .now) (at-start .args .n) (at-start .pre) (l .part) (l .r) (l .k) (c .before .before .loop-test .taken) (l .inv .2))
 
 add-k : tie.Need-add-k Inv-loop μ-loop
 add-k c = search needs
@@ -40,9 +40,12 @@ loop-less c = search needs
 
 loop-again : tie.Need-loop-again Inv-loop μ-loop
 loop-again c =
-    let a = c .before .before .before .before .before .before .before .before .before .args in
-    let l = c .before .before .before .before .before .before .loop in
-    (search needs, search needs, each-on decode (a .row .now) _ _ _ _ _ _ (l .k) (c .before .before .before .before .before .loop-test .taken) (l .inv .2) (c .before .before .add-node .ensures))
+    let in-loop : tie.In-loop Inv-loop μ-loop = search in
+    let at-loop : tie.At-loop Inv-loop μ-loop = search in
+    let at-start : tie.Start Inv-loop μ-loop = search in
+    let a = at-start .args in
+    let l = at-loop .loop in
+    (search needs, search needs, each-on decode (a .row .now) _ _ _ _ _ _ (l .k) (in-loop .loop-test .taken) (l .inv .2) (c .before .before .add-node .ensures))
 
 same-length : tie.Need-same-length Inv-loop μ-loop
 same-length c = search needs

@@ -17,13 +17,14 @@ shared-slice-read-met c = search needs
 
 returns : tie.Need-returns
 returns c =
-    let a = c .before .before .before .before .before .args in
+    let at-start : tie.Start = search in
+    let a = at-start .args in
     grows-as (until-none (a .falls .now) (a .frames .now) (a .i) (c .if1 .taken)) (grows-none _ _)
 
 add-link-requires : tie.Need-add-link-requires
 add-link-requires c κs =
-    let s = c .before .before .before .before .before .before in
-    body-room _ _ _ _ (s .pre .0 .2) (room-first _ _ _ _ (room-as (until-parts (s .args .falls .now) (s .args .frames .now) (s .args .i) (c .before .if1 .left)) (s .pre .1)))
+    let at-start : tie.Start = search in
+    body-room _ _ _ _ (at-start .pre .0 .2) (room-first _ _ _ _ (room-as (until-parts (at-start .args .falls .now) (at-start .args .frames .now) (at-start .args .i) (c .before .if1 .left)) (at-start .pre .1)))
 
 mul-add-node : tie.Need-mul-add-node
 mul-add-node c = search needs
@@ -36,8 +37,9 @@ shared-slice-read-add-node c = search needs
 
 add-node-requires : tie.Need-add-node-requires
 add-node-requires c κs =
-    let s = c .before .before .before .before .before .before .before .before .before .before .before in
-    let w = room-as (until-parts (s .args .falls .now) (s .args .frames .now) (s .args .i) (c .before .before .before .before .before .before .if1 .left)) (s .pre .1) in
+    let at-else1 : tie.Else1 = search in
+    let at-start : tie.Start = search in
+    let w = room-as (until-parts (at-start .args .falls .now) (at-start .args .frames .now) (at-start .args .i) (at-else1 .if1 .left)) (at-start .pre .1) in
     room-one _ _ _ (room-next _ _ _ _ w _ _ (c .before .before .before .before .add-link .ensures))
 
 same-length : tie.Need-same-length
@@ -45,8 +47,11 @@ same-length c = search needs
 
 returns-2 : tie.Need-returns-2
 returns-2 c =
-    let a = c .before .before .before .before .before .before .before .before .before .before .before .before .before .before .args in
-    grows-as (until-parts (a .falls .now) (a .frames .now) (a .i) (c .before .before .before .before .before .before .before .before .before .if1 .left)) (grows-both _ _ _ _ _ _ _ _ (c .before .before .before .before .before .before .before .add-link .ensures) (c .before .before .add-node .ensures))
+    let at-add-link : tie.After-add-link = search in
+    let at-else1 : tie.Else1 = search in
+    let at-start : tie.Start = search in
+    let a = at-start .args in
+    grows-as (until-parts (a .falls .now) (a .frames .now) (a .i) (at-else1 .if1 .left)) (grows-both _ _ _ _ _ _ _ _ (at-add-link .add-link .ensures) (c .before .before .add-node .ensures))
 
 pub add-until-spec : {M : Type 1} → statement M
 add-until-spec =

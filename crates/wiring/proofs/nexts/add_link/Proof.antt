@@ -15,22 +15,27 @@ sub-o : tie.Need-sub-o
 sub-o c = omega (arith, c .wide .ensures)
 
 mul-add-node : tie.Need-mul-add-node
-mul-add-node c = omega (arith, c .before .wide .ensures, c .before .before .before .before .before .pre .table)
+mul-add-node c = let at-start : tie.Start = search in omega (arith, c .before .wide .ensures, at-start .pre .table)
 
 mul-add-node-2 : tie.Need-mul-add-node-2
-mul-add-node-2 c = omega (arith, c .before .wide .ensures, c .before .before .before .before .before .pre .table)
+mul-add-node-2 c = let at-start : tie.Start = search in omega (arith, c .before .wide .ensures, at-start .pre .table)
 
 shared-slice-read-add-node : tie.Need-shared-slice-read-add-node
-shared-slice-read-add-node c = omega (arith, c .before .before .wide .ensures, c .before .before .before .before .before .before .pre .table)
+shared-slice-read-add-node c = let at-start : tie.Start = search in omega (arith, c .before .before .wide .ensures, at-start .pre .table)
 
 add-node-requires : tie.Need-add-node-requires
-add-node-requires c κs = link-fit _ _ _ _ _ (c .before .before .wide .ensures) (c .before .before .before .if1 .left) (c .before .before .before .before .before .before .pre)
+add-node-requires c κs =
+    let at-start : tie.Start = search in
+    link-fit _ _ _ _ _ (c .before .before .wide .ensures) (c .before .before .before .if1 .left) (at-start .pre)
 
 same-length : tie.Need-same-length
 same-length c = search needs
 
 returns-2 : tie.Need-returns-2
-returns-2 c = link-one _ _ _ _ _ _ _ (c .before .before .before .before .before .wide .ensures) (c .before .before .before .before .before .before .if1 .left) (c .before .before .add-node .ensures)
+returns-2 c =
+    let at-wide : tie.After-wide = search in
+    let at-else1 : tie.Else1 = search in
+    link-one _ _ _ _ _ _ _ (at-wide .wide .ensures) (at-else1 .if1 .left) (c .before .before .add-node .ensures)
 
 pub add-link-spec : {M : Type 1} → statement M
 add-link-spec =

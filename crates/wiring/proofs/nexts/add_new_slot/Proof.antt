@@ -13,19 +13,21 @@ shared-slice-read-key : tie.Need-shared-slice-read-key
 shared-slice-read-key c = search needs
 
 slice-aggregate-came-before : tie.Need-slice-aggregate-came-before
-slice-aggregate-came-before c = let p = c .before .before .before .before .before .before .before in sym (length-take-le (p .args .k) (p .args .keys .now) (search needs))
+slice-aggregate-came-before c =
+    let at-start : tie.Start = search in
+    sym (length-take-le (at-start .args .k) (at-start .args .keys .now) (search needs))
 
 came-before-requires : tie.Need-came-before-requires
 came-before-requires c κs = search needs
 
 returns : tie.Need-returns
 returns c =
-    let p = c .before .before .before .before .before .before .before .before .before in
-    let a = p .args in
-    came-grows (a .args .now) (a .falls .now) (a .fors .now) _ _ _ _ (sym (c .before .came-before .ensures) ∙ c .if1 .taken) (p .pre .1 .1)
+    let at-start : tie.Start = search in
+    let a = at-start .args in
+    came-grows (a .args .now) (a .falls .now) (a .fors .now) _ _ _ _ (sym (c .before .came-before .ensures) ∙ c .if1 .taken) (at-start .pre .1 .1)
 
 add-slot-requires : tie.Need-add-slot-requires
-add-slot-requires c κs = c .before .before .before .before .before .before .before .before .before .before .pre .0
+add-slot-requires c κs = search
 
 same-length : tie.Need-same-length
 same-length c = search needs

@@ -20,7 +20,8 @@ shared-slice-read-if1 c = search needs
 
 returns : tie.Need-returns
 returns c =
-    let a = c .before .before .before .before .before .before .before .args in
+    let at-start : tie.Start = search in
+    let a = at-start .args in
     orphan-not-next (a .stmts .now) (a .args .now) (a .falls .now) (take (a .d) (a .dispatched .now)) _ _ (a .i) (c .if1 .taken)
 
 mul-if2 : tie.Need-mul-if2
@@ -37,7 +38,8 @@ shared-slice-read-if2 c = search needs
 
 returns-2 : tie.Need-returns-2
 returns-2 c =
-    let a = c .before .before .before .before .before .before .before .before .before .args in
+    let at-start : tie.Start = search in
+    let a = at-start .args in
     orphan-plain (a .stmts .now) (a .args .now) (a .falls .now) (take (a .d) (a .dispatched .now)) _ _ (a .i) (c .before .before .if1 .left) (c .if2 .taken)
 
 mul-at : tie.Need-mul-at
@@ -60,12 +62,14 @@ wide-requires c κs = search needs
 
 add-end : tie.Need-add-end
 add-end c =
-    let p = c .before .before .before .before .before .before .before .before .before .before .before in
-    let few : SlotsCounted (p .args .stmts .now) (p .args .i) = p .pre .1 .0 in
-    omega (arith, c .wide .ensures, few (c .before .before .before .before .if1 .left), p .pre .0)
+    let at-start : tie.Start = search in
+    let few : SlotsCounted (at-start .args .stmts .now) (at-start .args .i) = at-start .pre .1 .0 in
+    omega (arith, c .wide .ensures, few (c .before .before .before .before .if1 .left), at-start .pre .0)
 
 slice-aggregate-add-slots : tie.Need-slice-aggregate-add-slots
-slice-aggregate-add-slots c = let p = c .before .before .before .before .before .before .before .before .before .before .before .before in sym (length-take-le (p .args .d) (p .args .dispatched .now) (p .pre .0 .2))
+slice-aggregate-add-slots c =
+    let at-start : tie.Start = search in
+    sym (length-take-le (at-start .args .d) (at-start .args .dispatched .now) (at-start .pre .0 .2))
 
 mul-add-slots : tie.Need-mul-add-slots
 mul-add-slots c = search needs
@@ -78,20 +82,25 @@ part-add-slots-start c = search needs
 
 part-add-slots-end : tie.Need-part-add-slots-end
 part-add-slots-end c =
-    let p = c .before .before .before .before .before .before .before .before .before .before .before .before in
-    let few : SlotsCounted (p .args .stmts .now) (p .args .i) = p .pre .1 .0 in
-    omega (arith, c .before .wide .ensures, few (c .before .before .before .before .before .if1 .left), p .pre .0)
+    let at-else1 : tie.Else1 = search in
+    let at-start : tie.Start = search in
+    let few : SlotsCounted (at-start .args .stmts .now) (at-start .args .i) = at-start .pre .1 .0 in
+    omega (arith, c .before .wide .ensures, few (at-else1 .if1 .left), at-start .pre .0)
 
 add-slots-requires : tie.Need-add-slots-requires
-add-slots-requires c κs = c .before .before .before .before .before .before .before .before .before .before .before .before .before .before .pre .1 .1
+add-slots-requires c κs = search
 
 same-length : tie.Need-same-length
 same-length c = search needs
 
 returns-3 : tie.Need-returns-3
 returns-3 c =
-    let a = c .before .before .before .before .before .before .before .before .before .before .before .before .before .before .before .before .before .args in
-    orphan-slots (a .stmts .now) (a .args .now) (a .falls .now) (take (a .d) (a .dispatched .now)) _ _ (a .i) _ _ _ (c .before .before .before .before .before .before .before .before .before .before .if1 .left) (c .before .before .before .before .before .before .before .before .if2 .left) (c .before .before .before .before .before .before .wide .ensures) (c .before .before .add-slots .ensures)
+    let at-wide : tie.After-wide = search in
+    let at-else2 : tie.Else2 = search in
+    let at-else1 : tie.Else1 = search in
+    let at-start : tie.Start = search in
+    let a = at-start .args in
+    orphan-slots (a .stmts .now) (a .args .now) (a .falls .now) (take (a .d) (a .dispatched .now)) _ _ (a .i) _ _ _ (at-else1 .if1 .left) (at-else2 .if2 .left) (at-wide .wide .ensures) (c .before .before .add-slots .ensures)
 
 pub add-orphan-spec : {M : Type 1} → statement M
 add-orphan-spec =

@@ -23,14 +23,17 @@ part-add-links-end : tie.Need-part-add-links-end
 part-add-links-end c = search needs
 
 add-links-requires : tie.Need-add-links-requires
-add-links-requires c κs = let p = c .before .before .before .before .before in popped-room (p .args .falls .now) (p .args .links .now) (p .args .i) (p .args .count) _ _ (p .pre)
+add-links-requires c κs =
+    let at-start : tie.Start = search in
+    popped-room (at-start .args .falls .now) (at-start .args .links .now) (at-start .args .i) (at-start .args .count) _ _ (at-start .pre)
 
 same-length : tie.Need-same-length
 same-length c = search needs
 
 returns : tie.Need-returns
 returns c =
-    let a = c .before .before .before .before .before .before .before .before .args in
+    let at-start : tie.Start = search in
+    let a = at-start .args in
     links-added (a .falls .now) (a .links .now) (a .i) (a .count) _ _ _ _ (c .before .before .add-links .ensures)
 
 pub add-popped-spec : {M : Type 1} → statement M

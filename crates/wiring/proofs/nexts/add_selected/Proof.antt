@@ -30,19 +30,27 @@ shared-slice-read-add-node : tie.Need-shared-slice-read-add-node
 shared-slice-read-add-node c = search needs
 
 add-node-requires : tie.Need-add-node-requires
-add-node-requires c κs = let a = c .before .before .before .before .before .before .before .before .before .args in for-fit (a .args .now) (a .falls .now) _ _ (a .key) (a .o) _ (c .before .before .before .before .before .wide .ensures) (c .before .before .before .before .before .before .before .before .before .pre)
+add-node-requires c κs =
+    let at-wide : tie.After-wide = search in
+    let at-start : tie.Start = search in
+    let a = at-start .args in for-fit (a .args .now) (a .falls .now) _ _ (a .key) (a .o) _ (at-wide .wide .ensures) (at-start .pre)
 
 same-length : tie.Need-same-length
 same-length c = search needs
 
 returns : tie.Need-returns
 returns c =
-    let a = c .before .before .before .before .before .before .before .before .before .before .before .before .args in
-    for-selected (a .args .now) (a .falls .now) _ _ (a .key) (a .o) _ (c .before .before .before .before .before .before .before .before .wide .ensures) _ _ (sym (c .before .before .before .before .before .before .selects .ensures) ∙ c .before .before .before .before .before .if1 .taken) (c .before .before .add-node .ensures)
+    let at-then1 : tie.Then1 = search in
+    let at-selects : tie.After-selects = search in
+    let at-wide : tie.After-wide = search in
+    let at-start : tie.Start = search in
+    let a = at-start .args in
+    for-selected (a .args .now) (a .falls .now) _ _ (a .key) (a .o) _ (at-wide .wide .ensures) _ _ (sym (at-selects .selects .ensures) ∙ at-then1 .if1 .taken) (c .before .before .add-node .ensures)
 
 returns-2 : tie.Need-returns-2
 returns-2 c =
-    let a = c .before .before .before .before .before .before .before .args in
+    let at-start : tie.Start = search in
+    let a = at-start .args in
     for-left-out (a .args .now) (a .falls .now) _ _ (a .key) (a .o) _ (c .before .before .before .wide .ensures) (sym (c .before .selects .ensures) ∙ c .if1 .left)
 
 pub add-selected-spec : {M : Type 1} → statement M

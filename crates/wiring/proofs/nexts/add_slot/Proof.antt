@@ -27,9 +27,10 @@ shared-slice-read-add-selected c = search needs
 
 add-selected-requires : tie.Need-add-selected-requires Inv-loop μ-loop
 add-selected-requires c κs =
-    let a = c .before .before .before .before .before .before .before .before .args in
+    let at-start : tie.Start Inv-loop μ-loop = search in
+    let a = at-start .args in
     let l = c .before .before .before .loop in
-    for-room (a .args .now) (a .falls .now) (a .fors .now) (a .part .now) _ (a .key) (a .n) _ (l .k) (c .before .before .before .before .before .before .before .before .pre) (l .inv .2) (c .before .before .loop-test .taken)
+    for-room (a .args .now) (a .falls .now) (a .fors .now) (a .part .now) _ (a .key) (a .n) _ (l .k) (at-start .pre) (l .inv .2) (c .before .before .loop-test .taken)
 
 add-k : tie.Need-add-k Inv-loop μ-loop
 add-k c = search needs
@@ -39,9 +40,12 @@ loop-less c = search needs
 
 loop-again : tie.Need-loop-again Inv-loop μ-loop
 loop-again c =
-    let a = c .before .before .before .before .before .before .before .before .before .before .before .args in
-    let l = c .before .before .before .before .before .before .loop in
-    (search needs, search needs, each-on (selectedBody (a .args .now) (a .falls .now) (a .key)) (a .fors .now) _ _ _ _ _ _ (l .k) (c .before .before .before .before .before .loop-test .taken) (l .inv .2) (c .before .before .add-selected .ensures))
+    let in-loop : tie.In-loop Inv-loop μ-loop = search in
+    let at-loop : tie.At-loop Inv-loop μ-loop = search in
+    let at-start : tie.Start Inv-loop μ-loop = search in
+    let a = at-start .args in
+    let l = at-loop .loop in
+    (search needs, search needs, each-on (selectedBody (a .args .now) (a .falls .now) (a .key)) (a .fors .now) _ _ _ _ _ _ (l .k) (in-loop .loop-test .taken) (l .inv .2) (c .before .before .add-selected .ensures))
 
 same-length : tie.Need-same-length Inv-loop μ-loop
 same-length c = search needs
@@ -49,7 +53,8 @@ same-length c = search needs
 returns : tie.Need-returns Inv-loop μ-loop
 unfolding slotBodies
 returns c =
-    let a = c .before .before .before .before .before .before .args in
+    let at-start : tie.Start Inv-loop μ-loop = search in
+    let a = at-start .args in
     let l = c .before .loop in
     each-end (selectedBody (a .args .now) (a .falls .now) (a .key)) (a .fors .now) _ _ _ _ (l .k) (c .loop-test .left) (l .inv .2)
 

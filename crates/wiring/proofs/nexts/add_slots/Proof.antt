@@ -18,14 +18,16 @@ abbrev μ-loop : tie.MeasureT-loop
 μ-loop args falls fors keys part₀ n r₀ k₀ part r k = length keys - k
 
 loop-holds : tie.Need-loop-holds Inv-loop μ-loop
-loop-holds c = let a = c .before .before .before .before .before .args in (omega arith, refl, each-start (slotBodies (a .args .now) (a .falls .now) (a .fors .now)) (a .keys .now) _ _)
+loop-holds c =
+    let at-start : tie.Start Inv-loop μ-loop = search in
+    let a = at-start .args in (omega arith, refl, each-start (slotBodies (a .args .now) (a .falls .now) (a .fors .now)) (a .keys .now) _ _)
 
 add-new-slot-requires : tie.Need-add-new-slot-requires Inv-loop μ-loop
 add-new-slot-requires c κs =
-    let p = c .before .before .before .before .before .before .before .before in
-    let a = p .args in
+    let at-start : tie.Start Inv-loop μ-loop = search in
+    let a = at-start .args in
     let l = c .before .before .loop in
-    (slot-room (a .args .now) (a .falls .now) (a .fors .now) (a .keys .now) (a .part .now) _ (a .n) _ (l .k) (p .pre) (l .inv .2), (search needs, grows-in _ _ _ _ _ (l .inv .2)))
+    (slot-room (a .args .now) (a .falls .now) (a .fors .now) (a .keys .now) (a .part .now) _ (a .n) _ (l .k) (at-start .pre) (l .inv .2), (search needs, grows-in _ _ _ _ _ (l .inv .2)))
 
 add-k : tie.Need-add-k Inv-loop μ-loop
 add-k c = search needs
@@ -35,8 +37,10 @@ loop-less c = search needs
 
 loop-again : tie.Need-loop-again Inv-loop μ-loop
 loop-again c =
-    let a = c .before .before .before .before .before .before .before .before .before .before .before .args in
-    let l = c .before .before .before .before .before .loop in
+    let at-loop : tie.At-loop Inv-loop μ-loop = search in
+    let at-start : tie.Start Inv-loop μ-loop = search in
+    let a = at-start .args in
+    let l = at-loop .loop in
     (search needs, search needs, each-on (slotBodies (a .args .now) (a .falls .now) (a .fors .now)) (a .keys .now) _ _ _ _ _ _ (l .k) (c .before .before .before .before .loop-test .taken) (l .inv .2) (c .before .before .add-new-slot .ensures))
 
 same-length : tie.Need-same-length Inv-loop μ-loop
@@ -44,7 +48,8 @@ same-length c = search needs
 
 returns : tie.Need-returns Inv-loop μ-loop
 returns c =
-    let a = c .before .before .before .before .before .before .before .args in
+    let at-start : tie.Start Inv-loop μ-loop = search in
+    let a = at-start .args in
     let l = c .before .loop in
     each-end (slotBodies (a .args .now) (a .falls .now) (a .fors .now)) (a .keys .now) _ _ _ _ (l .k) (c .loop-test .left) (l .inv .2)
 

@@ -29,7 +29,8 @@ selects-requires c κs = search needs
 
 returns : tie.Need-returns Inv-loop μ-loop
 returns c =
-    let a = c .before .before .before .before .before .before .args in
+    let at-start : tie.Start Inv-loop μ-loop = search in
+    let a = at-start .args in
     let l = c .before .before .before .before .loop in
     sym (l .inv .1 ∙ came-here (a .keys .now) (a .key) (l .k) (c .before .before .before .loop-test .taken) (sym (c .before .selects .ensures) ∙ c .if1 .taken))
 
@@ -41,7 +42,8 @@ loop-less c = search needs
 
 loop-again : tie.Need-loop-again Inv-loop μ-loop
 loop-again c =
-    let a = c .before .before .before .before .before .before .args in
+    let at-start : tie.Start Inv-loop μ-loop = search in
+    let a = at-start .args in
     let l = c .before .before .before .before .loop in
     (search needs, l .inv .1 ∙ came-later (a .keys .now) (a .key) (l .k) (c .before .before .before .loop-test .taken) (sym (c .before .selects .ensures) ∙ c .if1 .left))
 

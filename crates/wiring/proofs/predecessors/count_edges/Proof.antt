@@ -29,25 +29,39 @@ wide-requires : tie.Need-wide-requires Inv-loop μ-loop
 wide-requires c κs = search needs
 
 mul-at : tie.Need-mul-at Inv-loop μ-loop
-mul-at c = omega (arith, counted-node (c .before .before .before .loop .m) (c .before .before .before .before .before .before .pre) (c .before .before .loop-test .taken) (c .wide .ensures) (c .before .before .before .loop .inv .2), c .before .before .before .before .before .before .pre .rows)
+mul-at c =
+    let at-start : tie.Start Inv-loop μ-loop = search in
+    omega (arith, counted-node (c .before .before .before .loop .m) (at-start .pre) (c .before .before .loop-test .taken) (c .wide .ensures) (c .before .before .before .loop .inv .2), at-start .pre .rows)
 
 add-at : tie.Need-add-at Inv-loop μ-loop
-add-at c = omega (arith, counted-node (c .before .before .before .loop .m) (c .before .before .before .before .before .before .pre) (c .before .before .loop-test .taken) (c .wide .ensures) (c .before .before .before .loop .inv .2), c .before .before .before .before .before .before .pre .rows)
+add-at c =
+    let at-start : tie.Start Inv-loop μ-loop = search in
+    omega (arith, counted-node (c .before .before .before .loop .m) (at-start .pre) (c .before .before .loop-test .taken) (c .wide .ensures) (c .before .before .before .loop .inv .2), at-start .pre .rows)
 
 mul-lists : tie.Need-mul-lists Inv-loop μ-loop
-mul-lists c = omega (arith, counted-node (c .before .before .before .loop .m) (c .before .before .before .before .before .before .pre) (c .before .before .loop-test .taken) (c .wide .ensures) (c .before .before .before .loop .inv .2), c .before .before .before .before .before .before .pre .rows)
+mul-lists c =
+    let at-start : tie.Start Inv-loop μ-loop = search in
+    omega (arith, counted-node (c .before .before .before .loop .m) (at-start .pre) (c .before .before .loop-test .taken) (c .wide .ensures) (c .before .before .before .loop .inv .2), at-start .pre .rows)
 
 slice-read-lists : tie.Need-slice-read-lists Inv-loop μ-loop
-slice-read-lists c = omega (arith, counted-node (c .before .before .before .before .loop .m) (c .before .before .before .before .before .before .before .pre) (c .before .before .before .loop-test .taken) (c .before .wide .ensures) (c .before .before .before .before .loop .inv .2), c .before .before .before .before .before .before .before .pre .rows)
+slice-read-lists c =
+    let at-start : tie.Start Inv-loop μ-loop = search in
+    omega (arith, counted-node (c .before .before .before .before .loop .m) (at-start .pre) (c .before .before .before .loop-test .taken) (c .before .wide .ensures) (c .before .before .before .before .loop .inv .2), at-start .pre .rows)
 
 add-lists : tie.Need-add-lists Inv-loop μ-loop
-add-lists c = omega (arith, counted-fits (c .before .before .before .before .loop .m) (c .before .before .before .before .before .before .before .pre) (c .before .before .before .loop-test .taken) (c .before .wide .ensures) (c .before .before .before .before .loop .inv .2))
+add-lists c =
+    let at-start : tie.Start Inv-loop μ-loop = search in
+    omega (arith, counted-fits (c .before .before .before .before .loop .m) (at-start .pre) (c .before .before .before .loop-test .taken) (c .before .wide .ensures) (c .before .before .before .before .loop .inv .2))
 
 mul-lists-2 : tie.Need-mul-lists-2 Inv-loop μ-loop
-mul-lists-2 c = omega (arith, counted-node (c .before .before .before .before .loop .m) (c .before .before .before .before .before .before .before .pre) (c .before .before .before .loop-test .taken) (c .before .wide .ensures) (c .before .before .before .before .loop .inv .2), c .before .before .before .before .before .before .before .pre .rows)
+mul-lists-2 c =
+    let at-start : tie.Start Inv-loop μ-loop = search in
+    omega (arith, counted-node (c .before .before .before .before .loop .m) (at-start .pre) (c .before .before .before .loop-test .taken) (c .before .wide .ensures) (c .before .before .before .before .loop .inv .2), at-start .pre .rows)
 
 slice-write-lists : tie.Need-slice-write-lists Inv-loop μ-loop
-slice-write-lists c = omega (arith, counted-node (c .before .before .before .before .loop .m) (c .before .before .before .before .before .before .before .pre) (c .before .before .before .loop-test .taken) (c .before .wide .ensures) (c .before .before .before .before .loop .inv .2), c .before .before .before .before .before .before .before .pre .rows)
+slice-write-lists c =
+    let at-start : tie.Start Inv-loop μ-loop = search in
+    omega (arith, counted-node (c .before .before .before .before .loop .m) (at-start .pre) (c .before .before .before .loop-test .taken) (c .before .wide .ensures) (c .before .before .before .before .loop .inv .2), at-start .pre .rows)
 
 add-m : tie.Need-add-m Inv-loop μ-loop
 add-m c = search needs
@@ -57,8 +71,9 @@ loop-less c = search needs
 
 loop-again : tie.Need-loop-again Inv-loop μ-loop
 loop-again c =
+    let at-start : tie.Start Inv-loop μ-loop = search in
     let h = c .before .before .before .before .loop in
-    (omega arith, simp length-set (h .inv .1), counted-more (c .before .before .before .before .loop .m) (c .before .before .before .before .before .before .before .pre) (c .before .before .before .loop-test .taken) (c .before .wide .ensures) (c .before .before .before .before .loop .inv .2))
+    (omega arith, simp length-set (h .inv .1), counted-more (c .before .before .before .before .loop .m) (at-start .pre) (c .before .before .before .loop-test .taken) (c .before .wide .ensures) (c .before .before .before .before .loop .inv .2))
 
 same-length : tie.Need-same-length Inv-loop μ-loop
 same-length c = search needs

@@ -30,25 +30,40 @@ wide-requires : tie.Need-wide-requires Inv-loop μ-loop
 wide-requires c κs = search needs
 
 mul-row : tie.Need-mul-row Inv-loop μ-loop
-mul-row c = omega (arith, placed-node (c .before .before .before .loop .m) (c .before .before .before .before .before .before .before .pre) (c .before .before .loop-test .taken) (c .wide .ensures) (c .before .before .before .loop .inv .3), c .before .before .before .before .before .before .before .pre .rows)
+mul-row c =
+    let at-start : tie.Start Inv-loop μ-loop = search in
+    omega (arith, placed-node (c .before .before .before .loop .m) (at-start .pre) (c .before .before .loop-test .taken) (c .wide .ensures) (c .before .before .before .loop .inv .3), at-start .pre .rows)
 
 add-count : tie.Need-add-count Inv-loop μ-loop
-add-count c = omega (arith, placed-node (c .before .before .before .loop .m) (c .before .before .before .before .before .before .before .pre) (c .before .before .loop-test .taken) (c .wide .ensures) (c .before .before .before .loop .inv .3), c .before .before .before .before .before .before .before .pre .rows)
+add-count c =
+    let at-start : tie.Start Inv-loop μ-loop = search in
+    omega (arith, placed-node (c .before .before .before .loop .m) (at-start .pre) (c .before .before .loop-test .taken) (c .wide .ensures) (c .before .before .before .loop .inv .3), at-start .pre .rows)
 
 mul-count : tie.Need-mul-count Inv-loop μ-loop
-mul-count c = omega (arith, placed-node (c .before .before .before .loop .m) (c .before .before .before .before .before .before .before .pre) (c .before .before .loop-test .taken) (c .wide .ensures) (c .before .before .before .loop .inv .3), c .before .before .before .before .before .before .before .pre .rows)
+mul-count c =
+    let at-start : tie.Start Inv-loop μ-loop = search in
+    omega (arith, placed-node (c .before .before .before .loop .m) (at-start .pre) (c .before .before .loop-test .taken) (c .wide .ensures) (c .before .before .before .loop .inv .3), at-start .pre .rows)
 
 slice-read-count : tie.Need-slice-read-count Inv-loop μ-loop
-slice-read-count c = omega (arith, placed-node (c .before .before .before .before .loop .m) (c .before .before .before .before .before .before .before .before .pre) (c .before .before .before .loop-test .taken) (c .before .wide .ensures) (c .before .before .before .before .loop .inv .3), c .before .before .before .before .before .before .before .before .pre .rows)
+slice-read-count c =
+    let at-start : tie.Start Inv-loop μ-loop = search in
+    omega (arith, placed-node (c .before .before .before .before .loop .m) (at-start .pre) (c .before .before .before .loop-test .taken) (c .before .wide .ensures) (c .before .before .before .before .loop .inv .3), at-start .pre .rows)
 
 add-wide : tie.Need-add-wide Inv-loop μ-loop
-add-wide c = omega (arith, placed-node (c .before .before .before .before .loop .m) (c .before .before .before .before .before .before .before .before .pre) (c .before .before .before .loop-test .taken) (c .before .wide .ensures) (c .before .before .before .before .loop .inv .3), c .before .before .before .before .before .before .before .before .pre .rows)
+add-wide c =
+    let at-start : tie.Start Inv-loop μ-loop = search in
+    omega (arith, placed-node (c .before .before .before .before .loop .m) (at-start .pre) (c .before .before .before .loop-test .taken) (c .before .wide .ensures) (c .before .before .before .before .loop .inv .3), at-start .pre .rows)
 
 mul-wide-2 : tie.Need-mul-wide-2 Inv-loop μ-loop
-mul-wide-2 c = omega (arith, placed-node (c .before .before .before .before .loop .m) (c .before .before .before .before .before .before .before .before .pre) (c .before .before .before .loop-test .taken) (c .before .wide .ensures) (c .before .before .before .before .loop .inv .3), c .before .before .before .before .before .before .before .before .pre .rows)
+mul-wide-2 c =
+    let at-start : tie.Start Inv-loop μ-loop = search in
+    omega (arith, placed-node (c .before .before .before .before .loop .m) (at-start .pre) (c .before .before .before .loop-test .taken) (c .before .wide .ensures) (c .before .before .before .before .loop .inv .3), at-start .pre .rows)
 
 slice-read-wide : tie.Need-slice-read-wide Inv-loop μ-loop
-slice-read-wide c = omega (arith, placed-node (c .before .before .before .before .before .loop .m) (c .before .before .before .before .before .before .before .before .before .pre) (c .before .before .before .before .loop-test .taken) (c .before .before .wide .ensures) (c .before .before .before .before .before .loop .inv .3), c .before .before .before .before .before .before .before .before .before .pre .rows)
+slice-read-wide c =
+    let at-loop : tie.At-loop Inv-loop μ-loop = search in
+    let at-start : tie.Start Inv-loop μ-loop = search in
+    omega (arith, placed-node (at-loop .loop .m) (at-start .pre) (c .before .before .before .before .loop-test .taken) (c .before .before .wide .ensures) (at-loop .loop .inv .3), at-start .pre .rows)
 
 wide-requires-2 : tie.Need-wide-requires-2 Inv-loop μ-loop
 wide-requires-2 c κs = search needs
@@ -57,25 +72,53 @@ wide-requires-3 : tie.Need-wide-requires-3 Inv-loop μ-loop
 wide-requires-3 c κs = search needs
 
 add-at : tie.Need-add-at Inv-loop μ-loop
-add-at c = omega (arith, placed-room (c .before .before .before .before .before .before .before .loop .m) (c .before .before .before .before .before .before .before .before .before .before .before .pre) (c .before .before .before .before .before .before .loop-test .taken) (c .before .before .before .before .wide .ensures) (c .before .before .before .before .before .before .before .loop .inv .3), c .before .wide2 .ensures, c .wide3 .ensures)
+add-at c =
+    let in-loop : tie.In-loop Inv-loop μ-loop = search in
+    let at-loop : tie.At-loop Inv-loop μ-loop = search in
+    let at-start : tie.Start Inv-loop μ-loop = search in
+    omega (arith, placed-room (at-loop .loop .m) (at-start .pre) (in-loop .loop-test .taken) (c .before .before .before .before .wide .ensures) (at-loop .loop .inv .3), c .before .wide2 .ensures, c .wide3 .ensures)
 
 mul-pred : tie.Need-mul-pred Inv-loop μ-loop
-mul-pred c = omega (arith, placed-room (c .before .before .before .before .before .before .before .loop .m) (c .before .before .before .before .before .before .before .before .before .before .before .pre) (c .before .before .before .before .before .before .loop-test .taken) (c .before .before .before .before .wide .ensures) (c .before .before .before .before .before .before .before .loop .inv .3), c .before .wide2 .ensures, c .wide3 .ensures)
+mul-pred c =
+    let in-loop : tie.In-loop Inv-loop μ-loop = search in
+    let at-loop : tie.At-loop Inv-loop μ-loop = search in
+    let at-start : tie.Start Inv-loop μ-loop = search in
+    omega (arith, placed-room (at-loop .loop .m) (at-start .pre) (in-loop .loop-test .taken) (c .before .before .before .before .wide .ensures) (at-loop .loop .inv .3), c .before .wide2 .ensures, c .wide3 .ensures)
 
 slice-write-pred : tie.Need-slice-write-pred Inv-loop μ-loop
-slice-write-pred c = omega (arith, placed-room (c .before .before .before .before .before .before .before .loop .m) (c .before .before .before .before .before .before .before .before .before .before .before .pre) (c .before .before .before .before .before .before .loop-test .taken) (c .before .before .before .before .wide .ensures) (c .before .before .before .before .before .before .before .loop .inv .3), c .before .wide2 .ensures, c .wide3 .ensures)
+slice-write-pred c =
+    let in-loop : tie.In-loop Inv-loop μ-loop = search in
+    let at-loop : tie.At-loop Inv-loop μ-loop = search in
+    let at-start : tie.Start Inv-loop μ-loop = search in
+    omega (arith, placed-room (at-loop .loop .m) (at-start .pre) (in-loop .loop-test .taken) (c .before .before .before .before .wide .ensures) (at-loop .loop .inv .3), c .before .wide2 .ensures, c .wide3 .ensures)
 
 add-lists : tie.Need-add-lists Inv-loop μ-loop
-add-lists c = omega (arith, placed-fits (c .before .before .before .before .before .before .before .loop .m) (c .before .before .before .before .before .before .before .before .before .before .before .pre) (c .before .before .before .before .before .before .loop-test .taken) (c .before .before .before .before .wide .ensures) (c .before .before .before .before .before .before .before .loop .inv .3))
+add-lists c =
+    let in-loop : tie.In-loop Inv-loop μ-loop = search in
+    let at-loop : tie.At-loop Inv-loop μ-loop = search in
+    let at-start : tie.Start Inv-loop μ-loop = search in
+    omega (arith, placed-fits (at-loop .loop .m) (at-start .pre) (in-loop .loop-test .taken) (c .before .before .before .before .wide .ensures) (at-loop .loop .inv .3))
 
 add-lists-2 : tie.Need-add-lists-2 Inv-loop μ-loop
-add-lists-2 c = omega (arith, placed-node (c .before .before .before .before .before .before .before .loop .m) (c .before .before .before .before .before .before .before .before .before .before .before .pre) (c .before .before .before .before .before .before .loop-test .taken) (c .before .before .before .before .wide .ensures) (c .before .before .before .before .before .before .before .loop .inv .3), c .before .before .before .before .before .before .before .before .before .before .before .pre .rows)
+add-lists-2 c =
+    let in-loop : tie.In-loop Inv-loop μ-loop = search in
+    let at-loop : tie.At-loop Inv-loop μ-loop = search in
+    let at-start : tie.Start Inv-loop μ-loop = search in
+    omega (arith, placed-node (at-loop .loop .m) (at-start .pre) (in-loop .loop-test .taken) (c .before .before .before .before .wide .ensures) (at-loop .loop .inv .3), at-start .pre .rows)
 
 mul-lists : tie.Need-mul-lists Inv-loop μ-loop
-mul-lists c = omega (arith, placed-node (c .before .before .before .before .before .before .before .loop .m) (c .before .before .before .before .before .before .before .before .before .before .before .pre) (c .before .before .before .before .before .before .loop-test .taken) (c .before .before .before .before .wide .ensures) (c .before .before .before .before .before .before .before .loop .inv .3), c .before .before .before .before .before .before .before .before .before .before .before .pre .rows)
+mul-lists c =
+    let in-loop : tie.In-loop Inv-loop μ-loop = search in
+    let at-loop : tie.At-loop Inv-loop μ-loop = search in
+    let at-start : tie.Start Inv-loop μ-loop = search in
+    omega (arith, placed-node (at-loop .loop .m) (at-start .pre) (in-loop .loop-test .taken) (c .before .before .before .before .wide .ensures) (at-loop .loop .inv .3), at-start .pre .rows)
 
 slice-write-lists : tie.Need-slice-write-lists Inv-loop μ-loop
-slice-write-lists c = omega (arith, placed-node (c .before .before .before .before .before .before .before .loop .m) (c .before .before .before .before .before .before .before .before .before .before .before .pre) (c .before .before .before .before .before .before .loop-test .taken) (c .before .before .before .before .wide .ensures) (c .before .before .before .before .before .before .before .loop .inv .3), c .before .before .before .before .before .before .before .before .before .before .before .pre .rows)
+slice-write-lists c =
+    let in-loop : tie.In-loop Inv-loop μ-loop = search in
+    let at-loop : tie.At-loop Inv-loop μ-loop = search in
+    let at-start : tie.Start Inv-loop μ-loop = search in
+    omega (arith, placed-node (at-loop .loop .m) (at-start .pre) (in-loop .loop-test .taken) (c .before .before .before .before .wide .ensures) (at-loop .loop .inv .3), at-start .pre .rows)
 
 add-m : tie.Need-add-m Inv-loop μ-loop
 add-m c = search needs
@@ -85,8 +128,11 @@ loop-less c = search needs
 
 loop-again : tie.Need-loop-again Inv-loop μ-loop
 loop-again c =
-    let h = c .before .before .before .before .before .before .before .loop in
-    (omega arith, simp length-set (h .inv .1), simp length-set (h .inv .2), placed-more (c .before .before .before .before .before .before .before .loop .m) (c .before .before .before .before .before .before .before .before .before .before .before .pre) (c .before .before .before .before .before .before .loop-test .taken) (c .before .before .before .before .wide .ensures) (c .before .before .before .before .before .before .before .loop .inv .3) (c .before .wide2 .result + c .wide3 .result) (omega (arith, c .before .wide2 .ensures, c .wide3 .ensures)))
+    let in-loop : tie.In-loop Inv-loop μ-loop = search in
+    let at-loop : tie.At-loop Inv-loop μ-loop = search in
+    let at-start : tie.Start Inv-loop μ-loop = search in
+    let h = at-loop .loop in
+    (omega arith, simp length-set (h .inv .1), simp length-set (h .inv .2), placed-more (at-loop .loop .m) (at-start .pre) (in-loop .loop-test .taken) (c .before .before .before .before .wide .ensures) (at-loop .loop .inv .3) (c .before .wide2 .result + c .wide3 .result) (omega (arith, c .before .wide2 .ensures, c .wide3 .ensures)))
 
 same-length : tie.Need-same-length Inv-loop μ-loop
 same-length c = search needs
@@ -96,8 +142,9 @@ same-length-2 c = search needs
 
 returns : tie.Need-returns Inv-loop μ-loop
 returns c =
+    let at-start : tie.Start Inv-loop μ-loop = search in
     let h = c .before .loop in
-    let a = c .before .before .before .before .before .args in
+    let a = at-start .args in
     let e : take (h .m) (a .list .now) ≡ a .list .now = take-all (h .m) (a .list .now) (omega arith) in
     rw e at (h .inv .3)
 

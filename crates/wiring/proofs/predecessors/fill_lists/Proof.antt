@@ -49,20 +49,24 @@ wide-requires-2 c κs = search needs
 
 add-end : tie.Need-add-end Inv-loop μ-loop
 add-end c =
-    let p = c .before .before .before .before .before .before .before .before .before .pre in
-    let h = c .before .before .before .before .before .loop in
-    let j = c .before .before .before .before .before .before .before .before .before .args .nodes - h .left in
+    let at-loop : tie.At-loop Inv-loop μ-loop = search in
+    let at-start : tie.Start Inv-loop μ-loop = search in
+    let p = at-start .pre in
+    let h = at-loop .loop in
+    let j = at-start .args .nodes - h .left in
     let f = h .inv .3 (p .ls) (p .begun) (p .room) in
-    let g : j < c .before .before .before .before .before .before .before .before .before .args .nodes = omega arith in
+    let g : j < at-start .args .nodes = omega arith in
     omega (arith, filling-inside (p .begun) (p .room) j g f, c .before .before .wide .ensures, c .wide2 .ensures)
 
 mul-fill-list : tie.Need-mul-fill-list Inv-loop μ-loop
 mul-fill-list c =
-    let p = c .before .before .before .before .before .before .before .before .before .pre in
-    let h = c .before .before .before .before .before .loop in
-    let j = c .before .before .before .before .before .before .before .before .before .args .nodes - h .left in
+    let at-loop : tie.At-loop Inv-loop μ-loop = search in
+    let at-start : tie.Start Inv-loop μ-loop = search in
+    let p = at-start .pre in
+    let h = at-loop .loop in
+    let j = at-start .args .nodes - h .left in
     let f = h .inv .3 (p .ls) (p .begun) (p .room) in
-    let g : j < c .before .before .before .before .before .before .before .before .before .args .nodes = omega arith in
+    let g : j < at-start .args .nodes = omega arith in
     omega (arith, filling-inside (p .begun) (p .room) j g f, c .before .before .wide .ensures, c .wide2 .ensures)
 
 sub-fill-list : tie.Need-sub-fill-list Inv-loop μ-loop
@@ -73,11 +77,13 @@ part-fill-list-start c = search needs
 
 part-fill-list-end : tie.Need-part-fill-list-end Inv-loop μ-loop
 part-fill-list-end c =
-    let p = c .before .before .before .before .before .before .before .before .before .pre in
-    let h = c .before .before .before .before .before .loop in
-    let j = c .before .before .before .before .before .before .before .before .before .args .nodes - h .left in
+    let at-loop : tie.At-loop Inv-loop μ-loop = search in
+    let at-start : tie.Start Inv-loop μ-loop = search in
+    let p = at-start .pre in
+    let h = at-loop .loop in
+    let j = at-start .args .nodes - h .left in
     let f = h .inv .3 (p .ls) (p .begun) (p .room) in
-    let g : j < c .before .before .before .before .before .before .before .before .before .args .nodes = omega arith in
+    let g : j < at-start .args .nodes = omega arith in
     omega (arith, filling-inside (p .begun) (p .room) j g f, c .before .before .wide .ensures, c .wide2 .ensures)
 
 cast-fill-list : tie.Need-cast-fill-list Inv-loop μ-loop
@@ -85,12 +91,15 @@ cast-fill-list c = search needs
 
 fill-list-requires : tie.Need-fill-list-requires Inv-loop μ-loop
 fill-list-requires c κs =
-    let p = c .before .before .before .before .before .before .before .before .before .before .before .before .pre in
-    let h = c .before .before .before .before .before .before .before .before .loop in
-    let j = c .before .before .before .before .before .before .before .before .before .before .before .before .args .nodes - h .left in
+    let at-wide : tie.After-wide Inv-loop μ-loop = search in
+    let at-loop : tie.At-loop Inv-loop μ-loop = search in
+    let at-start : tie.Start Inv-loop μ-loop = search in
+    let p = at-start .pre in
+    let h = at-loop .loop in
+    let j = at-start .args .nodes - h .left in
     let f = h .inv .3 (p .ls) (p .begun) (p .room) in
-    let g : j < c .before .before .before .before .before .before .before .before .before .before .before .before .args .nodes = omega arith in
-    filling-fillable (p .begun) (p .room) j g f (c .before .before .before .before .before .wide .result) (c .before .before .before .wide2 .result) (c .before .before .before .before .before .wide .ensures) (c .before .before .before .wide2 .ensures)
+    let g : j < at-start .args .nodes = omega arith in
+    filling-fillable (p .begun) (p .room) j g f (at-wide .wide .result) (c .before .before .before .wide2 .result) (at-wide .wide .ensures) (c .before .before .before .wide2 .ensures)
 
 sub-left : tie.Need-sub-left Inv-loop μ-loop
 sub-left c = search needs
@@ -100,15 +109,19 @@ loop-less c = search needs
 
 loop-again : tie.Need-loop-again Inv-loop μ-loop
 loop-again c =
-    let p = c .before .before .before .before .before .before .before .before .before .before .before .before .before .before .before .before .before .pre in
-    let a = c .before .before .before .before .before .before .before .before .before .before .before .before .before .before .before .before .before .args in
-    let h = c .before .before .before .before .before .before .before .before .before .before .before .before .before .loop in
+    let at-wide2 : tie.After-wide2 Inv-loop μ-loop = search in
+    let at-wide : tie.After-wide Inv-loop μ-loop = search in
+    let at-loop : tie.At-loop Inv-loop μ-loop = search in
+    let at-start : tie.Start Inv-loop μ-loop = search in
+    let p = at-start .pre in
+    let a = at-start .args in
+    let h = at-loop .loop in
     let w = c .before .before .before .before .fill-list in
     let j = a .nodes - h .left in
     let g : j < a .nodes = omega arith in
     let e : j + 1 ≡ a .nodes - (h .left - 1) = omega arith in
     let next : FilledTo (a .nodes) (j + 1) (a .succ .now) (a .lists .now) (w .last .1 .0) (a .pred .now) (w .last .1 .1 .1 .0)
-    = λ ls b r. filling-more b r j g (h .inv .3 ls b r) (c .before .before .before .before .before .before .before .before .before .before .wide .result) (c .before .before .before .before .before .before .before .before .wide2 .result) (c .before .before .before .before .before .before .before .before .before .before .wide .ensures) (c .before .before .before .before .before .before .before .before .wide2 .ensures) (w .ensures) in
+    = λ ls b r. filling-more b r j g (h .inv .3 ls b r) (at-wide .wide .result) (at-wide2 .wide2 .result) (at-wide .wide .ensures) (at-wide2 .wide2 .ensures) (w .ensures) in
     let now = next (p .ls) (p .begun) (p .room) in (
       omega arith,
       now .rows .size,
@@ -124,8 +137,9 @@ same-length-2 c = search needs
 
 returns : tie.Need-returns Inv-loop μ-loop
 returns c =
+    let at-start : tie.Start Inv-loop μ-loop = search in
     let h = c .before .loop in
-    let a = c .before .before .before .before .before .args in
+    let a = at-start .args in
     let e : a .nodes - h .left ≡ a .nodes = omega arith in
     subst (λ (j : ℕ). FilledTo (a .nodes) j (a .succ .now) (a .lists .now) (h .lists) (a .pred .now) (h .pred)) e (h .inv .3)
 

@@ -11,14 +11,17 @@ count-edges-requires c κs =
 
 set-starts-requires : tie.Need-set-starts-requires
 set-starts-requires c κs =
-    let p = c .before .before .before .before .before .before .before .before .pre in
+    let at-start : tie.Start = search in
+    let p = at-start .pre in
     let d = c .before .before .before .count-edges .ensures in
     (ready-rows (p .held) (p .edges-are) (p .none) (p .room) d, ready-sum (p .held) (p .edges-are) (p .none) (p .room) d)
 
 fill-lists-requires : tie.Need-fill-lists-requires
 fill-lists-requires c κs =
-    let p = c .before .before .before .before .before .before .before .before .before .before .before .before .before .pre in
-    let d = c .before .before .before .before .before .before .before .before .count-edges .ensures in
+    let at-count-edges : tie.After-count-edges = search in
+    let at-start : tie.Start = search in
+    let p = at-start .pre in
+    let d = at-count-edges .count-edges .ensures in
     let e = c .before .before .before .before .set-starts .ensures in
     record { ls = p .ls; begun = ready-begun (p .held) (p .edges-are) (p .none) (p .room) d e; room = ready-room (p .held) (p .edges-are) (p .none) (p .room) d e }
 
@@ -30,8 +33,11 @@ same-length-2 c = search needs
 
 returns : tie.Need-returns
 returns c =
-    let p = c .before .before .before .before .before .before .before .before .before .before .before .before .before .before .before .before .before .before .pre in
-    λ ls s e. ready-filled s e (p .none) (p .room) (c .before .before .before .before .before .before .before .before .before .before .before .before .before .count-edges .ensures) (c .before .before .before .before .before .before .before .before .before .set-starts .ensures) (c .before .before .before .before .fill-lists .ensures)
+    let at-set-starts : tie.After-set-starts = search in
+    let at-count-edges : tie.After-count-edges = search in
+    let at-start : tie.Start = search in
+    let p = at-start .pre in
+    λ ls s e. ready-filled s e (p .none) (p .room) (at-count-edges .count-edges .ensures) (at-set-starts .set-starts .ensures) (c .before .before .before .before .fill-lists .ensures)
 
 pub write-predecessors-spec : {M : Type 1} → statement M
 write-predecessors-spec =

@@ -12,33 +12,50 @@ connect-lines-requires : tie.Need-connect-lines-requires
 connect-lines-requires c κs = search needs
 
 same-length : tie.Need-same-length
-same-length c = c .before .before .before .before .before .before .before .entries .given
+same-length c = search
 
 same-length-2 : tie.Need-same-length-2
 same-length-2 c = c .before .before .falls .given
 
 returns : tie.Need-returns
-returns c = absurd (none-lost (c .before .before .before .before .before .before .before .before .before .before .before .before .before .before .before .before .pre) (c .before .before .before .before .before .before .before .entries .given) (c .before .before .before .before .before .before .before .before .compute-line-after .ensures) (c .before .before .before .connect-lines .ensures) (c .if1 .taken))
+returns c =
+    let at-entries : tie.After-entries = search in
+    let at-compute-line-after : tie.After-compute-line-after = search in
+    let at-start : tie.Start = search in
+    absurd (none-lost (at-start .pre) (at-entries .entries .given) (at-compute-line-after .compute-line-after .ensures) (c .before .before .before .connect-lines .ensures) (c .if1 .taken))
 
 link-jumps-requires : tie.Need-link-jumps-requires
 link-jumps-requires c κs = search needs
 
 link-fors-requires : tie.Need-link-fors-requires
-link-fors-requires c κs = (search needs, holds-counted (c .before .before .before .before .before .before .before .before .before .before .before .before .before .before .before .before .before .before .before .before .before .before .pre .holds))
+link-fors-requires c κs = let at-start : tie.Start = search in (search needs, holds-counted (at-start .pre .holds))
 
 same-length-3 : tie.Need-same-length-3
-same-length-3 c = c .before .before .before .before .before .before .before .before .before .before .before .before .before .before .before .before .entries .given
+same-length-3 c = search
 
 same-length-4 : tie.Need-same-length-4
-same-length-4 c = c .before .before .before .before .before .before .before .before .before .before .before .falls .given
+same-length-4 c = search
 
 same-length-5 : tie.Need-same-length-5
-same-length-5 c = c .before .links2 .given ∙ c .before .before .before .before .before .links .given
+same-length-5 c = let at-links : tie.After-links = search in c .before .links2 .given ∙ at-links .links .given
+
+-- Ways back from a place to an earlier one. `search` finds each by its type.
+abbrev start-of-compute-line-after : tie.After-compute-line-after → tie.Start
+start-of-compute-line-after c = search
+
+ruleset ways = (start-of-compute-line-after)
 
 returns-2 : tie.Need-returns-2
 returns-2 c =
-    all-prepared (c .before .before .before .before .before .before .before .before .before .before .before .before .before .before .before .before .before .before .before .before .before .before .before .before .before .pre) (c .before .before .before .before .before .before .before .before .before .before .before .before .before .before .before .before .entries .given) (c .before .before .before .before .before .before .before .before .before .before .before .before .before .before .before .before .before .compute-line-after .ensures) (c .before .before .before .before .before .before .before .before .before .before .before .before .connect-lines .ensures) (c .before .before .before .before .before .before .before .before .before .before .before .falls .given) (c .before .links2 .given ∙ c .before .before .before .before .before .links .given)
-    (c .before .before .before .before .before .before .link-jumps .ensures) (c .before .before .link-fors .ensures)
+    let at-links : tie.After-links = search in
+    let at-link-jumps : tie.After-link-jumps = search in
+    let at-falls : tie.After-falls = search in
+    let at-connect-lines : tie.After-connect-lines = search in
+    let at-entries : tie.After-entries = search in
+    let at-compute-line-after : tie.After-compute-line-after = search in
+    let at-start : tie.Start = search ways in
+    all-prepared (at-start .pre) (at-entries .entries .given) (at-compute-line-after .compute-line-after .ensures) (at-connect-lines .connect-lines .ensures) (at-falls .falls .given) (c .before .links2 .given ∙ at-links .links .given)
+    (at-link-jumps .link-jumps .ensures) (c .before .before .link-fors .ensures)
 
 pub prepare-spec : {M : Type 1} → statement M
 prepare-spec =

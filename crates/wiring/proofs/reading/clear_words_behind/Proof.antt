@@ -24,7 +24,8 @@ same-length c = search needs
 
 returns : tie.Need-returns
 returns c =
-    let a = c .before .before .before .before .before .args in
+    let at-start : tie.Start = search in
+    let a = at-start .args in
     cleared-behind (a .t .now) (a .at) (c .before .before .zero64 .last .0) (search needs) (c .before .before .zero64 .ensures)
 
 pub clear-words-behind-spec : {M : Type 1} → statement M

@@ -23,19 +23,28 @@ slice-relend-prefix-read-listing : tie.Need-slice-relend-prefix-read-listing
 slice-relend-prefix-read-listing c = search needs
 
 slice-aggregate-read-listing : tie.Need-slice-aggregate-read-listing
-slice-aggregate-read-listing c = front-length _ _ _ (c .before .before .before .before .before .before .before .before .before .before .before .before .before .before .before .before .before .before .pre .0) (c .before .before .before .before .before .before .before .before .before .before .before .before .clear-behind .ensures)
+slice-aggregate-read-listing c =
+    let at-clear-behind : tie.After-clear-behind = search in
+    let at-start : tie.Start = search in
+    front-length _ _ _ (at-start .pre .0) (at-clear-behind .clear-behind .ensures)
 
 slice-relend-prefix-read-listing-2 : tie.Need-slice-relend-prefix-read-listing-2
 slice-relend-prefix-read-listing-2 c = search needs
 
 slice-aggregate-read-listing-2 : tie.Need-slice-aggregate-read-listing-2
-slice-aggregate-read-listing-2 c = front-length _ _ _ (c .before .before .before .before .before .before .before .before .before .before .before .before .before .before .before .before .before .before .before .pre .1) (c .before .before .before .before .before .before .before .before .before .clear-behind2 .ensures)
+slice-aggregate-read-listing-2 c =
+    let at-clear-behind2 : tie.After-clear-behind2 = search in
+    let at-start : tie.Start = search in
+    front-length _ _ _ (at-start .pre .1) (at-clear-behind2 .clear-behind2 .ensures)
 
 slice-relend-prefix-read-listing-3 : tie.Need-slice-relend-prefix-read-listing-3
 slice-relend-prefix-read-listing-3 c = search needs
 
 slice-aggregate-read-listing-3 : tie.Need-slice-aggregate-read-listing-3
-slice-aggregate-read-listing-3 c = front-length _ _ _ (c .before .before .before .before .before .before .before .before .before .before .before .before .before .before .before .before .before .before .before .before .pre .2) (c .before .before .before .before .before .before .clear-words-behind .ensures)
+slice-aggregate-read-listing-3 c =
+    let at-clear-words-behind : tie.After-clear-words-behind = search in
+    let at-start : tie.Start = search in
+    front-length _ _ _ (at-start .pre .2) (at-clear-words-behind .clear-words-behind .ensures)
 
 read-listing-requires : tie.Need-read-listing-requires
 read-listing-requires c κs = search needs
@@ -49,10 +58,20 @@ same-length-2 c = search needs
 same-length-3 : tie.Need-same-length-3
 same-length-3 c = search needs
 
+-- Ways back from a place to an earlier one. `search` finds each by its type.
+abbrev start-of-clear-behind : tie.After-clear-behind → tie.Start
+start-of-clear-behind c = search
+
+ruleset ways = (start-of-clear-behind)
+
 returns : tie.Need-returns
 returns c =
-    let p = c .before .before .before .before .before .before .before .before .before .before .before .before .before .before .before .before .before .before .before .before .before .before .before .before .before .before .before in
-    fitting-read (p .args .text .now) (p .args .line-room) (p .args .stmt-room) (p .args .lines .now) (p .args .stmts .now) (p .args .args .now) (p .pre .0) (p .pre .1) (p .pre .2) _ _ _ (c .before .before .before .before .before .before .before .before .before .before .before .before .before .before .before .before .before .before .before .before .before .clear-behind .ensures) (c .before .before .before .before .before .before .before .before .before .before .before .before .before .before .before .before .before .clear-behind2 .ensures) (c .before .before .before .before .before .before .before .before .before .before .before .before .before .clear-words-behind .ensures) _ _ _ _ _ (c .before .before .before .before .before .before .read-listing .ensures)
+    let at-read-listing : tie.After-read-listing = search in
+    let at-clear-words-behind : tie.After-clear-words-behind = search in
+    let at-clear-behind2 : tie.After-clear-behind2 = search in
+    let at-clear-behind : tie.After-clear-behind = search in
+    let at-start : tie.Start = search ways in
+    fitting-read (at-start .args .text .now) (at-start .args .line-room) (at-start .args .stmt-room) (at-start .args .lines .now) (at-start .args .stmts .now) (at-start .args .args .now) (at-start .pre .0) (at-start .pre .1) (at-start .pre .2) _ _ _ (at-clear-behind .clear-behind .ensures) (at-clear-behind2 .clear-behind2 .ensures) (at-clear-words-behind .clear-words-behind .ensures) _ _ _ _ _ (at-read-listing .read-listing .ensures)
 
 pub read-fitting-spec : {M : Type 1} → statement M
 read-fitting-spec =

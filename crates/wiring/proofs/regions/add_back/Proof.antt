@@ -49,7 +49,8 @@ holds-requires c κs = search needs
 
 returns : tie.Need-returns
 returns c =
-    let a = c .before .before .before .before .before .before .before .before .before .before .args in
+    let at-start : tie.Start = search in
+    let a = at-start .args in
     back-no (a .stmts .now) (a .falls .now) (a .links .now) (a .e) (a .c) (c .before .before .narrow .result) _ (c .before .holds .result) (c .before .before .narrow .ensures)
     (target-part (a .stmts .now) (a .links .now) (a .c) (c .before .before .before .before .wide .result) (c .before .before .before .before .wide .ensures)) (c .before .holds .ensures) _ (not-true _ (c .if1 .taken))
 
@@ -68,11 +69,22 @@ insert-some-requires c κs = search needs
 same-length : tie.Need-same-length
 same-length c = search needs
 
+-- Ways back from a place to an earlier one. `search` finds each by its type.
+abbrev start-of-holds : tie.After-holds → tie.Start
+start-of-holds c = search
+
+ruleset ways = (start-of-holds)
+
 returns-2 : tie.Need-returns-2
 returns-2 c =
-    let a = c .before .before .before .before .before .before .before .before .before .before .before .before .before .before .before .args in
-    back-yes (a .stmts .now) (a .falls .now) (a .links .now) (a .e) (a .c) (c .before .before .before .before .before .before .before .narrow .result) _ (c .before .before .before .before .before .before .holds .result) (c .before .before .before .before .before .before .before .narrow .ensures)
-    (target-part (a .stmts .now) (a .links .now) (a .c) (c .before .before .before .before .before .before .before .before .before .wide .result) (c .before .before .before .before .before .before .before .before .before .wide .ensures)) (c .before .before .before .before .before .before .holds .ensures) _ _ (not-false _ (c .before .before .before .before .before .if1 .left)) (c .before .before .insert-some .ensures)
+    let at-else1 : tie.Else1 = search in
+    let at-holds : tie.After-holds = search in
+    let at-narrow : tie.After-narrow = search in
+    let at-wide : tie.After-wide = search in
+    let at-start : tie.Start = search ways in
+    let a = at-start .args in
+    back-yes (a .stmts .now) (a .falls .now) (a .links .now) (a .e) (a .c) (at-narrow .narrow .result) _ (at-holds .holds .result) (at-narrow .narrow .ensures)
+    (target-part (a .stmts .now) (a .links .now) (a .c) (at-wide .wide .result) (at-wide .wide .ensures)) (at-holds .holds .ensures) _ _ (not-false _ (at-else1 .if1 .left)) (c .before .before .insert-some .ensures)
 
 pub add-back-spec : {M : Type 1} → statement M
 add-back-spec =

@@ -19,7 +19,8 @@ abbrev μ-loop : tie.MeasureT-loop
 
 loop-holds : tie.Need-loop-holds Inv-loop μ-loop
 loop-holds c =
-    let a = c .before .before .before .before .before .args in
+    let at-start : tie.Start Inv-loop μ-loop = search in
+    let a = at-start .args in
     (omega arith, set-start (backFrom (a .stmts .now) (a .falls .now) (a .links .now) (a .e)) (a .calls .now) _)
 
 mul-wide : tie.Need-mul-wide Inv-loop μ-loop
@@ -33,9 +34,9 @@ wide-requires c κs = search needs
 
 add-back-requires : tie.Need-add-back-requires Inv-loop μ-loop
 add-back-requires c κs =
-    let s = c .before .before .before .before .before .before .before .before .before .before in
+    let at-start : tie.Start Inv-loop μ-loop = search in
     let l = c .before .before .before .before .loop in
-    (all-getD (s .pre .0) (l .k) _ (c .before .before .before .loop-test .taken) (c .before .wide .ensures), s .pre .1, l .inv .1 .size ∙ s .pre .2)
+    (all-getD (at-start .pre .0) (l .k) _ (c .before .before .before .loop-test .taken) (c .before .wide .ensures), at-start .pre .1, l .inv .1 .size ∙ at-start .pre .2)
 
 add-k : tie.Need-add-k Inv-loop μ-loop
 add-k c = search needs
@@ -45,10 +46,13 @@ loop-less c = search needs
 
 loop-again : tie.Need-loop-again Inv-loop μ-loop
 loop-again c =
-    let a = c .before .before .before .before .before .before .before .before .before .before .before .before .before .args in
-    let l = c .before .before .before .before .before .before .before .loop in (
+    let in-loop : tie.In-loop Inv-loop μ-loop = search in
+    let at-loop : tie.At-loop Inv-loop μ-loop = search in
+    let at-start : tie.Start Inv-loop μ-loop = search in
+    let a = at-start .args in
+    let l = at-loop .loop in (
       omega arith,
-      set-more (backFrom (a .stmts .now) (a .falls .now) (a .links .now) (a .e)) (a .calls .now) (l .k) _ (c .before .before .before .before .before .before .loop-test .taken) (c .before .before .before .before .wide .ensures) _ _ _ (l .inv .1) (c .before .before .add-back .ensures),
+      set-more (backFrom (a .stmts .now) (a .falls .now) (a .links .now) (a .e)) (a .calls .now) (l .k) _ (in-loop .loop-test .taken) (c .before .before .before .before .wide .ensures) _ _ _ (l .inv .1) (c .before .before .add-back .ensures),
     )
 
 same-length : tie.Need-same-length Inv-loop μ-loop
@@ -56,8 +60,9 @@ same-length c = c .before .loop .inv .1 .size
 
 returns : tie.Need-returns Inv-loop μ-loop
 returns c =
+    let at-start : tie.Start Inv-loop μ-loop = search in
     let l = c .before .loop in
-    rw (take-all (l .k) (c .before .before .before .before .before .before .before .args .calls .now) (omega arith)) at (l .inv .1)
+    rw (take-all (l .k) (at-start .args .calls .now) (omega arith)) at (l .inv .1)
 
 pub add-backs-spec : {M : Type 1} → statement M
 add-backs-spec =

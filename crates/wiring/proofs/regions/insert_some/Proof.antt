@@ -21,7 +21,10 @@ same-length : tie.Need-same-length
 same-length c = search needs
 
 returns-2 : tie.Need-returns-2
-returns-2 c = set-some _ _ (c .before .before .before .before .before .before .before .args .t) (c .before .before .before .wide .result) (c .before .before .before .wide .ensures) (c .before .before .before .before .before .if1 .left) (omega (arith, c .before .before .before .before .before .before .before .pre)) (c .before .before .insert .ensures)
+returns-2 c =
+    let at-else1 : tie.Else1 = search in
+    let at-start : tie.Start = search in
+    set-some _ _ (at-start .args .t) (c .before .before .before .wide .result) (c .before .before .before .wide .ensures) (at-else1 .if1 .left) (omega (arith, at-start .pre)) (c .before .before .insert .ensures)
 
 pub insert-some-spec : {M : Type 1} → statement M
 insert-some-spec =

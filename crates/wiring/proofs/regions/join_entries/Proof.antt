@@ -17,14 +17,15 @@ abbrev μ-loop : tie.MeasureT-loop
 
 loop-holds : tie.Need-loop-holds Inv-loop μ-loop
 loop-holds c =
-    let a = c .before .before .before .before .before .before .before .before .before .args in
+    let at-start : tie.Start Inv-loop μ-loop = search in
+    let a = at-start .args in
     (omega arith, refl, refl, λ W s t. regions-none W (a .stmts .now) (a .n) (a .sets .now))
 
 join-called-requires : tie.Need-join-called-requires Inv-loop μ-loop
 join-called-requires c κs =
-    let s = c .before .before .before .before .before .before .before .before .before .before .before .before .before in
+    let at-start : tie.Start Inv-loop μ-loop = search in
     let l = c .before .before .before .loop in
-    (entries-again _ (l .inv .2) (s .pre .0), c .before .before .loop-test .taken, omega (arith, l .inv .1, s .pre .1))
+    (entries-again _ (l .inv .2) (at-start .pre .0), c .before .before .loop-test .taken, omega (arith, l .inv .1, at-start .pre .1))
 
 add-e : tie.Need-add-e Inv-loop μ-loop
 add-e c = search needs
@@ -34,8 +35,10 @@ loop-less c = search needs
 
 loop-again : tie.Need-loop-again Inv-loop μ-loop
 loop-again c =
-    let a = c .before .before .before .before .before .before .before .before .before .before .before .before .before .before .before .before .before .before .args in
-    let l = c .before .before .before .before .before .before .before .before .loop in
+    let at-loop : tie.At-loop Inv-loop μ-loop = search in
+    let at-start : tie.Start Inv-loop μ-loop = search in
+    let a = at-start .args in
+    let l = at-loop .loop in
     (omega arith, search needs, search needs, λ W s t. regions-more W (a .stmts .now) (a .n) (l .e) (a .sets .now) (l .sets) _ (l .inv .3 W s t) (c .before .before .before .before .join-called .ensures W s t))
 
 same-length : tie.Need-same-length Inv-loop μ-loop
@@ -46,8 +49,9 @@ same-length-2 c = search needs
 
 returns : tie.Need-returns Inv-loop μ-loop
 returns c =
+    let at-start : tie.Start Inv-loop μ-loop = search in
     let l = c .before .loop in
-    let q : l .e ≡ c .before .before .before .before .before .before .before .before .before .before .before .args .n = omega arith in
+    let q : l .e ≡ at-start .args .n = omega arith in
     rw q at (l .inv .3)
 
 pub join-entries-spec : {M : Type 1} → statement M

@@ -24,10 +24,12 @@ same-length c = search needs
 
 returns : tie.Need-returns
 returns c =
-    let s = c .before .before .before .before .before .before .before .before .before .before .before .before .before .before .before in
-    let a = s .args in
-    listed-joined (a .stmts .now) (a .falls .now) (a .links .now) (a .n) (a .e) (a .list .now) (c .before .before .before .before .before .before .before .before .no-words .result) _ (a .calls .now) (a .sets .now) _ (c .before .before .before .before .before .before .before .before .no-words .ensures)
-    (s .pre .0) (c .before .before .before .before .before .before .add-backs .ensures) (c .before .before .join-returns .ensures)
+    let at-add-backs : tie.After-add-backs = search in
+    let at-no-words : tie.After-no-words = search in
+    let at-start : tie.Start = search in
+    let a = at-start .args in
+    listed-joined (a .stmts .now) (a .falls .now) (a .links .now) (a .n) (a .e) (a .list .now) (at-no-words .no-words .result) _ (a .calls .now) (a .sets .now) _ (at-no-words .no-words .ensures)
+    (at-start .pre .0) (at-add-backs .add-backs .ensures) (c .before .before .join-returns .ensures)
 
 pub join-region-spec : {M : Type 1} → statement M
 join-region-spec =

@@ -34,12 +34,14 @@ same-length c = search needs
 
 returns : tie.Need-returns
 returns c =
-    let a = c .before .before .before .before .before .before .args in
+    let at-start : tie.Start = search in
+    let a = at-start .args in
     call-yes (a .stmts .now) _ _ _ _ (search needs) (c .narrow .ensures) (sym (c .before .before .is-call .ensures) ∙ c .before .if1 .taken)
 
 returns-2 : tie.Need-returns-2
 returns-2 c =
-    let a = c .before .before .before .before .before .args in
+    let at-start : tie.Start = search in
+    let a = at-start .args in
     call-no (a .stmts .now) _ _ _ (sym (c .before .is-call .ensures) ∙ c .if1 .left)
 
 pub list-call-spec : {M : Type 1} → statement M

@@ -21,8 +21,9 @@ loop-holds c = (omega arith, refl, calls-start (c .before .before .args .stmts .
 
 list-call-requires : tie.Need-list-call-requires Inv-loop μ-loop
 list-call-requires c κs =
+    let at-start : tie.Start Inv-loop μ-loop = search in
     let l = c .before .before .loop in
-    omega (arith, c .before .before .before .before .before .pre, l .inv, l .inv .2 .count, calls-few (c .before .before .before .before .before .args .stmts .now) (l .i))
+    omega (arith, at-start .pre, l .inv, l .inv .2 .count, calls-few (at-start .args .stmts .now) (l .i))
 
 add-i : tie.Need-add-i Inv-loop μ-loop
 add-i c = search needs
@@ -32,8 +33,10 @@ loop-less c = search needs
 
 loop-again : tie.Need-loop-again Inv-loop μ-loop
 loop-again c =
-    let l = c .before .before .before .before .before .loop in
-    (omega arith, search needs, calls-more (c .before .before .before .before .before .before .before .before .args .stmts .now) _ _ _ _ _ (l .i) (l .inv .2) (c .before .before .list-call .ensures))
+    let at-loop : tie.At-loop Inv-loop μ-loop = search in
+    let at-start : tie.Start Inv-loop μ-loop = search in
+    let l = at-loop .loop in
+    (omega arith, search needs, calls-more (at-start .args .stmts .now) _ _ _ _ _ (l .i) (l .inv .2) (c .before .before .list-call .ensures))
 
 same-length : tie.Need-same-length Inv-loop μ-loop
 same-length c = search needs

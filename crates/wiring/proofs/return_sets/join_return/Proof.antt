@@ -23,8 +23,8 @@ shared-slice-read-if2 c = search needs
 
 returns-2 : tie.Need-returns-2
 returns-2 c =
-    let s = c .before .before .before .before .before .before in
-    return-other (s .args .stmts .now) (s .args .n) (s .args .backs .now) (s .args .i) (s .args .sets .now) (λ h. c .if2 .taken (h .1))
+    let at-start : tie.Start = search in
+    return-other (at-start .args .stmts .now) (at-start .args .n) (at-start .args .backs .now) (at-start .args .i) (at-start .args .sets .now) (λ h. c .if2 .taken (h .1))
 
 mul-start : tie.Need-mul-start
 mul-start c = search needs
@@ -52,10 +52,11 @@ same-length c = search needs
 
 returns-3 : tie.Need-returns-3
 returns-3 c =
-    let s = c .before .before .before .before .before .before .before .before .before .before in
-    let k : s .args .i * 64 + 64 - s .args .i * 64 ≡ 64 = omega arith in
-    return-joined (s .args .stmts .now) (s .args .n) (s .args .backs .now) (s .args .i) _ (s .args .sets .now) (c .before .before .join .last .0)
-    (omega (arith, c .before .before .before .before .before .before .if1 .left), c .before .before .before .before .if2 .left) (s .pre .2) k (s .pre .3) (c .before .before .join .ensures)
+    let at-else1 : tie.Else1 = search in
+    let at-start : tie.Start = search in
+    let k : at-start .args .i * 64 + 64 - at-start .args .i * 64 ≡ 64 = omega arith in
+    return-joined (at-start .args .stmts .now) (at-start .args .n) (at-start .args .backs .now) (at-start .args .i) _ (at-start .args .sets .now) (c .before .before .join .last .0)
+    (omega (arith, at-else1 .if1 .left), c .before .before .before .before .if2 .left) (at-start .pre .2) k (at-start .pre .3) (c .before .before .join .ensures)
 
 pub join-return-spec : {M : Type 1} → statement M
 join-return-spec =

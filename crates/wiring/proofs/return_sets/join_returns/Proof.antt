@@ -29,8 +29,8 @@ wide-requires c κs = search needs
 
 join-return-requires : tie.Need-join-return-requires Inv-loop μ-loop
 join-return-requires c κs =
-    let s = c .before .before .before .before .before .before .before .before .before in
-    (s .pre .0, s .pre .1, omega (arith, c .before .before .before .before .loop .inv .1 .size, s .pre .2), s .pre .3)
+    let at-start : tie.Start Inv-loop μ-loop = search in
+    (at-start .pre .0, at-start .pre .1, omega (arith, c .before .before .before .before .loop .inv .1 .size, at-start .pre .2), at-start .pre .3)
 
 add-k : tie.Need-add-k Inv-loop μ-loop
 add-k c = search needs
@@ -40,17 +40,21 @@ loop-less c = search needs
 
 loop-again : tie.Need-loop-again Inv-loop μ-loop
 loop-again c =
-    let a = c .before .before .before .before .before .before .before .before .before .before .before .before .args in
-    let l = c .before .before .before .before .before .before .before .loop in
-    (omega arith, returns-more (a .stmts .now) (a .n) (a .backs .now) (a .list .now) (l .k) (c .before .before .before .before .wide .result) (a .sets .now) (l .sets) _ (c .before .before .before .before .before .before .loop-test .taken) (c .before .before .before .before .wide .ensures) (l .inv .1) (c .before .before .join-return .ensures))
+    let in-loop : tie.In-loop Inv-loop μ-loop = search in
+    let at-loop : tie.At-loop Inv-loop μ-loop = search in
+    let at-start : tie.Start Inv-loop μ-loop = search in
+    let a = at-start .args in
+    let l = at-loop .loop in
+    (omega arith, returns-more (a .stmts .now) (a .n) (a .backs .now) (a .list .now) (l .k) (c .before .before .before .before .wide .result) (a .sets .now) (l .sets) _ (in-loop .loop-test .taken) (c .before .before .before .before .wide .ensures) (l .inv .1) (c .before .before .join-return .ensures))
 
 same-length : tie.Need-same-length Inv-loop μ-loop
 same-length c = c .before .loop .inv .1 .size
 
 returns : tie.Need-returns Inv-loop μ-loop
 returns c =
+    let at-start : tie.Start Inv-loop μ-loop = search in
     let l = c .before .loop in
-    rw (take-all (l .k) (c .before .before .before .before .before .before .args .list .now) (omega arith)) at (l .inv .1)
+    rw (take-all (l .k) (at-start .args .list .now) (omega arith)) at (l .inv .1)
 
 pub join-returns-spec : {M : Type 1} → statement M
 join-returns-spec =

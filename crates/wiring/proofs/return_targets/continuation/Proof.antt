@@ -28,12 +28,14 @@ shared-slice-read-result c = search needs
 
 returns : tie.Need-returns
 returns c =
-    let a = c .before .before .before .before .before .before .args in
+    let at-start : tie.Start = search in
+    let a = at-start .args in
     continuation-call (a .stmts .now) (a .falls .now) (a .i) (sym (c .before .before .is-call .ensures) ∙ c .before .if1 .taken)
 
 returns-2 : tie.Need-returns-2
 returns-2 c =
-    let a = c .before .before .before .before .before .args in
+    let at-start : tie.Start = search in
+    let a = at-start .args in
     continuation-none (a .stmts .now) (a .falls .now) (a .i) (sym (c .before .is-call .ensures) ∙ c .if1 .left)
 
 pub continuation-spec : {M : Type 1} → statement M

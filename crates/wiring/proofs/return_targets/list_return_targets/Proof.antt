@@ -9,8 +9,8 @@ no-marks-requires c κs = search needs
 
 put-targets-requires : tie.Need-put-targets-requires
 put-targets-requires c κs =
-    let s = c .before .before .before .before .before .before in
-    (s .pre .0, (s .pre .1, marking-none 4096 (c .before .before .no-marks .result) (s .args .returns .now) (c .before .before .no-marks .ensures)))
+    let at-start : tie.Start = search in
+    (at-start .pre .0, (at-start .pre .1, marking-none 4096 (c .before .before .no-marks .result) (at-start .args .returns .now) (c .before .before .no-marks .ensures)))
 
 same-length : tie.Need-same-length
 same-length c = search needs

@@ -20,8 +20,8 @@ element-copy-out-if2 c = search needs
 
 returns-2 : tie.Need-returns-2
 returns-2 c =
-    let s = c .before .before .before .before .before in
-    target-old 4096 (s .args .marks .now) (s .args .returns .now) (s .args .k) (s .args .t) (s .pre .2) (c .before .before .before .if1 .left) (s .pre .0)
+    let at-start : tie.Start = search in
+    target-old 4096 (at-start .args .marks .now) (at-start .args .returns .now) (at-start .args .k) (at-start .args .t) (at-start .pre .2) (c .before .before .before .if1 .left) (at-start .pre .0)
     (c .before .before .wide .result) (c .before .before .wide .ensures) (c .if2 .taken)
 
 element-write-marks : tie.Need-element-write-marks
@@ -41,9 +41,9 @@ same-length c = search needs
 
 returns-3 : tie.Need-returns-3
 returns-3 c =
-    let s = c .before .before .before .before .before in
-    target-new 4096 (s .args .marks .now) (s .args .returns .now) (s .args .k) (s .args .t) (s .pre .2) (c .before .before .before .if1 .left) (s .pre .0)
-    (c .before .before .wide .result) (c .before .before .wide .ensures) (s .pre .1) (c .if2 .left)
+    let at-start : tie.Start = search in
+    target-new 4096 (at-start .args .marks .now) (at-start .args .returns .now) (at-start .args .k) (at-start .args .t) (at-start .pre .2) (c .before .before .before .if1 .left) (at-start .pre .0)
+    (c .before .before .wide .result) (c .before .before .wide .ensures) (at-start .pre .1) (c .if2 .left)
 
 pub put-target-spec : {M : Type 1} → statement M
 put-target-spec =

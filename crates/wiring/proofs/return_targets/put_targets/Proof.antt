@@ -25,9 +25,9 @@ continuation-requires c κs = search needs
 
 put-target-requires : tie.Need-put-target-requires Inv-loop μ-loop
 put-target-requires c κs =
-    let s = c .before .before .before .before .before .before .before .before in
+    let at-start : tie.Start Inv-loop μ-loop = search in
     let l = c .before .before .before .before .loop in (
-      omega (arith, c .before .before .continuation .ensures, continuation-le (s .args .stmts .now) (s .args .falls .now) (l .i) 4096 (s .pre .1 .0 (l .i) (omega arith))),
+      omega (arith, c .before .before .continuation .ensures, continuation-le (at-start .args .stmts .now) (at-start .args .falls .now) (l .i) 4096 (at-start .pre .1 .0 (l .i) (omega arith))),
       omega (arith, l .inv .2 .size),
       l .inv .2 .marking,
     )
@@ -40,13 +40,15 @@ loop-less c = search needs
 
 loop-again : tie.Need-loop-again Inv-loop μ-loop
 loop-again c =
-    let s = c .before .before .before .before .before .before .before .before .before .before .before in
-    let l = c .before .before .before .before .before .before .before .loop in
-    let t = c .before .before .before .before .before .continuation in
-    let d = ap (λ (x : ℕ). decode x) (t .ensures) ∙ continuation-decoded (s .args .stmts .now) (s .args .falls .now) (l .i) in (
+    let at-continuation : tie.After-continuation Inv-loop μ-loop = search in
+    let at-loop : tie.At-loop Inv-loop μ-loop = search in
+    let at-start : tie.Start Inv-loop μ-loop = search in
+    let l = at-loop .loop in
+    let t = at-continuation .continuation in
+    let d = ap (λ (x : ℕ). decode x) (t .ensures) ∙ continuation-decoded (at-start .args .stmts .now) (at-start .args .falls .now) (l .i) in (
       omega arith,
       omega (arith, one-more (t .result) (c .before .before .put-target .ensures)),
-      targets-more 4096 (continuationEntry (s .args .stmts .now) (s .args .falls .now)) (s .args .returns .now) (l .i) (l .marks) _ (l .returns) _ (decode (t .result)) (l .k) _ (l .inv .2) d
+      targets-more 4096 (continuationEntry (at-start .args .stmts .now) (at-start .args .falls .now)) (at-start .args .returns .now) (l .i) (l .marks) _ (l .returns) _ (decode (t .result)) (l .k) _ (l .inv .2) d
           (c .before .before .put-target .ensures),
     )
 
@@ -55,10 +57,10 @@ same-length c = c .before .loop .inv .2 .size
 
 returns : tie.Need-returns Inv-loop μ-loop
 returns c =
-    let s = c .before .before .before .before .before in
+    let at-start : tie.Start Inv-loop μ-loop = search in
     let l = c .before .loop in
-    let e : l .i ≡ s .args .n = omega arith in
-    targets-listed 4096 (s .args .stmts .now) (s .args .falls .now) (s .args .n) (s .args .returns .now) (l .marks) (l .returns) (l .k) (omega arith) (rw e at (l .inv .2))
+    let e : l .i ≡ at-start .args .n = omega arith in
+    targets-listed 4096 (at-start .args .stmts .now) (at-start .args .falls .now) (at-start .args .n) (at-start .args .returns .now) (l .marks) (l .returns) (l .k) (omega arith) (rw e at (l .inv .2))
 
 pub put-targets-spec : {M : Type 1} → statement M
 put-targets-spec =

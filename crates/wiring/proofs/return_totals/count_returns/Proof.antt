@@ -23,9 +23,9 @@ return-size-requires c κs = search needs
 
 add-sum : tie.Need-add-sum Inv-loop μ-loop
 add-sum c =
-    let s = c .before .before .before .before .before in
+    let at-start : tie.Start Inv-loop μ-loop = search in
     let l = c .before .before .loop in
-    omega (arith, return-sum-next (s .args .handlers) (s .args .stmts .now) (s .args .targets) (s .args .sets .now) (l .i) (l .sum) (c .return-size .result) (l .inv .1) (c .return-size .ensures), return-sum-le (s .args .handlers) (s .args .stmts .now) (s .args .targets) (s .args .sets .now) (l .i + 1) (s .pre .3))
+    omega (arith, return-sum-next (at-start .args .handlers) (at-start .args .stmts .now) (at-start .args .targets) (at-start .args .sets .now) (l .i) (l .sum) (c .return-size .result) (l .inv .1) (c .return-size .ensures), return-sum-le (at-start .args .handlers) (at-start .args .stmts .now) (at-start .args .targets) (at-start .args .sets .now) (l .i + 1) (at-start .pre .3))
 
 add-i : tie.Need-add-i Inv-loop μ-loop
 add-i c = search needs
@@ -35,9 +35,9 @@ loop-less c = search needs
 
 loop-again : tie.Need-loop-again Inv-loop μ-loop
 loop-again c =
-    let s = c .before .before .before .before .before in
+    let at-start : tie.Start Inv-loop μ-loop = search in
     let l = c .before .before .loop in
-    (omega arith, return-sum-next (s .args .handlers) (s .args .stmts .now) (s .args .targets) (s .args .sets .now) (l .i) (l .sum) (c .return-size .result) (l .inv .1) (c .return-size .ensures))
+    (omega arith, return-sum-next (at-start .args .handlers) (at-start .args .stmts .now) (at-start .args .targets) (at-start .args .sets .now) (l .i) (l .sum) (c .return-size .result) (l .inv .1) (c .return-size .ensures))
 
 returns : tie.Need-returns Inv-loop μ-loop
 returns c =

@@ -23,9 +23,9 @@ returns c =
 
 returns-2 : tie.Need-returns-2
 returns-2 c =
-    let s = c .before .before .before .before .before in
-    own-return-size (s .args .handlers) (s .args .stmts .now) (s .args .targets) (s .args .sets .now) (s .args .i) _ (c .before .if1 .left)
-    (size-with-handlers (s .args .handlers) (s .args .targets) (s .args .sets .now) (s .args .i) (c .if2 .taken))
+    let at-start : tie.Start = search in
+    own-return-size (at-start .args .handlers) (at-start .args .stmts .now) (at-start .args .targets) (at-start .args .sets .now) (at-start .args .i) _ (c .before .if1 .left)
+    (size-with-handlers (at-start .args .handlers) (at-start .args .targets) (at-start .args .sets .now) (at-start .args .i) (c .if2 .taken))
 
 mul-start : tie.Need-mul-start
 mul-start c = search needs
@@ -50,10 +50,10 @@ size-of-requires c κs = search needs
 
 returns-3 : tie.Need-returns-3
 returns-3 c =
-    let s = c .before .before .before .before .before .before .before in
-    let k : s .args .i * 64 + 64 - s .args .i * 64 ≡ 64 = omega arith in
-    own-return-size (s .args .handlers) (s .args .stmts .now) (s .args .targets) (s .args .sets .now) (s .args .i) _ (c .before .before .before .if1 .left)
-    (c .size-of .ensures ∙ size-without (s .args .handlers) (s .args .targets) (s .args .sets .now) (s .args .i) _ (c .before .before .if2 .left) k)
+    let at-start : tie.Start = search in
+    let k : at-start .args .i * 64 + 64 - at-start .args .i * 64 ≡ 64 = omega arith in
+    own-return-size (at-start .args .handlers) (at-start .args .stmts .now) (at-start .args .targets) (at-start .args .sets .now) (at-start .args .i) _ (c .before .before .before .if1 .left)
+    (c .size-of .ensures ∙ size-without (at-start .args .handlers) (at-start .args .targets) (at-start .args .sets .now) (at-start .args .i) _ (c .before .before .if2 .left) k)
 
 pub return-size-spec : {M : Type 1} → statement M
 return-size-spec =

@@ -29,10 +29,10 @@ shared-slice-read-put-word c = search needs
 
 put-word-requires : tie.Need-put-word-requires Inv-loop μ-loop
 put-word-requires c κs =
-    let s = c .before .before .before .before .before .before in
+    let at-start : tie.Start Inv-loop μ-loop = search in
     let l = c .before .before .before .loop in
-    let r = set-room (s .args .set .now) (l .q) (omega arith) in
-    (omega arith, omega (arith, r, l .inv .2 .count, l .inv .1, s .pre .1))
+    let r = set-room (at-start .args .set .now) (l .q) (omega arith) in
+    (omega arith, omega (arith, r, l .inv .2 .count, l .inv .1, at-start .pre .1))
 
 add-q : tie.Need-add-q Inv-loop μ-loop
 add-q c = search needs
@@ -42,10 +42,11 @@ loop-less c = search needs
 
 loop-again : tie.Need-loop-again Inv-loop μ-loop
 loop-again c =
-    let s = c .before .before .before .before .before .before .before .before .before in
-    let l = c .before .before .before .before .before .before .loop in
+    let at-loop : tie.At-loop Inv-loop μ-loop = search in
+    let at-start : tie.Start Inv-loop μ-loop = search in
+    let l = at-loop .loop in
     let p = c .before .before .put-word in
-    (omega arith, p .kept .0 ∙ l .inv .1, set-put (s .args .set .now) (l .q) (s .args .part .now) (l .part) (p .last .0) 0 (l .n) (p .result) (l .inv .2) (p .ensures))
+    (omega arith, p .kept .0 ∙ l .inv .1, set-put (at-start .args .set .now) (l .q) (at-start .args .part .now) (l .part) (p .last .0) 0 (l .n) (p .result) (l .inv .2) (p .ensures))
 
 same-length : tie.Need-same-length Inv-loop μ-loop
 same-length c = search needs

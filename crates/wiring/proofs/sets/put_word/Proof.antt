@@ -37,15 +37,16 @@ loop-less c = search needs
 
 loop-again : tie.Need-loop-again Inv-loop μ-loop
 loop-again c =
-    let s = c .before .before .before .before .before .before .before in
-    let l = c .before .before .before .before .before .loop in
+    let at-loop : tie.At-loop Inv-loop μ-loop = search in
+    let at-start : tie.Start Inv-loop μ-loop = search in
+    let l = at-loop .loop in
     let p = c .before .before .put-if in
     let e = l .inv .1 in
-    let h = word-left (s .args .base) (s .args .word) (l .j) (l .w) e 64 (omega arith) (c .before .before .before .before .loop-test .taken) in (
+    let h = word-left (at-start .args .base) (at-start .args .word) (l .j) (l .w) e 64 (omega arith) (c .before .before .before .before .loop-test .taken) in (
       omega (arith, h),
-      word-next (s .args .base) (s .args .word) (l .j) (l .w) e,
+      word-next (at-start .args .base) (at-start .args .word) (l .j) (l .w) e,
       p .kept .0 ∙ l .inv .2,
-      word-put (s .args .base) (s .args .word) (l .j) (l .w) e (s .args .part .now) (l .part) (p .last .0) (s .args .n) (l .k) (p .result) (l .inv .3) (p .ensures),
+      word-put (at-start .args .base) (at-start .args .word) (l .j) (l .w) e (at-start .args .part .now) (l .part) (p .last .0) (at-start .args .n) (l .k) (p .result) (l .inv .3) (p .ensures),
     )
 
 same-length : tie.Need-same-length Inv-loop μ-loop

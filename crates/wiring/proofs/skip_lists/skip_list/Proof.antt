@@ -29,14 +29,17 @@ same-length c = search needs
 returns : tie.Need-returns
 unfolding wordOf
 returns c =
-    let a = c .before .before .before .before .before .before .before .before .before .before .args in
-    let e : callWord (wordOf (a .stmts .now) (a .i)) ≡ true = sym (c .before .before .before .before .before .is-call .ensures) ∙ c .before .before .before .before .if1 .taken in
+    let at-is-call : tie.After-is-call = search in
+    let at-start : tie.Start = search in
+    let a = at-start .args in
+    let e : callWord (wordOf (a .stmts .now) (a .i)) ≡ true = sym (at-is-call .is-call .ensures) ∙ c .before .before .before .before .if1 .taken in
     skip-fall (a .stmts .now) (a .falls .now) (a .i) (a .buffer .now) (a .count) e _ _ (c .before .before .put-fall .ensures)
 
 returns-2 : tie.Need-returns-2
 unfolding wordOf
 returns-2 c =
-    let a = c .before .before .before .before .before .before .args in
+    let at-start : tie.Start = search in
+    let a = at-start .args in
     let e : callWord (wordOf (a .stmts .now) (a .i)) ≡ false = sym (c .before .is-call .ensures) ∙ c .if1 .left in
     skip-same (a .stmts .now) (a .falls .now) (a .i) (a .buffer .now) (a .count) e (omega arith)
 

@@ -6,30 +6,44 @@ use Rattle.wiring.proofs.skip_lists.store_skip_list.Statement.{statemen
 use Rattle.wiring.proofs.skip_lists.store_skip_list.Tie as tie
 
 list-of-requires : tie.Need-list-of-requires
-list-of-requires c κs = skip-list-ready (c .before .before .before .before .before .before .before .before .before .before .before .pre)
+list-of-requires c κs = let at-start : tie.Start = search in skip-list-ready (at-start .pre)
 
 add-total : tie.Need-add-total
 add-total c =
-    let s = c .before .before .before .before .before .before .before .before .before .before .before .before .before .before .before in
-    omega (arith, skip-total (s .pre) (c .before .before .before .list-of .ensures), s .pre .node, s .pre .roles .few)
+    let at-start : tie.Start = search in
+    omega (arith, skip-total (at-start .pre) (c .before .before .before .list-of .ensures), at-start .pre .node, at-start .pre .roles .few)
 
 same-length : tie.Need-same-length
 same-length c = search needs
 
 returns : tie.Need-returns
-returns c = skip-over (c .before .before .before .before .before .before .before .before .before .before .before .before .before .before .before .before .pre) (c .before .before .before .before .list-of .ensures) (c .if1 .taken)
+returns c = let at-start : tie.Start = search in skip-over (at-start .pre) (c .before .before .before .before .list-of .ensures) (c .if1 .taken)
 
 skip-list-requires : tie.Need-skip-list-requires
-skip-list-requires c κs = skip-room (c .before .before .before .before .before .before .before .before .before .before .before .before .before .before .before .before .before .pre) (c .before .before .before .before .before .list-of .ensures)
+skip-list-requires c κs =
+    let at-list-of : tie.After-list-of = search in
+    let at-start : tie.Start = search in
+    skip-room (at-start .pre) (at-list-of .list-of .ensures)
 
 slice-reshare-prefix-append-list : tie.Need-slice-reshare-prefix-append-list
 slice-reshare-prefix-append-list c = search needs
 
 slice-aggregate-append-list : tie.Need-slice-aggregate-append-list
-slice-aggregate-append-list c = list-kept (c .before .before .before .before .before .skip-list .ensures)
+slice-aggregate-append-list c = let at-skip-list : tie.After-skip-list = search in list-kept (at-skip-list .skip-list .ensures)
+
+-- Ways back from a place to an earlier one. `search` finds each by its type.
+abbrev start-of-list-of : tie.After-list-of → tie.Start
+start-of-list-of c = search
+
+ruleset ways = (start-of-list-of)
 
 append-list-requires : tie.Need-append-list-requires
-append-list-requires c κs = skip-fits (c .before .before .before .before .before .before .before .before .before .before .before .before .before .before .before .before .before .before .before .before .before .before .before .pre) (c .before .before .before .before .before .before .before .before .before .before .before .list-of .ensures) (c .before .before .before .before .before .skip-list .ensures) (c .before .before .before .before .before .before .before .if1 .left)
+append-list-requires c κs =
+    let at-skip-list : tie.After-skip-list = search in
+    let at-else1 : tie.Else1 = search in
+    let at-list-of : tie.After-list-of = search in
+    let at-start : tie.Start = search ways in
+    skip-fits (at-start .pre) (at-list-of .list-of .ensures) (at-skip-list .skip-list .ensures) (at-else1 .if1 .left)
 
 same-length-2 : tie.Need-same-length-2
 same-length-2 c = search needs
@@ -41,7 +55,11 @@ same-length-4 : tie.Need-same-length-4
 same-length-4 c = search needs
 
 returns-2 : tie.Need-returns-2
-returns-2 c = skip-store (c .before .before .before .before .before .before .before .before .before .before .before .before .before .before .before .before .before .before .before .before .before .before .before .before .before .before .before .before .pre) (c .before .before .before .before .before .before .before .before .before .before .before .before .before .before .before .before .list-of .ensures) (c .before .before .before .before .before .before .before .before .before .before .skip-list .ensures) (c .before .before .before .before .append-list .ensures)
+returns-2 c =
+    let at-skip-list : tie.After-skip-list = search in
+    let at-list-of : tie.After-list-of = search in
+    let at-start : tie.Start = search ways in
+    skip-store (at-start .pre) (at-list-of .list-of .ensures) (at-skip-list .skip-list .ensures) (c .before .before .before .before .append-list .ensures)
 
 pub store-skip-list-spec : {M : Type 1} → statement M
 store-skip-list-spec =

@@ -18,16 +18,18 @@ abbrev μ-loop : tie.MeasureT-loop
 
 loop-holds : tie.Need-loop-holds Inv-loop μ-loop
 loop-holds c =
-    let a = c .before .before .before .before .before .before .before .before .before .before .args in
+    let at-start : tie.Start Inv-loop μ-loop = search in
+    let a = at-start .args in
     (omega arith, refl, refl, refl, omega arith, λ L p r. skips-none (wire L) (a .lists .now) (a .scratch .now))
 
 store-skip-list-requires : tie.Need-store-skip-list-requires Inv-loop μ-loop
 store-skip-list-requires c κs =
-    let q = c .before .before .before .before .before .before .before .before .before .before .before .before .before .before .before .pre in
+    let at-start : tie.Start Inv-loop μ-loop = search in
+    let q = at-start .pre in
     let l = c .before .before .before .before .loop in
     record {
       listing = q .listing;
-      nodes = c .before .before .before .before .before .before .before .before .before .before .before .before .before .before .before .args .n;
+      nodes = at-start .args .n;
       prepared = q .prepared;
       roles = q .roles;
       node = c .before .before .before .loop-test .taken;
@@ -46,18 +48,29 @@ loop-less c = search needs
 
 loop-again : tie.Need-loop-again Inv-loop μ-loop
 loop-again c =
-    let s = c .before .before .before .before .before .before .before .before .before .before .before .before .before .before .before .before .before .before .before .before .before .before in
-    let q = s .pre in
-    let l = c .before .before .before .before .before .before .before .before .before .before .before .loop in
-    let h = c .before .before .before .before .before .before .before .before .before .before .loop-test .taken in
-    let m = c .before .before .before .before .before .before .store-skip-list .ensures in (
+    let q = at-start .pre in
+    let l = at-loop .loop in
+    let h = in-loop .loop-test .taken in
+    let m = at-store-skip-list .store-skip-list .ensures in (
       search needs,
       search needs,
       search needs,
       search needs,
-      omega (arith, l .inv .4, (m (q .listing) (s .args .n) (q .prepared) (q .roles) h) .few),
-      λ L p r. skips-more r (l .inv .5 L p r) (q .rows) h (m L (s .args .n) p r h),
+      omega (arith, l .inv .4, (m (q .listing) (at-start .args .n) (q .prepared) (q .roles) h) .few),
+      λ L p r. skips-more r (l .inv .5 L p r) (q .rows) h (m L (at-start .args .n) p r h),
     )
+  where
+    at-store-skip-list : tie.After-store-skip-list Inv-loop μ-loop
+    at-store-skip-list = search
+
+    in-loop : tie.In-loop Inv-loop μ-loop
+    in-loop = search
+
+    at-loop : tie.At-loop Inv-loop μ-loop
+    at-loop = search
+
+    at-start : tie.Start Inv-loop μ-loop
+    at-start = search
 
 same-length : tie.Need-same-length Inv-loop μ-loop
 same-length c = search needs
@@ -70,8 +83,9 @@ same-length-3 c = search needs
 
 returns : tie.Need-returns Inv-loop μ-loop
 returns c =
+    let at-start : tie.Start Inv-loop μ-loop = search in
     let l = c .before .loop in
-    let e : l .i ≡ c .before .before .before .before .before .before .before .before .before .before .before .before .args .n = omega arith in
+    let e : l .i ≡ at-start .args .n = omega arith in
     λ L p r. skips-done e (l .inv .1) (l .inv .2) (l .inv .5 L p r)
 
 pub store-skip-lists-spec : {M : Type 1} → statement M

@@ -39,17 +39,19 @@ part-span-row-end c = search needs
 
 span-row-requires : tie.Need-span-row-requires
 span-row-requires c κs =
-    let s = c .before .before .before .before .before .before .before in
-    let a = s .args in
-    (part-ids (a .stmts .now) (a .links .now) (a .c) _ (target-part (a .stmts .now) (a .links .now) (a .c) _ (c .before .before .wide .ensures)) (s .pre .0), s .pre .1, s .pre .2)
+    let at-start : tie.Start = search in
+    let a = at-start .args in
+    (part-ids (a .stmts .now) (a .links .now) (a .c) _ (target-part (a .stmts .now) (a .links .now) (a .c) _ (c .before .before .wide .ensures)) (at-start .pre .0), at-start .pre .1, at-start .pre .2)
 
 same-length : tie.Need-same-length
 same-length c = search needs
 
 returns : tie.Need-returns
 returns c =
-    let a = c .before .before .before .before .before .before .before .before .before .before .args in
-    target-entries (a .stmts .now) (a .links .now) (a .c) (a .k) _ _ _ (target-part (a .stmts .now) (a .links .now) (a .c) _ (c .before .before .before .before .before .wide .ensures)) (c .before .before .span-row .ensures)
+    let at-wide : tie.After-wide = search in
+    let at-start : tie.Start = search in
+    let a = at-start .args in
+    target-entries (a .stmts .now) (a .links .now) (a .c) (a .k) _ _ _ (target-part (a .stmts .now) (a .links .now) (a .c) _ (at-wide .wide .ensures)) (c .before .before .span-row .ensures)
 
 pub span-call-spec : {M : Type 1} → statement M
 span-call-spec =

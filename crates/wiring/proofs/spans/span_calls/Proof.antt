@@ -35,9 +35,10 @@ narrow-requires c κs = search needs
 
 span-call-requires : tie.Need-span-call-requires Inv-loop μ-loop
 span-call-requires c κs =
-    let s = c .before .before .before .before .before .before .before .before .before .before in
-    let l = c .before .before .before .before .before .loop in
-    (all-getD (s .pre .0) (l .k) _ (c .before .before .before .before .loop-test .taken) (c .before .before .wide .ensures), omega (arith, c .before .narrow .ensures, c .before .before .before .before .loop-test .taken, s .pre .1), l .inv .1)
+    let at-loop : tie.At-loop Inv-loop μ-loop = search in
+    let at-start : tie.Start Inv-loop μ-loop = search in
+    let l = at-loop .loop in
+    (all-getD (at-start .pre .0) (l .k) _ (c .before .before .before .before .loop-test .taken) (c .before .before .wide .ensures), omega (arith, c .before .narrow .ensures, c .before .before .before .before .loop-test .taken, at-start .pre .1), l .inv .1)
 
 add-k : tie.Need-add-k Inv-loop μ-loop
 add-k c = search needs
@@ -47,20 +48,24 @@ loop-less c = search needs
 
 loop-again : tie.Need-loop-again Inv-loop μ-loop
 loop-again c =
-    let a = c .before .before .before .before .before .before .before .before .before .before .before .before .before .args in
-    let l = c .before .before .before .before .before .before .before .before .loop in
+    let at-wide : tie.After-wide Inv-loop μ-loop = search in
+    let at-loop : tie.At-loop Inv-loop μ-loop = search in
+    let at-start : tie.Start Inv-loop μ-loop = search in
+    let a = at-start .args in
+    let l = at-loop .loop in
     let g = c .before .before .span-call .ensures in
-    (omega arith, g .size ∙ l .inv .1, spanned-more (a .stmts .now) (a .links .now) (a .calls .now) (l .k) _ (l .spans) _ (c .before .before .before .before .before .wide .ensures) (l .inv .2) (rw (c .before .before .before .before .narrow .ensures) at g))
+    (omega arith, g .size ∙ l .inv .1, spanned-more (a .stmts .now) (a .links .now) (a .calls .now) (l .k) _ (l .spans) _ (at-wide .wide .ensures) (l .inv .2) (rw (c .before .before .before .before .narrow .ensures) at g))
 
 same-length : tie.Need-same-length Inv-loop μ-loop
 same-length c =
-    let s = c .before .before .before .before .before .before in
-    c .before .loop .inv .1 ∙ sym (ap length (s .pre .2) ∙ length-replicate {A = ℕ} 8192 0)
+    let at-start : tie.Start Inv-loop μ-loop = search in
+    c .before .loop .inv .1 ∙ sym (ap length (at-start .pre .2) ∙ length-replicate {A = ℕ} 8192 0)
 
 returns : tie.Need-returns Inv-loop μ-loop
 returns c =
+    let at-start : tie.Start Inv-loop μ-loop = search in
     let l = c .before .loop in
-    let e : l .k ≡ length (c .before .before .before .before .before .before .args .calls .now) = omega arith in
+    let e : l .k ≡ length (at-start .args .calls .now) = omega arith in
     rw e at (l .inv .2)
 
 pub span-calls-spec : {M : Type 1} → statement M

@@ -29,9 +29,9 @@ shared-slice-read-span-some c = search needs
 
 span-some-requires : tie.Need-span-some-requires Inv-loop μ-loop
 span-some-requires c κs =
-    let s = c .before .before .before .before .before .before in
+    let at-start : tie.Start Inv-loop μ-loop = search in
     let l = c .before .before .before .loop in
-    (all-getD (s .pre .0) (l .i) _ (c .before .before .loop-test .taken) refl, s .pre .1, l .inv .1 .size ∙ s .pre .2)
+    (all-getD (at-start .pre .0) (l .i) _ (c .before .before .loop-test .taken) refl, at-start .pre .1, l .inv .1 .size ∙ at-start .pre .2)
 
 add-i : tie.Need-add-i Inv-loop μ-loop
 add-i c = search needs
@@ -41,9 +41,12 @@ loop-less c = search needs
 
 loop-again : tie.Need-loop-again Inv-loop μ-loop
 loop-again c =
-    let a = c .before .before .before .before .before .before .before .before .before .args in
-    let l = c .before .before .before .before .before .before .loop in
-    (omega arith, row-more (a .k) (a .row .now) (l .i) (a .spans .now) (l .spans) _ (c .before .before .before .before .before .loop-test .taken) (l .inv .1) (c .before .before .span-some .ensures))
+    let in-loop : tie.In-loop Inv-loop μ-loop = search in
+    let at-loop : tie.At-loop Inv-loop μ-loop = search in
+    let at-start : tie.Start Inv-loop μ-loop = search in
+    let a = at-start .args in
+    let l = at-loop .loop in
+    (omega arith, row-more (a .k) (a .row .now) (l .i) (a .spans .now) (l .spans) _ (in-loop .loop-test .taken) (l .inv .1) (c .before .before .span-some .ensures))
 
 same-length : tie.Need-same-length Inv-loop μ-loop
 same-length c = c .before .loop .inv .1 .size

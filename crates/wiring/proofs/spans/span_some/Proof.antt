@@ -60,8 +60,8 @@ same-length c = search needs
 
 returns-2 : tie.Need-returns-2
 returns-2 c =
-    let s = c .before .before .before .before .before .before in
-    grow-some (s .args .k) (s .args .spans .now) (s .args .t) (c .before .before .before .wide .result) (c .first-of .result) _ (c .before .before .before .wide .ensures) (c .before .before .before .before .if1 .left) (omega (arith, s .pre)) (c .first-of .ensures) refl
+    let at-start : tie.Start = search in
+    grow-some (at-start .args .k) (at-start .args .spans .now) (at-start .args .t) (c .before .before .before .wide .result) (c .first-of .result) _ (c .before .before .before .wide .ensures) (c .before .before .before .before .if1 .left) (omega (arith, at-start .pre)) (c .first-of .ensures) refl
 
 pub span-some-spec : {M : Type 1} → statement M
 span-some-spec =

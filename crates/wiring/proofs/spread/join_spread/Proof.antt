@@ -25,10 +25,10 @@ wide-requires c κs = search needs
 
 returns : tie.Need-returns
 returns c =
-    let s = c .before .before .before .before .before .before .before .before .before .before in
-    let a = s .args in
+    let at-start : tie.Start = search in
+    let a = at-start .args in
     λ W r t.
-    uncalled-joined (a .stmts .now) (a .falls .now) (a .links .now) (a .n) (a .e) (a .calls .now) (a .spans .now) _ (c .before .wide .result) (s .pre .0 .calls-ready .listed) (s .pre .0 .spanned)
+    uncalled-joined (a .stmts .now) (a .falls .now) (a .links .now) (a .n) (a .e) (a .calls .now) (a .spans .now) _ (c .before .wide .result) (at-start .pre .0 .calls-ready .listed) (at-start .pre .0 .spanned)
     (c .before .wide .ensures) (c .if1 .taken) W r
 
 mul-wide-2 : tie.Need-mul-wide-2
@@ -44,16 +44,32 @@ list-row-requires : tie.Need-list-row-requires
 list-row-requires c κs = search needs
 
 mul-join-region : tie.Need-mul-join-region
-mul-join-region c = let s = c .before .before .before .before .before .before .before .before .before .before .before .before .before .before .before .before .before in let a = s .args in let h = span-fits (a .stmts .now) (a .falls .now) (a .links .now) (a .n) (a .e) (a .calls .now) (a .spans .now) (s .pre .0 .calls-ready) (s .pre .0 .spanned) (c .before .before .before .before .before .wide2 .result) (c .before .before .before .before .before .before .before .before .wide .result) (c .before .before .before .before .before .wide2 .ensures) (c .before .before .before .before .before .before .before .before .wide .ensures) in omega (arith, h .0, h .1)
+mul-join-region c =
+    let at-wide2 : tie.After-wide2 = search in
+    let at-wide : tie.After-wide = search in
+    let at-start : tie.Start = search in
+    let a = at-start .args in let h = span-fits (a .stmts .now) (a .falls .now) (a .links .now) (a .n) (a .e) (a .calls .now) (a .spans .now) (at-start .pre .0 .calls-ready) (at-start .pre .0 .spanned) (at-wide2 .wide2 .result) (at-wide .wide .result) (at-wide2 .wide2 .ensures) (at-wide .wide .ensures) in omega (arith, h .0, h .1)
 
 sub-join-region : tie.Need-sub-join-region
-sub-join-region c = let s = c .before .before .before .before .before .before .before .before .before .before .before .before .before .before .before .before .before in let a = s .args in let h = span-fits (a .stmts .now) (a .falls .now) (a .links .now) (a .n) (a .e) (a .calls .now) (a .spans .now) (s .pre .0 .calls-ready) (s .pre .0 .spanned) (c .before .before .before .before .before .wide2 .result) (c .before .before .before .before .before .before .before .before .wide .result) (c .before .before .before .before .before .wide2 .ensures) (c .before .before .before .before .before .before .before .before .wide .ensures) in omega (arith, h .0, h .1)
+sub-join-region c =
+    let at-wide2 : tie.After-wide2 = search in
+    let at-wide : tie.After-wide = search in
+    let at-start : tie.Start = search in
+    let a = at-start .args in let h = span-fits (a .stmts .now) (a .falls .now) (a .links .now) (a .n) (a .e) (a .calls .now) (a .spans .now) (at-start .pre .0 .calls-ready) (at-start .pre .0 .spanned) (at-wide2 .wide2 .result) (at-wide .wide .result) (at-wide2 .wide2 .ensures) (at-wide .wide .ensures) in omega (arith, h .0, h .1)
 
 part-join-region-start : tie.Need-part-join-region-start
-part-join-region-start c = let s = c .before .before .before .before .before .before .before .before .before .before .before .before .before .before .before .before .before in let a = s .args in let h = span-fits (a .stmts .now) (a .falls .now) (a .links .now) (a .n) (a .e) (a .calls .now) (a .spans .now) (s .pre .0 .calls-ready) (s .pre .0 .spanned) (c .before .before .before .before .before .wide2 .result) (c .before .before .before .before .before .before .before .before .wide .result) (c .before .before .before .before .before .wide2 .ensures) (c .before .before .before .before .before .before .before .before .wide .ensures) in omega (arith, h .0, h .1)
+part-join-region-start c =
+    let at-wide2 : tie.After-wide2 = search in
+    let at-wide : tie.After-wide = search in
+    let at-start : tie.Start = search in
+    let a = at-start .args in let h = span-fits (a .stmts .now) (a .falls .now) (a .links .now) (a .n) (a .e) (a .calls .now) (a .spans .now) (at-start .pre .0 .calls-ready) (at-start .pre .0 .spanned) (at-wide2 .wide2 .result) (at-wide .wide .result) (at-wide2 .wide2 .ensures) (at-wide .wide .ensures) in omega (arith, h .0, h .1)
 
 part-join-region-end : tie.Need-part-join-region-end
-part-join-region-end c = let s = c .before .before .before .before .before .before .before .before .before .before .before .before .before .before .before .before .before in let a = s .args in let h = span-fits (a .stmts .now) (a .falls .now) (a .links .now) (a .n) (a .e) (a .calls .now) (a .spans .now) (s .pre .0 .calls-ready) (s .pre .0 .spanned) (c .before .before .before .before .before .wide2 .result) (c .before .before .before .before .before .before .before .before .wide .result) (c .before .before .before .before .before .wide2 .ensures) (c .before .before .before .before .before .before .before .before .wide .ensures) in omega (arith, h .0, h .1)
+part-join-region-end c =
+    let at-wide2 : tie.After-wide2 = search in
+    let at-wide : tie.After-wide = search in
+    let at-start : tie.Start = search in
+    let a = at-start .args in let h = span-fits (a .stmts .now) (a .falls .now) (a .links .now) (a .n) (a .e) (a .calls .now) (a .spans .now) (at-start .pre .0 .calls-ready) (at-start .pre .0 .spanned) (at-wide2 .wide2 .result) (at-wide .wide .result) (at-wide2 .wide2 .ensures) (at-wide .wide .ensures) in omega (arith, h .0, h .1)
 
 slice-reshare-prefix-join-region : tie.Need-slice-reshare-prefix-join-region
 slice-reshare-prefix-join-region c = search needs
@@ -63,18 +79,22 @@ slice-aggregate-join-region c = sym (length-take-le _ _ (c .before .before .befo
 
 join-region-requires : tie.Need-join-region-requires
 join-region-requires c κs =
-    let s = c .before .before .before .before .before .before .before .before .before .before .before .before .before .before .before .before .before .before .before .before in
-    let a = s .args in
-    (entry-calls (a .stmts .now) (a .falls .now) (a .links .now) (a .n) (a .e) (a .calls .now) (a .spans .now) (s .pre .0 .calls-ready) (s .pre .0 .spanned) (c .before .before .before .before .before .before .before .before .wide2 .result) (c .before .before .before .before .before .before .before .before .before .before .before .wide .result) (c .before .before .before .before .before .before .before .before .wide2 .ensures) (c .before .before .before .before .before .before .before .before .before .before .before .wide .ensures), omega (arith, s .pre .1, s .pre .0 .calls-ready .few), s .pre .0 .in-rows)
+    let at-wide2 : tie.After-wide2 = search in
+    let at-wide : tie.After-wide = search in
+    let at-start : tie.Start = search in
+    let a = at-start .args in
+    (entry-calls (a .stmts .now) (a .falls .now) (a .links .now) (a .n) (a .e) (a .calls .now) (a .spans .now) (at-start .pre .0 .calls-ready) (at-start .pre .0 .spanned) (at-wide2 .wide2 .result) (at-wide .wide .result) (at-wide2 .wide2 .ensures) (at-wide .wide .ensures), omega (arith, at-start .pre .1, at-start .pre .0 .calls-ready .few), at-start .pre .0 .in-rows)
 
 same-length : tie.Need-same-length
-same-length c = c .before .before .before .before .before .before .before .work .given
+same-length c = search
 
 same-length-2 : tie.Need-same-length-2
 same-length-2 c = c .before .rows .given
 
 returns-2 : tie.Need-returns-2
-returns-2 c = λ W s t. c .before .before .join-region .ensures W s (c .before .before .before .before .before .before .before .before .list-row .ensures .1 (skipSteps W) t)
+returns-2 c =
+    let at-list-row : tie.After-list-row = search in
+    λ W s t. c .before .before .join-region .ensures W s (at-list-row .list-row .ensures .1 (skipSteps W) t)
 
 pub join-spread-spec : {M : Type 1} → statement M
 join-spread-spec =

@@ -18,14 +18,15 @@ abbrev μ-loop : tie.MeasureT-loop
 
 loop-holds : tie.Need-loop-holds Inv-loop μ-loop
 loop-holds c =
-    let a = c .before .before .before .before .before .before .before .args in
+    let at-start : tie.Start Inv-loop μ-loop = search in
+    let a = at-start .args in
     (omega arith, refl, refl, λ W s o. regions-none W (a .stmts .now) (a .n) (a .rows .now))
 
 join-spread-requires : tie.Need-join-spread-requires Inv-loop μ-loop
 join-spread-requires c κs =
-    let s = c .before .before .before .before .before .before .before .before .before .before .before in
+    let at-start : tie.Start Inv-loop μ-loop = search in
     let l = c .before .before .before .loop in
-    (spread-again _ (l .inv .2) (s .pre .0), c .before .before .loop-test .taken, omega (arith, l .inv .1, s .pre .1))
+    (spread-again _ (l .inv .2) (at-start .pre .0), c .before .before .loop-test .taken, omega (arith, l .inv .1, at-start .pre .1))
 
 add-e : tie.Need-add-e Inv-loop μ-loop
 add-e c = search needs
@@ -35,10 +36,11 @@ loop-less c = search needs
 
 loop-again : tie.Need-loop-again Inv-loop μ-loop
 loop-again c =
-    let s = c .before .before .before .before .before .before .before .before .before .before .before .before .before .before .before .before in
-    let a = s .args in
-    let l = c .before .before .before .before .before .before .before .before .loop in
-    (omega arith, search needs, search needs, entries-more (a .stmts .now) (a .falls .now) (a .links .now) (a .n) (l .e) (a .rows .now) (l .rows) _ (s .pre .0 .in-rows) (l .inv .3) (c .before .before .before .before .join-spread .ensures))
+    let at-loop : tie.At-loop Inv-loop μ-loop = search in
+    let at-start : tie.Start Inv-loop μ-loop = search in
+    let a = at-start .args in
+    let l = at-loop .loop in
+    (omega arith, search needs, search needs, entries-more (a .stmts .now) (a .falls .now) (a .links .now) (a .n) (l .e) (a .rows .now) (l .rows) _ (at-start .pre .0 .in-rows) (l .inv .3) (c .before .before .before .before .join-spread .ensures))
 
 same-length : tie.Need-same-length Inv-loop μ-loop
 same-length c = search needs
@@ -48,8 +50,9 @@ same-length-2 c = search needs
 
 returns : tie.Need-returns Inv-loop μ-loop
 returns c =
+    let at-start : tie.Start Inv-loop μ-loop = search in
     let l = c .before .loop in
-    let q : l .e ≡ c .before .before .before .before .before .before .before .before .before .args .n = omega arith in
+    let q : l .e ≡ at-start .args .n = omega arith in
     rw q at (l .inv .3)
 
 pub spread-entries-spec : {M : Type 1} → statement M

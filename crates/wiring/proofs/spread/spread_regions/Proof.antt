@@ -18,10 +18,14 @@ list-calls-requires : tie.Need-list-calls-requires
 list-calls-requires c κs = search needs
 
 array-share-prefix-buffer : tie.Need-array-share-prefix-buffer
-array-share-prefix-buffer c = let s = c .before .before .before .before .before .before .before .before in omega (arith, c .before .list-calls .ensures .count, calls-few (s .args .stmts .now) (s .args .n), s .pre .roles .few, c .before .before .before .no-work .ensures)
+array-share-prefix-buffer c =
+    let at-start : tie.Start = search in
+    omega (arith, c .before .list-calls .ensures .count, calls-few (at-start .args .stmts .now) (at-start .args .n), at-start .pre .roles .few, c .before .before .before .no-work .ensures)
 
 slice-aggregate-calls : tie.Need-slice-aggregate-calls
-slice-aggregate-calls c = let s = c .before .before .before .before .before .before .before .before .before in sym (length-take-le _ _ (omega (arith, c .before .before .list-calls .ensures .count, calls-few (s .args .stmts .now) (s .args .n), s .pre .roles .few, c .before .before .before .before .no-work .ensures)))
+slice-aggregate-calls c =
+    let at-start : tie.Start = search in
+    sym (length-take-le _ _ (omega (arith, c .before .before .list-calls .ensures .count, calls-few (at-start .args .stmts .now) (at-start .args .n), at-start .pre .roles .few, c .before .before .before .before .no-work .ensures)))
 
 no-spans-requires : tie.Need-no-spans-requires
 no-spans-requires c κs = search needs
@@ -31,10 +35,10 @@ slice-aggregate-span-calls c = search needs
 
 span-calls-requires : tie.Need-span-calls-requires
 span-calls-requires c κs =
-    let s = c .before .before .before .before .before .before .before .before .before .before .before in
+    let at-start : tie.Start = search in
     let l = c .before .before .before .before .list-calls .ensures .list in
-    let r = calls-ready (s .pre .wired) (s .args .stmts .now) (s .args .falls .now) (s .args .links .now) (s .args .n) _ (s .pre .roles) l in
-    (targets-fit (r .fit), omega (arith, ap length l, calls-few (s .args .stmts .now) (s .args .n), s .pre .roles .few), c .before .no-spans .ensures)
+    let r = calls-ready (at-start .pre .wired) (at-start .args .stmts .now) (at-start .args .falls .now) (at-start .args .links .now) (at-start .args .n) _ (at-start .pre .roles) l in
+    (targets-fit (r .fit), omega (arith, ap length l, calls-few (at-start .args .stmts .now) (at-start .args .n), at-start .pre .roles .few), c .before .no-spans .ensures)
 
 no-work-requires-2 : tie.Need-no-work-requires-2
 no-work-requires-2 c κs = search needs
@@ -47,12 +51,14 @@ slice-aggregate-spread-entries-2 c = search needs
 
 spread-entries-requires : tie.Need-spread-entries-requires
 spread-entries-requires c κs =
-    let s = c .before .before .before .before .before .before .before .before .before .before .before .before .before .before .before .before .before in (
+    let at-span-calls : tie.After-span-calls = search in
+    let at-list-calls : tie.After-list-calls = search in
+    let at-start : tie.Start = search in (
       record {
-        calls-ready = calls-ready (s .pre .wired) (s .args .stmts .now) (s .args .falls .now) (s .args .links .now) (s .args .n) _ (s .pre .roles) (c .before .before .before .before .before .before .before .before .before .before .list-calls .ensures .list);
-        spanned = c .before .before .before .before .before .span-calls .ensures;
+        calls-ready = calls-ready (at-start .pre .wired) (at-start .args .stmts .now) (at-start .args .falls .now) (at-start .args .links .now) (at-start .args .n) _ (at-start .pre .roles) (at-list-calls .list-calls .ensures .list);
+        spanned = at-span-calls .span-calls .ensures;
         in-spans = search needs;
-        in-rows = s .pre .in-rows;
+        in-rows = at-start .pre .in-rows;
       },
       c .before .before .before .no-work2 .ensures,
     )
@@ -62,9 +68,9 @@ same-length c = search needs
 
 returns : tie.Need-returns
 returns c =
-    let s = c .before .before .before .before .before .before .before .before .before .before .before .before .before .before .before .before .before .before .before .before .before in
+    let at-start : tie.Start = search in
     λ W r t.
-    regions-end W (s .args .stmts .now) (s .args .falls .now) (s .args .links .now) (s .args .n) (s .args .rows .now) _ r (s .pre .in-rows) (s .pre .clear) (c .before .before .before .spread-entries .ensures W r t)
+    regions-end W (at-start .args .stmts .now) (at-start .args .falls .now) (at-start .args .links .now) (at-start .args .n) (at-start .args .rows .now) _ r (at-start .pre .in-rows) (at-start .pre .clear) (c .before .before .before .spread-entries .ensures W r t)
 
 pub spread-regions-spec : {M : Type 1} → statement M
 spread-regions-spec =

@@ -59,7 +59,8 @@ same-length-2 c = search needs
 
 returns : tie.Need-returns
 returns c =
-    let a = c .before .before .before .before .before .before .before .args in
+    let at-start : tie.Start = search in
+    let a = at-start .args in
     let s = c .before .before .store-list in
     appended (a .list .now) (a .lists .now) (a .succ .now) (s .last .0) (a .node) (a .at) (a .count) (search needs) (s .ensures)
 

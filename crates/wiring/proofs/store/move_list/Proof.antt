@@ -51,8 +51,11 @@ same-length-2 c = search needs
 
 returns : tie.Need-returns
 returns c =
-    let a = c .before .before .before .before .before .before .before .before .before .before .before .before .before .before .before .args in
-    moved (c .before .before .before .before .before .before .before .before .before .before .wide .result) (c .before .before .before .before .before .before .before .before .wide2 .result) (a .from .now) (c .before .before .before .before .before .before .before .before .before .before .wide .ensures) (c .before .before .before .before .before .before .before .before .wide2 .ensures) (c .before .before .before .before .append-list .ensures)
+    let at-wide2 : tie.After-wide2 = search in
+    let at-wide : tie.After-wide = search in
+    let at-start : tie.Start = search in
+    let a = at-start .args in
+    moved (at-wide .wide .result) (at-wide2 .wide2 .result) (a .from .now) (at-wide .wide .ensures) (at-wide2 .wide2 .ensures) (c .before .before .before .before .append-list .ensures)
 
 pub move-list-spec : {M : Type 1} → statement M
 move-list-spec =

@@ -24,23 +24,25 @@ abbrev μ-loop : tie.MeasureT-loop
 
 below : (c : tie.After-wide Inv-loop μ-loop) → c .wide .result < 4096
 below c =
-    let s = c .before .before .before .before .before .before in
+    let at-start : tie.Start Inv-loop μ-loop = search in
     let k = c .before .before .before .loop .k in
-    omega (arith, id-at 4096 (s .args .list .now) k (s .pre .ids) (c .before .before .loop-test .taken))
+    omega (arith, id-at 4096 (at-start .args .list .now) k (at-start .pre .ids) (c .before .before .loop-test .taken))
 
 unmarked : (c : tie.After-if12 Inv-loop μ-loop) → lts.Then1·own (wide-reads.Asked, wide-reads.Learnt) reads.Pre reads.Post Inv-loop μ-loop c
     → getD (c .before .before .before .before .loop .marks) (c .before .wide .result) false ≡ false
 unmarked c w = not-true _ (w .taken)
 
 marks-size : (c : tie.After-if12 Inv-loop μ-loop) → length (c .before .before .before .before .loop .marks) ≡ 4096
-marks-size c = c .before .before .before .before .loop .inv .1 .marks-size ∙ c .before .before .before .before .before .before .before .pre .marks-size
+marks-size c =
+    let at-start : tie.Start Inv-loop μ-loop = search in
+    c .before .before .before .before .loop .inv .1 .marks-size ∙ at-start .pre .marks-size
 
 room : (c : tie.After-if12 Inv-loop μ-loop) → lts.Then1·own (wide-reads.Asked, wide-reads.Learnt) reads.Pre reads.Post Inv-loop μ-loop c
     → c .before .before .before .before .loop .n < 4096
 room c w =
-    let s = c .before .before .before .before .before .before .before in
+    let at-start : tie.Start Inv-loop μ-loop = search in
     let h = c .before .before .before .before .loop in
-    room-for 4096 (s .args .count) (s .args .marks .now) (h .marks) (h .n) (c .before .wide .result) (s .pre .room) (h .inv .1 .count)
+    room-for 4096 (at-start .args .count) (at-start .args .marks .now) (h .marks) (h .n) (c .before .wide .result) (at-start .pre .room) (h .inv .1 .count)
     (omega (arith, below (c .before), marks-size c)) (unmarked c w)
 
 loop-holds : tie.Need-loop-holds Inv-loop μ-loop
@@ -65,7 +67,10 @@ mul-work : tie.Need-mul-work Inv-loop μ-loop
 mul-work c = search needs
 
 slice-write-work : tie.Need-slice-write-work Inv-loop μ-loop
-slice-write-work c = omega (arith, room (c .before) (c .if1), c .before .before .before .before .before .loop .inv .1 .work-size, c .before .before .before .before .before .before .before .before .pre .work-size)
+slice-write-work c =
+    let at-loop : tie.At-loop Inv-loop μ-loop = search in
+    let at-start : tie.Start Inv-loop μ-loop = search in
+    omega (arith, room (c .before) (c .if1), at-loop .loop .inv .1 .work-size, at-start .pre .work-size)
 
 add-n : tie.Need-add-n Inv-loop μ-loop
 add-n c = omega (arith, room (c .before) (c .if1))
@@ -78,22 +83,23 @@ loop-less c = search needs
 
 loop-again : tie.Need-loop-again Inv-loop μ-loop
 loop-again c =
-    let s = c .before .before .before .before .before .before .before .before in
-    let h = c .before .before .before .before .before .loop in
+    let at-loop : tie.At-loop Inv-loop μ-loop = search in
+    let at-start : tie.Start Inv-loop μ-loop = search in
+    let h = at-loop .loop in
     let e = c .before .before .wide .ensures in
     let lt = c .before .before .before .before .loop-test .taken in
     ⊎-elim
     (λ w. (
       omega arith,
       rw (w .1, w .2, w .3)
-          (new-at (s .args .list .now) (h .k) lt (s .args .marks .now) (s .args .work .now) (s .args .count) (h .marks) (h .work) (h .n) _ (h .inv .1) e
-          (omega (arith, below (c .before .before), marks-size (c .before))) (omega (arith, room (c .before) (w .0), h .inv .1 .work-size, s .pre .work-size))
+          (new-at (at-start .args .list .now) (h .k) lt (at-start .args .marks .now) (at-start .args .work .now) (at-start .args .count) (h .marks) (h .work) (h .n) _ (h .inv .1) e
+          (omega (arith, below (c .before .before), marks-size (c .before))) (omega (arith, room (c .before) (w .0), h .inv .1 .work-size, at-start .pre .work-size))
           (unmarked (c .before) (w .0))),
     ))
     (λ w. (
       omega arith,
       rw (w .1, w .2, w .3)
-          (old-at (s .args .list .now) (h .k) lt (s .args .marks .now) (s .args .work .now) (s .args .count) (h .marks) (h .work) (h .n) _ (h .inv .1) e
+          (old-at (at-start .args .list .now) (h .k) lt (at-start .args .marks .now) (at-start .args .work .now) (at-start .args .count) (h .marks) (h .work) (h .n) _ (h .inv .1) e
           (not-false _ (w .0 .left))),
     ))
     (c .if1 .came)

@@ -18,15 +18,24 @@ abbrev μ-loop : tie.MeasureT-loop
 -- the next node is one of the n
 next : (c : tie.After-wide Inv-loop μ-loop) → c .wide .result < c .before .before .before .before .before .before .before .before .before .args .n
 next c =
-    let s = c .before .before .before .before .before .before .before .before .before in
+    let at-start : tie.Start Inv-loop μ-loop = search in
     let h = c .before .before .before .loop in
-    rw (c .wide .ensures) (walk-below (s .args .n) (s .pre .2 .ids) (s .pre .1) (h .inv) (h .done) (c .before .before .loop-test .taken))
+    rw (c .wide .ensures) (walk-below (at-start .args .n) (at-start .pre .2 .ids) (at-start .pre .1) (h .inv) (h .done) (c .before .before .loop-test .taken))
+
+-- Ways back from a place to an earlier one. `search` finds each by its type.
+abbrev start-of-wide3 : tie.After-wide3 Inv-loop μ-loop → tie.Start Inv-loop μ-loop
+start-of-wide3 c = search
+
+abbrev start-of-loop : tie.At-loop Inv-loop μ-loop → tie.Start Inv-loop μ-loop
+start-of-loop c = search
+
+ruleset ways = (start-of-loop)
 
 -- its list stands in the table
-part : (c : tie.After-wide3 Inv-loop μ-loop) → c .before .before .wide2 .result + c .wide3 .result ≤ length (c .before .before .before .before .before .before .before .before .before .before .before .before .before .args .edges .now)
+part : (c : tie.After-wide3 Inv-loop μ-loop) → c .before .before .wide2 .result + c .wide3 .result ≤ length (start-of-wide3 c .args .edges .now)
 part c =
     let v = c .before .before .before .before .wide .result in
-    omega (arith, c .before .before .before .before .before .before .before .before .before .before .before .before .before .pre .2 .within v (next (c .before .before .before .before)), c .wide3 .ensures, c .before .before .wide2 .ensures)
+    omega (arith, start-of-wide3 c .pre .2 .within v (next (c .before .before .before .before)), c .wide3 .ensures, c .before .before .wide2 .ensures)
 
 no-marks-requires : tie.Need-no-marks-requires Inv-loop μ-loop
 no-marks-requires c κs = search needs
@@ -42,9 +51,9 @@ slice-write-work c = search needs
 
 loop-holds : tie.Need-loop-holds Inv-loop μ-loop
 loop-holds c =
-    let s = c .before .before .before .before .before in
-    let lt : s .args .from < 4096 = omega (arith, s .pre .0, s .pre .1) in
-    walk-start (storedList (s .args .lists .now) (s .args .edges .now)) 4096 (s .args .from) lt (s .args .work .now) (s .pre .3)
+    let at-start : tie.Start Inv-loop μ-loop = search in
+    let lt : at-start .args .from < 4096 = omega (arith, at-start .pre .0, at-start .pre .1) in
+    walk-start (storedList (at-start .args .lists .now) (at-start .args .edges .now)) 4096 (at-start .args .from) lt (at-start .args .work .now) (at-start .pre .3)
     (c .before .no-marks .result) (c .narrow .result) (c .before .no-marks .ensures) (c .narrow .ensures)
 
 mul-wide : tie.Need-mul-wide Inv-loop μ-loop
@@ -60,28 +69,30 @@ add-done : tie.Need-add-done Inv-loop μ-loop
 add-done c = omega (arith, walk-few (c .before .before .before .loop .inv))
 
 mul-wide-2 : tie.Need-mul-wide-2 Inv-loop μ-loop
-mul-wide-2 c = omega (arith, next c, c .before .before .before .before .before .before .before .before .before .pre .0)
+mul-wide-2 c = let at-start : tie.Start Inv-loop μ-loop = search in omega (arith, next c, at-start .pre .0)
 
 mul-wide-3 : tie.Need-mul-wide-3 Inv-loop μ-loop
-mul-wide-3 c = omega (arith, next c, c .before .before .before .before .before .before .before .before .before .pre .0)
+mul-wide-3 c = let at-start : tie.Start Inv-loop μ-loop = search in omega (arith, next c, at-start .pre .0)
 
 shared-slice-read-wide : tie.Need-shared-slice-read-wide Inv-loop μ-loop
-shared-slice-read-wide c = omega (arith, next (c .before), c .before .before .before .before .before .before .before .before .before .before .pre .2 .rows)
+shared-slice-read-wide c = let at-start : tie.Start Inv-loop μ-loop = search in omega (arith, next (c .before), at-start .pre .2 .rows)
 
 wide-requires-2 : tie.Need-wide-requires-2 Inv-loop μ-loop
 wide-requires-2 c κs = search needs
 
 mul-wide-4 : tie.Need-mul-wide-4 Inv-loop μ-loop
-mul-wide-4 c = omega (arith, next (c .before .before), c .before .before .before .before .before .before .before .before .before .before .before .pre .0)
+mul-wide-4 c = let at-start : tie.Start Inv-loop μ-loop = search in omega (arith, next (c .before .before), at-start .pre .0)
 
 add-wide : tie.Need-add-wide Inv-loop μ-loop
-add-wide c = omega (arith, next (c .before .before), c .before .before .before .before .before .before .before .before .before .before .before .pre .0)
+add-wide c = let at-start : tie.Start Inv-loop μ-loop = search in omega (arith, next (c .before .before), at-start .pre .0)
 
 mul-wide-5 : tie.Need-mul-wide-5 Inv-loop μ-loop
-mul-wide-5 c = omega (arith, next (c .before .before), c .before .before .before .before .before .before .before .before .before .before .before .pre .0)
+mul-wide-5 c = let at-start : tie.Start Inv-loop μ-loop = search in omega (arith, next (c .before .before), at-start .pre .0)
 
 shared-slice-read-wide-2 : tie.Need-shared-slice-read-wide-2 Inv-loop μ-loop
-shared-slice-read-wide-2 c = omega (arith, next (c .before .before .before), c .before .before .before .before .before .before .before .before .before .before .before .before .pre .2 .rows)
+shared-slice-read-wide-2 c =
+    let at-start : tie.Start Inv-loop μ-loop = search in
+    omega (arith, next (c .before .before .before), at-start .pre .2 .rows)
 
 wide-requires-3 : tie.Need-wide-requires-3 Inv-loop μ-loop
 wide-requires-3 c κs = search needs
@@ -103,34 +114,42 @@ part-mark-all-end c = omega (arith, part c)
 
 mark-all-requires : tie.Need-mark-all-requires Inv-loop μ-loop
 mark-all-requires c κs =
-    let s = c .before .before .before .before .before .before .before .before .before .before .before .before .before .before .before .before in
-    let v = c .before .before .before .before .before .before .before .wide .result in
-    let start = c .before .before .before .before .before .wide2 .result in
-    let e = stored-part (s .args .lists .now) (s .args .edges .now) v start _ (c .before .before .before .before .before .wide2 .ensures) (ap (λ (x : ℕ). start + x) (c .before .before .before .wide3 .ensures)) in
-    walk-markable (c .before .before .before .before .before .before .before .before .before .before .loop .inv) (stored-ids 4096 v _ (s .pre .2) (s .pre .0) (next (c .before .before .before .before .before .before .before)) e)
+    let at-wide2 : tie.After-wide2 Inv-loop μ-loop = search in
+    let at-wide : tie.After-wide Inv-loop μ-loop = search in
+    let at-loop : tie.At-loop Inv-loop μ-loop = search in
+    let at-start : tie.Start Inv-loop μ-loop = search in
+    let v = at-wide .wide .result in
+    let start = at-wide2 .wide2 .result in
+    let e = stored-part (at-start .args .lists .now) (at-start .args .edges .now) v start _ (at-wide2 .wide2 .ensures) (ap (λ (x : ℕ). start + x) (c .before .before .before .wide3 .ensures)) in
+    walk-markable (at-loop .loop .inv) (stored-ids 4096 v _ (at-start .pre .2) (at-start .pre .0) (next at-wide) e)
 
 loop-less : tie.Need-loop-less Inv-loop μ-loop
-loop-less c = omega (arith, walk-few (c .before .before .before .before .before .before .before .before .before .before .before .before .before .loop .inv))
+loop-less c = let at-loop : tie.At-loop Inv-loop μ-loop = search in omega (arith, walk-few (at-loop .loop .inv))
 
 loop-again : tie.Need-loop-again Inv-loop μ-loop
 loop-again c =
-    let s = c .before .before .before .before .before .before .before .before .before .before .before .before .before .before .before .before .before .before .before in
-    let h = c .before .before .before .before .before .before .before .before .before .before .before .before .before .loop in
-    let v = c .before .before .before .before .before .before .before .before .before .before .wide in
-    let start = c .before .before .before .before .before .before .before .before .wide2 .result in
-    walk-turn (storedList (s .args .lists .now) (s .args .edges .now)) 4096 (s .args .from) (h .marks) (c .before .before .mark-all .last .1 .0) (h .work)
-    _ (h .done) (h .count) (c .before .before .mark-all .result) (v .result) _ (h .inv) (c .before .before .before .before .before .before .before .before .before .before .before .before .loop-test .taken) (v .ensures)
-    (stored-part (s .args .lists .now) (s .args .edges .now) (v .result) start _ (c .before .before .before .before .before .before .before .before .wide2 .ensures) (ap (λ (x : ℕ). start + x) (c .before .before .before .before .before .before .wide3 .ensures)))
+    let at-wide3 : tie.After-wide3 Inv-loop μ-loop = search in
+    let at-wide2 : tie.After-wide2 Inv-loop μ-loop = search in
+    let at-wide : tie.After-wide Inv-loop μ-loop = search in
+    let in-loop : tie.In-loop Inv-loop μ-loop = search in
+    let at-loop : tie.At-loop Inv-loop μ-loop = search in
+    let at-start : tie.Start Inv-loop μ-loop = search ways in
+    let h = at-loop .loop in
+    let v = at-wide .wide in
+    let start = at-wide2 .wide2 .result in
+    walk-turn (storedList (at-start .args .lists .now) (at-start .args .edges .now)) 4096 (at-start .args .from) (h .marks) (c .before .before .mark-all .last .1 .0) (h .work)
+    _ (h .done) (h .count) (c .before .before .mark-all .result) (v .result) _ (h .inv) (in-loop .loop-test .taken) (v .ensures)
+    (stored-part (at-start .args .lists .now) (at-start .args .edges .now) (v .result) start _ (at-wide2 .wide2 .ensures) (ap (λ (x : ℕ). start + x) (at-wide3 .wide3 .ensures)))
     (c .before .before .mark-all .ensures)
 
 same-length : tie.Need-same-length Inv-loop μ-loop
-same-length c = c .before .loop .inv .work-size ∙ sym (c .before .before .before .before .before .before .before .pre .3)
+same-length c = let at-start : tie.Start Inv-loop μ-loop = search in c .before .loop .inv .work-size ∙ sym (at-start .pre .3)
 
 returns : tie.Need-returns Inv-loop μ-loop
 returns c =
-    let s = c .before .before .before .before .before .before .before in
+    let at-start : tie.Start Inv-loop μ-loop = search in
     let h = c .before .loop in
-    region-listed (s .pre .2) (s .pre .1) (omega (arith, walk-few (h .inv), h .inv .work-size)) (walk-end _ _ _ _ _ _ _ (c .loop-test .left) (h .inv))
+    region-listed (at-start .pre .2) (at-start .pre .1) (omega (arith, walk-few (h .inv), h .inv .work-size)) (walk-end _ _ _ _ _ _ _ (c .loop-test .left) (h .inv))
 
 pub region-spec : {M : Type 1} → statement M
 region-spec =

@@ -5,10 +5,10 @@ use Rattle.wiring.proofs.wire.find_returns.Statement.{statement}
 use Rattle.wiring.proofs.wire.find_returns.Tie as tie
 
 returns : tie.Need-returns
-returns c = returns-through (c .before .before .before .before .before .before .before .before .before .before .before .args .handlers) (c .if1 .taken)
+returns c = let at-start : tie.Start = search in returns-through (at-start .args .handlers) (c .if1 .taken)
 
 spread-return-edges-requires : tie.Need-spread-return-edges-requires
-spread-return-edges-requires c κs = spread-ready (c .before .before .before .before .before .before .before .before .before .before .before .before .before .before .pre)
+spread-return-edges-requires c κs = let at-start : tie.Start = search in spread-ready (at-start .pre)
 
 same-length : tie.Need-same-length
 same-length c = c .before .before .before .args2 .given
@@ -17,16 +17,21 @@ same-length-2 : tie.Need-same-length-2
 same-length-2 c = c .before .buffer .given
 
 returns-2 : tie.Need-returns-2
-returns-2 c = spread-found (c .before .before .before .before .before .before .before .before .before .before .before .before .before .before .before .before .before .before .before .args .handlers) (λ q. omega (arith, c .before .before .before .before .before .before .before .if2 .taken)) (c .before .before .before .before .spread-return-edges .ensures)
+returns-2 c =
+    let at-then2 : tie.Then2 = search in
+    let at-start : tie.Start = search in
+    spread-found (at-start .args .handlers) (λ q. omega (arith, at-then2 .if2 .taken)) (c .before .before .before .before .spread-return-edges .ensures)
 
 region-return-edges-requires : tie.Need-region-return-edges-requires
-region-return-edges-requires c κs = regions-ready (omega (arith, c .before .if2 .left)) (c .before .before .before .before .before .before .before .before .before .before .before .before .before .pre)
+region-return-edges-requires c κs = let at-start : tie.Start = search in regions-ready (omega (arith, c .before .if2 .left)) (at-start .pre)
 
 same-length-3 : tie.Need-same-length-3
 same-length-3 c = c .before .args3 .given
 
 returns-3 : tie.Need-returns-3
-returns-3 c = regions-found (c .before .before .before .before .before .before .before .before .before .before .before .before .before .before .before .before .args .handlers) (omega (arith, c .before .before .before .before .if2 .left)) (c .before .before .region-return-edges .ensures)
+returns-3 c =
+    let at-start : tie.Start = search in
+    regions-found (at-start .args .handlers) (omega (arith, c .before .before .before .before .if2 .left)) (c .before .before .region-return-edges .ensures)
 
 pub find-returns-spec : {M : Type 1} → statement M
 find-returns-spec =

@@ -6,28 +6,39 @@ use Rattle.wiring.proofs.write_graph.write_edges.Tie as tie
 
 write-lists-requires : tie.Need-write-lists-requires
 write-lists-requires c κs =
-    let q = c .before .before .before .before .before .before .before .before .before .before .before .before .before .before .before .before .pre in
+    let at-start : tie.Start = search in
+    let q = at-start .pre in
     lists-ready (q .edges) (q .buffer-size)
+
+-- Ways back from a place to an earlier one. `search` finds each by its type.
+abbrev start-of-write-lists : tie.After-write-lists → tie.Start
+start-of-write-lists c = search
+
+ruleset ways = (start-of-write-lists)
 
 write-predecessors-requires : tie.Need-write-predecessors-requires
 write-predecessors-requires c κs =
-    let q = c .before .before .before .before .before .before .before .before .before .before .before .before .before .before .before .before .before .before .before .before .before .before .before .before .before .before .pre in
-    preds-ready (q .edges) (c .before .before .before .before .before .before .before .before .before .write-lists .ensures)
+    let at-write-lists : tie.After-write-lists = search in
+    let at-start : tie.Start = search ways in
+    let q = at-start .pre in
+    preds-ready (q .edges) (at-write-lists .write-lists .ensures)
 
 same-length : tie.Need-same-length
-same-length c = c .before .before .before .lists2 .given ∙ c .before .before .before .before .before .before .before .before .before .before .before .before .before .lists .given
+same-length c = let at-lists : tie.After-lists = search in c .before .before .before .lists2 .given ∙ at-lists .lists .given
 
 same-length-2 : tie.Need-same-length-2
-same-length-2 c = c .before .before .before .before .before .before .before .before .before .before .before .succ .given
+same-length-2 c = search
 
 same-length-3 : tie.Need-same-length-3
 same-length-3 c = c .before .pred .given
 
 same-length-4 : tie.Need-same-length-4
-same-length-4 c = c .before .before .before .before .before .before .before .before .before .buffer .given
+same-length-4 c = search
 
 returns : tie.Need-returns
-returns c = λ L ks q. edges-written q (c .before .before .before .before .before .before .before .before .before .before .before .before .before .before .write-lists .ensures) (c .before .before .before .before .write-predecessors .ensures)
+returns c =
+    let at-write-lists : tie.After-write-lists = search in
+    λ L ks q. edges-written q (at-write-lists .write-lists .ensures) (c .before .before .before .before .write-predecessors .ensures)
 
 pub write-edges-spec : {M : Type 1} → statement M
 write-edges-spec =

@@ -5,32 +5,44 @@ use Rattle.wiring.proofs.write_graph.write_graph.Tie as tie
 
 write-edges-requires : tie.Need-write-edges-requires
 write-edges-requires c κs =
-    let q = c .before .before .before .before .before .before .before .before .before .before .before .before .before .before .before .before .before .before .pre in
+    let at-start : tie.Start = search in
+    let q = at-start .pre in
     record { listing = q .listing; keys₀ = q .keys₀; edges = q .held .edges; buffer-size = q .buffer-size }
 
 clear-sets-requires : tie.Need-clear-sets-requires
-clear-sets-requires c κs = clear-ready (c .before .before .before .before .before .before .before .before .before .before .before .before .before .before .before .before .before .before .before .before .before .before .before .before .before .before .before .before .pre .held)
+clear-sets-requires c κs = let at-start : tie.Start = search in clear-ready (at-start .pre .held)
+
+-- Ways back from a place to an earlier one. `search` finds each by its type.
+abbrev start-of-write-edges : tie.After-write-edges → tie.Start
+start-of-write-edges c = search
+
+ruleset ways = (start-of-write-edges)
 
 put-edge-counts-requires : tie.Need-put-edge-counts-requires
-put-edge-counts-requires c κs = counts-ready (c .before .before .before .before .before .before .before .before .before .before .before .before .before .before .before .before .before .before .before .before .before .before .before .before .before .before .before .before .before .before .before .before .pre .held) (c .before .before .before .before .before .before .before .before .before .before .before .before .before .write-edges .ensures)
+put-edge-counts-requires c κs =
+    let at-write-edges : tie.After-write-edges = search in
+    let at-start : tie.Start = search ways in
+    counts-ready (at-start .pre .held) (at-write-edges .write-edges .ensures)
 
 same-length : tie.Need-same-length
 same-length c = c .before .before .before .args2 .given
 
 same-length-2 : tie.Need-same-length-2
-same-length-2 c = c .before .before .before .before .before .before .before .before .before .before .before .before .before .lists .given
+same-length-2 c = search
 
 same-length-3 : tie.Need-same-length-3
-same-length-3 c = c .before .before .before .before .before .before .before .before .before .before .before .succ .given
+same-length-3 c = search
 
 same-length-4 : tie.Need-same-length-4
-same-length-4 c = c .before .before .before .before .before .before .before .before .before .pred .given
+same-length-4 c = search
 
 same-length-5 : tie.Need-same-length-5
-same-length-5 c = c .before .before .before .before .before .before .before .buffer .given
+same-length-5 c = search
 
 returns : tie.Need-returns
-returns c = λ L ks q. graph-written q (c .before .before .before .before .before .before .before .before .before .before .before .before .before .before .write-edges .ensures) (c .before .before .before .before .clear-sets .ensures) (c .put-edge-counts .ensures)
+returns c =
+    let at-write-edges : tie.After-write-edges = search in
+    λ L ks q. graph-written q (at-write-edges .write-edges .ensures) (c .before .before .before .before .clear-sets .ensures) (c .put-edge-counts .ensures)
 
 pub write-graph-spec : {M : Type 1} → statement M
 write-graph-spec =

@@ -24,13 +24,15 @@ mul-w c = search needs
 
 element-copy-out-w : tie.Need-element-copy-out-w
 element-copy-out-w c =
-    let ws = c .before .before .before .before .before .args .t1 .words in
+    let at-start : tie.Start = search in
+    let ws = at-start .args .t1 .words in
     let h = c .before .before .highest in
     pop-fits ws (h .result) (highest-mark ws 64 (h .result) (c .before .if1 .left) (h .ensures)) .0
 
 sub-self : tie.Need-sub-self
 sub-self c =
-    let ws = c .before .before .before .before .before .before .args .t1 .words in
+    let at-start : tie.Start = search in
+    let ws = at-start .args .t1 .words in
     let h = c .before .before .before .highest in
     omega (arith, pop-fits ws (h .result) (highest-mark ws 64 (h .result) (c .before .before .if1 .left) (h .ensures)) .1, c .before .bit .ensures)
 
@@ -39,13 +41,15 @@ mul-self c = search needs
 
 element-write-self : tie.Need-element-write-self
 element-write-self c =
-    let ws = c .before .before .before .before .before .before .args .t1 .words in
+    let at-start : tie.Start = search in
+    let ws = at-start .args .t1 .words in
     let h = c .before .before .before .highest in
     pop-fits ws (h .result) (highest-mark ws 64 (h .result) (c .before .before .if1 .left) (h .ensures)) .0
 
 returns-2 : tie.Need-returns-2
 returns-2 c =
-    let ws = c .before .before .before .before .before .before .args .t1 .words in
+    let at-start : tie.Start = search in
+    let ws = at-start .args .t1 .words in
     let h = c .before .before .before .highest in
     pop-at ws (h .result) (c .before .bit .result) (highest-mark ws 64 (h .result) (c .before .before .if1 .left) (h .ensures)) (c .before .bit .ensures)
 
