@@ -16,7 +16,7 @@ use Rattle.listings.specs.WordTable.{words, first, wordIndex}
 use Rattle.listings.specs.Scan.{rest-all}
 use Rattle.listings.specs.WordText.{same-equal}
 use Rattle.graph.specs.Nodes.{NodeStmt, Node, nodes}
-use Rattle.graph.specs.NodeRecords.{stmtWord, stmtNumber}
+use Rattle.graph.specs.NodeWords.{stmtWord, stmtNumber}
 use Rattle.graph.specs.Print.{printedRefusal}
 use Rattle.graph.specs.Build.{Built, graph, build}
 use Rattle.wiring.specs.GraphTables.{Sizes, capacity, Answered}

@@ -12,7 +12,7 @@ use Rattle.listings.specs.Bytes.{pick}
 use Rattle.listings.specs.Records.{padded}
 use Rattle.reader.specs.Tables.{padded-nil}
 use Rattle.graph.specs.Lists.{has, keep}
-use Rattle.graph.specs.Adding.{decode}
+use Rattle.graph_laws.specs.Adding.{decode}
 use Rattle.tables.specs.Stores.{clearedBehind}
 use Rattle.graph.specs.Questions.{Reply, answer, refused, kept, ifRoom}
 use Rattle.frame_slices.specs.Told.{FrameTold, framedOf, sliceAfter}

@@ -5,7 +5,7 @@ ghost use mathlib.Core.List.{[], _++_};
 ghost use Prim.Native.Nat.{_≤_};
 ghost use lib.ListN.{length, drop};
 ghost use Rattle.tables.specs.Stores.{clearedBehind};
-ghost use Rattle.graph.specs.Adding.{decode};
+ghost use Rattle.graph_laws.specs.Adding.{decode};
 ghost use Rattle.graph.specs.Questions.{kept, ifRoom};
 ghost use Rattle.frame_slices.specs.Told.{FrameTold};
 

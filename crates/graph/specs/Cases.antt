@@ -35,6 +35,8 @@ cases =
     ∷ claims (one "(doif)\n(plain)\n(else)\n(plain)\n(done)\n(stop)\n") (lists-are ((1 ∷ 3 ∷ []) ∷ (2 ∷ []) ∷ (5 ∷ []) ∷ (4 ∷ []) ∷ (5 ∷ []) ∷ [] ∷ []) ∷ [])
     -- C8
     ∷ claims (one "(for I static)\n(for J static)\n(for I static)\n(next plain J)\n(stop)\n") (list-is 3 (4 ∷ []) ∷ [])
+    -- "the second FOR I dropped both frames": one frame is left for two NEXTs, and it is the second FOR I's
+    ∷ claims (one "(for I static)\n(for J static)\n(for I static)\n(next plain J)\n(next plain *)\n(next plain *)\n(stop)\n") (list-is 3 (4 ∷ []) ∷ list-is 4 (3 ∷ 5 ∷ []) ∷ list-is 5 (6 ∷ []) ∷ [])
     -- C9
     ∷ claims (one "(for I dispatched)\n(next plain I)\n(plain)\n(next orphan I)\n(stop)\n") (list-is 3 (4 ∷ 1 ∷ []) ∷ [])
     -- C10

@@ -1,7 +1,7 @@
 -- Lists of node ids: an edge added once, selection, ascending order. Assumes nothing.
-use Prim.Native.Nat.{ℕ, zero, suc}
+use Prim.Native.Nat.{ℕ, zero, suc, _<_}
 use mathlib.Core.Bool.{Bool, true, false, _||_}
-use mathlib.Core.List.{List, [], _∷_, _++_}
+use mathlib.Core.List.{List·Memᴰ, List, [], _∷_, _++_}
 use mathlib.Core.Option.{Option, none, some}
 use lib.Dec.{eqb, ltb}
 use Rattle.listings.specs.Bytes.{pick}
@@ -53,3 +53,8 @@ unfoldable pub ascending : List ℕ → List ℕ
 unfolding insert
 ascending [] = []
 ascending (a ∷ l) = insert a (ascending l)
+
+-- each element is below all after it
+pub data Ascending : List ℕ → Type 0 where
+  asc[] : Ascending []
+  asc∷ : {a : ℕ} {l : List ℕ} → ((b : ℕ) → List·Memᴰ b l → a < b) → Ascending l → Ascending (a ∷ l)

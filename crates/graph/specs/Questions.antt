@@ -10,7 +10,7 @@ use Rattle.listings.specs.Listing.{Name, Simple, Listing}
 use Rattle.listings.specs.Rows.{isName}
 use Rattle.graph.specs.Lists.{has, keep}
 use Rattle.graph.specs.Nodes.{NodeStmt, simple, cond, Node, nodes, entries, entryOf}
-use Rattle.graph.specs.NodeRecords.{stmtWord}
+use Rattle.graph.specs.NodeWords.{stmtWord}
 use Rattle.graph.specs.Targets.{onFor, onNext, onSimple}
 use Rattle.graph.specs.Graph.{Role, call, returns, forgets, steps, noNode, wire, role, continuation, successors, predecessors}
 

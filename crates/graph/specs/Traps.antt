@@ -18,6 +18,8 @@ cases =
     ∷ claims (one "(doif)\n(else)\n(plain)\n(done)\n(stop)\n") (lists-are ((1 ∷ 2 ∷ []) ∷ (4 ∷ []) ∷ (3 ∷ []) ∷ (4 ∷ []) ∷ [] ∷ []) ∷ [])
     -- "treating `(next plain)` as `(next plain *)`"
     ∷ claims (one "(for I static)\n(next plain)\n(stop)\n") (lists-are ((1 ∷ []) ∷ (2 ∷ []) ∷ [] ∷ []) ∷ [])
+    -- a NEXT pops one frame a slot
+    ∷ claims (one "(for I static)\n(for J static)\n(next plain *)\n(next plain *)\n(stop)\n") (lists-are ((1 ∷ []) ∷ (2 ∷ []) ∷ (2 ∷ 3 ∷ []) ∷ (1 ∷ 4 ∷ []) ∷ [] ∷ []) ∷ [])
     -- EXIT goes past its closer; a frame is popped once
     ∷ claims (one "(repeat)\n(loop)\n(exit)\n(until)\n(endloop)\n(until)\n(stop)\n") (lists-are ((1 ∷ []) ∷ (2 ∷ []) ∷ (4 ∷ []) ∷ (2 ∷ 4 ∷ []) ∷ (1 ∷ []) ∷ [] ∷ [] ∷ []) ∷ [])
     -- a skipping path goes through RUN

@@ -1,1 +1,1 @@
-// The definition of the flow graph and its laws stand in specs/; there is no code here.
+// The definition of the flow graph and its cases stand in specs/; there is no code here.

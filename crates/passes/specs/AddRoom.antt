@@ -7,10 +7,10 @@ use lib.ListN.{length, getD, take, drop}
 use lib.Seq.{split-at}
 use Rattle.listings.specs.Every.{all[], all∷}
 use Rattle.graph.specs.Lists.{each}
-use Rattle.graph.specs.Adding.{decode}
-use Rattle.graph.specs.EdgeBounds.{Ids}
-use Rattle.graph.specs.Distinct.{dist[]}
-use Rattle.graph.specs.ForLaws.{each-append}
+use Rattle.graph_laws.specs.Adding.{decode}
+use Rattle.graph_laws.specs.EdgeBounds.{Ids}
+use Rattle.graph_laws.specs.Distinct.{dist[]}
+use Rattle.graph_laws.specs.ForLaws.{each-append}
 use Rattle.passes.specs.Growing.{Grown, Grows, RoomFor, grown-room, grows-none, all-left, all-right}
 
 -- all of l may be added behind the first n entries: for some number of nodes all are below it, and the part has room for so many

@@ -8,7 +8,7 @@ use borrow.Author.Tests.{eq-eqb}
 use lib.ListN.{take}
 use Rattle.listings.specs.Every.{All, all[], all∷}
 use Rattle.graph.specs.Lists.{has, add, addAll}
-use Rattle.graph.specs.ListLaws.{add-old, add-new, or-true, has-end}
+use Rattle.graph_laws.specs.ListLaws.{add-old, add-new, or-true, has-end}
 use Rattle.passes.specs.Growing.{Grows}
 
 -- all of k are in l

@@ -5,7 +5,7 @@ use mathlib.Core.List.{List, [], List·Memᴰ}
 use mathlib.Core.Logic.{_⊎_, _↔_}
 use Prim.Native.Nat.{ℕ, _*_, _/_, _≤_, _<_}
 use lib.ListN.{length, getD}
-use Rattle.graph.specs.EdgeBounds.{Ids}
+use Rattle.graph_laws.specs.EdgeBounds.{Ids}
 use Rattle.graph.specs.Reach.{Reach}
 use Rattle.passes.specs.Sets.{In}
 use Rattle.passes.specs.ReturnSets.{returnWord, setOf}

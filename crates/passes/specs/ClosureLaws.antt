@@ -10,8 +10,8 @@ use lib.ListN.{length, getD, take, drop, replicate, length-replicate}
 use lib.Seq.{take-suc, length-take-le, getD-take, ext-getD}
 use Rattle.listings.specs.WordTable.{zeros}
 use Rattle.passes.specs.Compare.{eq-or}
-use Rattle.graph.specs.EdgeBounds.{Ids}
-use Rattle.graph.specs.Members.{all-mem}
+use Rattle.graph_laws.specs.EdgeBounds.{Ids}
+use Rattle.graph_laws.specs.Members.{all-mem}
 use Rattle.graph.specs.Reach.{Reach, here, on, Reach·join}
 use Rattle.passes.specs.Sets.{bit, In, inserted, joined, membersOf}
 use Rattle.passes.specs.SetLaws.{none-in, in-inserted, inserted-length, joined-at, joined-length, in-joined, members-in}

@@ -13,8 +13,8 @@ use Rattle.listings.specs.Listing.{BranchForm, to, stmts, absent, Stmts, ∅, _
 use Rattle.listings.specs.ListingText.{StmtsOk, LinesOk}
 use Rattle.listings.specs.Records.{branchNumber, branchLine, stmtRecs, lineRecs}
 use Rattle.listings.specs.ReadingRecords.{lines-length}
-use Rattle.graph.specs.Adding.{nodeNumber}
-use Rattle.graph.specs.NodeLaws.{length-nodes}
+use Rattle.graph_laws.specs.Adding.{nodeNumber}
+use Rattle.graph_laws.specs.NodeLaws.{length-nodes}
 use Rattle.graph.specs.Nodes.{branchTarget, allocate, lineEntry, nodesBefore, nodes, Entries, entryOf, entriesBefore, entries}
 use Rattle.passes.specs.Held.{LinesHeld, StmtsHeld}
 use Rattle.passes.specs.LineEntries.{entryNumbers, entryRows, numbers-append, numbers-length, entries-length}

@@ -10,8 +10,8 @@ use lib.Dec.{eqb}
 use lib.ListN.{length}
 use Rattle.listings.specs.Every.{all[], all∷}
 use Rattle.graph.specs.Lists.{has}
-use Rattle.graph.specs.Distinct.{Distinct, dist[], dist∷}
-use Rattle.graph.specs.EdgeBounds.{Ids}
+use Rattle.graph_laws.specs.Distinct.{Distinct, dist[], dist∷}
+use Rattle.graph_laws.specs.EdgeBounds.{Ids}
 use Rattle.passes.specs.EdgeTable.{startOf, start-zero, start-next, listsTo, lists-at}
 
 abbrev pub one : Bool → ℕ

@@ -15,9 +15,9 @@ use Rattle.listings.specs.Listing.{Name, Tier, static, framed, dispatched}
 use Rattle.listings.specs.ListingText.{NameOk, SimpleOk}
 use Rattle.listings.specs.Records.{nameKey, argsOf, detailOf, tierNumber}
 use Rattle.graph.specs.Lists.{each, list}
-use Rattle.graph.specs.Adding.{nodeNumber}
+use Rattle.graph_laws.specs.Adding.{nodeNumber}
 use Rattle.graph.specs.Nodes.{NodeStmt, Node}
-use Rattle.graph.specs.NodeRecords.{stmtNumber}
+use Rattle.graph.specs.NodeWords.{stmtNumber}
 use Rattle.graph.specs.Targets.{onFor, onSimple, dispatchTarget, dispatchTargets}
 use Rattle.passes.specs.ListedNodes.{StmtListed, Listed, FallsListed, ForKind, isFor, isNext, isOther, for-kind, for-number, next-number}
 use Rattle.passes.specs.Growing.{each-snoc}

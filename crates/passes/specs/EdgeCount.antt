@@ -10,7 +10,7 @@ use Rattle.listings.specs.Bytes.{pick}
 use Rattle.listings.specs.Listing.{Simple, goto, gosub, return, run, runto, ongoto, ongosub, for, next, repeat, loop, until, endloop, exit, exitif, doif, else, done, clr, stop, any, Listing}
 use Rattle.graph.specs.Nodes.{NodeStmt, simple, cond, Node}
 use Rattle.graph.specs.Graph.{Role, call, returns, forgets, steps, noNode, simpleRole, stmtRole, roleOf, role, wire, base, returnEdges, successorsBy, successorsIn, successors}
-use Rattle.graph.specs.GraphLaws.{nodeCount}
+use Rattle.graph_laws.specs.GraphLaws.{nodeCount}
 use Rattle.graph.specs.Build.{lengths, edgeCount}
 use Rattle.passes.specs.EdgeTable.{joinedLists, listsTo}
 use Rattle.passes.specs.Predecessors.{all-lists}

@@ -11,13 +11,13 @@ use lib.Seq.{drop-cons, take-suc-set, getD-append-seam}
 use Rattle.listings.specs.Every.{All, all[], all∷, all-append}
 use Rattle.listings.specs.Listing.{Stmts, ∅, _▸_, branching, Lines, nolines, line, size, total}
 use Rattle.graph.specs.Lists.{has, each}
-use Rattle.graph.specs.ListLaws.{has-found, has-none}
-use Rattle.graph.specs.Adding.{nodeNumber, decode, decode-number}
-use Rattle.graph.specs.Members.{all-map}
-use Rattle.graph.specs.EdgeBounds.{Ids}
+use Rattle.graph_laws.specs.ListLaws.{has-found, has-none}
+use Rattle.graph_laws.specs.Adding.{nodeNumber, decode, decode-number}
+use Rattle.graph_laws.specs.Members.{all-map}
+use Rattle.graph_laws.specs.EdgeBounds.{Ids}
 use Rattle.graph.specs.Nodes.{lineEntry, Entries, entriesBefore, entries}
 use Rattle.graph.specs.Targets.{firstEntry, allEntries}
-use Rattle.graph.specs.ForLaws.{each-append}
+use Rattle.graph_laws.specs.ForLaws.{each-append}
 use Rattle.passes.specs.LineEntries.{entryNumbers, entryRows, numbers-append}
 use Rattle.passes.specs.Growing.{Grows, RoomFor, grows-old, grows-new, all-left}
 use Rattle.passes.specs.NextBodies.{all-get}

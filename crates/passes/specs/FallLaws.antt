@@ -16,7 +16,7 @@ use Rattle.listings.specs.ReadingRecords.{stmts-length}
 use Rattle.listings.specs.Accepted.{first-ok}
 use Rattle.listings.specs.RecordLaws.{rec-width}
 use Rattle.listings.specs.RecordLaws as records
-use Rattle.graph.specs.Adding.{nodeNumber}
+use Rattle.graph_laws.specs.Adding.{nodeNumber}
 use Rattle.graph.specs.Nodes.{NodeStmt, simple, cond, Node, allocate, Entries}
 use Rattle.passes.specs.Falls.{stmtRow, fallRow, fallRows, Head, leaf, fork, headSize, headRow, fallsOf, headFalls, Spans, HeadAt, HeadOk}
 

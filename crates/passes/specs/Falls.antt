@@ -11,7 +11,7 @@ use Rattle.listings.specs.Bytes.{pick}
 use Rattle.listings.specs.Listing.{BranchForm, to, stmts, Stmts, ∅, _▸_, branching, Lines, size}
 use Rattle.listings.specs.ListingText.{StmtsOk}
 use Rattle.listings.specs.Records.{branchNumber, branchLine, padded}
-use Rattle.graph.specs.Adding.{nodeNumber, decode, decode-number}
+use Rattle.graph_laws.specs.Adding.{nodeNumber, decode, decode-number}
 use Rattle.graph.specs.Lists.{list}
 use Rattle.graph.specs.Nodes.{BranchTarget, toLine, toNode, falls, NodeStmt, simple, cond, Node, branchTarget, Entries, entryOf, entries, nodes}
 use Rattle.graph.specs.Targets.{branchEdges}

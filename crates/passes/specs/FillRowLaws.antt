@@ -11,8 +11,8 @@ use lib.ListN.{length, getD, take, drop}
 use Rattle.listings.specs.Bytes.{pick}
 use Rattle.listings.specs.Listing.{Listing}
 use Rattle.passes.specs.Compare.{eq-or}
-use Rattle.graph.specs.EdgeBounds.{Ids}
-use Rattle.graph.specs.Members.{all-map}
+use Rattle.graph_laws.specs.EdgeBounds.{Ids}
+use Rattle.graph_laws.specs.Members.{all-map}
 use Rattle.graph.specs.Graph.{Wired, wire, base, skipSteps}
 use Rattle.passes.specs.Prepared.{Prepared, KeysKept, Keys, Roles}
 use Rattle.tables.specs.Columns.{callWord, wordOf, fallEntry}

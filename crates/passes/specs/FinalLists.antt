@@ -11,7 +11,7 @@ use lib.Seq.{length-take-le, take-at}
 use Rattle.listings.specs.Bytes.{pick}
 use Rattle.listings.specs.Listing.{Listing}
 use Rattle.graph.specs.Graph.{Wired, wire, base, skipSteps, regionReturnEdges, returnTargets, returnEdges, successors, allSuccessors}
-use Rattle.graph.specs.GraphLaws.{nodeCount, lists-ok}
+use Rattle.graph_laws.specs.GraphLaws.{nodeCount, lists-ok}
 use Rattle.passes.specs.Sets.{membersOf, Put}
 use Rattle.passes.specs.ReturnSets.{setOf}
 use Rattle.passes.specs.EdgeTable.{joinedLists, part-within, listsTo, length-lists, lists-at, ListsStored, Appended, stored-none, stored-part}

@@ -5,7 +5,7 @@ use mathlib.Core.List.{List}
 use native.Mathlib.Omega.{arith}
 use lib.ListN.{length}
 use Rattle.listings.specs.Every.{All, all[], all∷}
-use Rattle.graph.specs.Adding.{decode}
+use Rattle.graph_laws.specs.Adding.{decode}
 use Rattle.passes.specs.Growing.{Grown, Grows, RoomFor, grown-room}
 use Rattle.passes.specs.Late.{FitsPart}
 

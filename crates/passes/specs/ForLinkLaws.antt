@@ -14,12 +14,12 @@ use Rattle.listings.specs.Listing.{Name, Mark, Slot, next}
 use Rattle.listings.specs.ListingText.{NameOk, SlotsOk, SimpleOk}
 use Rattle.listings.specs.Records.{nameKey, slotKey, argsOf}
 use Rattle.graph.specs.Lists.{each, list}
-use Rattle.graph.specs.Adding.{nodeNumber, decode, decode-number}
-use Rattle.graph.specs.Members.{all-map}
+use Rattle.graph_laws.specs.Adding.{nodeNumber, decode, decode-number}
+use Rattle.graph_laws.specs.Members.{all-map}
 use Rattle.graph.specs.Nodes.{NodeStmt, simple, Node}
-use Rattle.graph.specs.NodeRecords.{stmtNumber}
+use Rattle.graph.specs.NodeWords.{stmtNumber}
 use Rattle.graph.specs.Edges.{ForMove, keepFors, pushFor, popFors, onFors, movesOf, nodeMoves}
-use Rattle.graph.specs.PerNode.{Openers, noOpeners, findOpener, openersUnder, openerFound, popOpener, openersPopped, openersLeft, forOpenersAfter, after, pops, Fact, factOf, facts}
+use Rattle.graph_laws.specs.PerNode.{Openers, noOpeners, findOpener, openersUnder, openerFound, popOpener, openersPopped, openersLeft, forOpenersAfter, after, pops, Fact, factOf, facts}
 use Rattle.passes.specs.FrameStacks.{topOf, Holds}
 use Rattle.passes.specs.ListedNodes.{StmtListed, Listed, keysAt, keys-are, ForKind, isFor, isNext, isOther, for-kind, for-number, next-number, key-some, key-same}
 use Rattle.passes.specs.ForStack.{findKey, foundNumber, underFound, popKey, keyLinks, keysLeft, pushKey, forsOpen, forsLinked, NodeLinked}

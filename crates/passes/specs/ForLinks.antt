@@ -4,11 +4,11 @@ use mathlib.Core.Path.{_≡_}
 use mathlib.Core.List.{List, [], _∷_, _++_}
 use lib.ListN.{length, take, drop}
 use Rattle.listings.specs.Listing.{Name, Slot}
-use Rattle.graph.specs.Adding.{nodeNumber, decode}
+use Rattle.graph_laws.specs.Adding.{nodeNumber, decode}
 use Rattle.graph.specs.Lists.{each}
 use Rattle.graph.specs.Nodes.{Node}
 use Rattle.graph.specs.Edges.{ForMove, keepFors, pushFor, popFors, nodeMoves}
-use Rattle.graph.specs.PerNode.{popOpener, forOpenersAfter}
+use Rattle.graph_laws.specs.PerNode.{popOpener, forOpenersAfter}
 use Rattle.passes.specs.ListedNodes.{Listed}
 
 -- one more than the FOR that each slot pops, or 0

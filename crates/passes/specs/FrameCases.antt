@@ -7,7 +7,7 @@ use Rattle.listings.specs.Listing.{Simple, repeat, loop, until, endloop, exit, 
 use Rattle.graph.specs.Lists.{each, below}
 use Rattle.graph.specs.Nodes.{simple}
 use Rattle.graph.specs.Edges.{noMoves, onFors, onLoops, onDos, movesOf, nodeMoves}
-use Rattle.graph.specs.PerNode.{noOpeners, forOpenersAfter, openersAfter, after, meets, pops, factOf, facts, isClosing, isJoining}
+use Rattle.graph_laws.specs.PerNode.{noOpeners, forOpenersAfter, openersAfter, after, meets, pops, factOf, facts, isClosing, isJoining}
 use Rattle.passes.specs.Frames.{eitherMet, frameMet, metNumber, closesFrame, isElseOf, firstWhere, nextWhere, metEntry, doMetOf, elseEntry, frameRow, frameRows}
 
 abbrev rowsOf : List Simple → List ℕ

@@ -8,7 +8,7 @@ use lib.ListN.{length, getD, getElem?, set}
 use Rattle.listings.specs.Bytes.{pick}
 use Rattle.graph.specs.Nodes.{Node}
 use Rattle.graph.specs.Edges.{Move, stays, opens, closes, joins}
-use Rattle.graph.specs.PerNode.{openersAfter, noOpeners, Fact, facts, nothing}
+use Rattle.graph_laws.specs.PerNode.{openersAfter, noOpeners, Fact, facts, nothing}
 use Rattle.passes.specs.FrameStacks.{topOf, Holds}
 use Rattle.passes.specs.Frames.{Worded, metEntry, nextWhere, closesFrame, doMetOf, elseEntry}
 use Rattle.passes.specs.declared.moves.FrameMove.{FrameMove}

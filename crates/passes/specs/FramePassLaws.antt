@@ -12,12 +12,12 @@ use lib.ListN.{length, length-set, getD, getElem?, set, replicate}
 use lib.Seq.{getD-set-same, getD-set-other}
 use Rattle.listings.specs.WordTable.{zeros}
 use Rattle.graph.specs.Nodes.{Node}
-use Rattle.graph.specs.NodeRecords.{stmtNumber}
+use Rattle.graph.specs.NodeWords.{stmtNumber}
 use Rattle.graph.specs.Edges.{Move, stays, opens, closes, joins, nodeMoves, Stack, loopStack, doStack}
-use Rattle.graph.specs.PerNode.{openersAfter, Met, nothing, closing, joining, meets, moveOn, metOn, noOpeners, Fact, facts}
+use Rattle.graph_laws.specs.PerNode.{openersAfter, Met, nothing, closing, joining, meets, moveOn, metOn, noOpeners, Fact, facts}
 use Rattle.passes.specs.Frames.{loopMove, doMove, wordMove, Worded, eitherMet, metNumber, frameMet, metEntry}
 use Rattle.passes.specs.FrameStacks.{topOf, Holds, holds∷, HoldsBelow, Pushed, PoppedIs, PoppedTo, TopIs}
-use Rattle.graph.specs.PerNodeLaws.{length-facts}
+use Rattle.graph_laws.specs.PerNodeLaws.{length-facts}
 use Rattle.passes.specs.OpenerLaws.{some-at, in-range, openAt, open-start, open-next, open-desc, desc-top, met-at}
 use Rattle.passes.specs.MoveLaws.{word-move, one-stack}
 use Rattle.passes.specs.FramePass.{movesStack, metWritten, FrameMet, FrameMoved, Stepped, AllZero, MetUpto, MetBelow, MetFrames}

@@ -11,7 +11,7 @@ use Rattle.listings.specs.Records.{padded}
 use Rattle.reader.specs.Tables.{padded-length}
 use Rattle.listings.specs.WordTable.{zeros}
 use Rattle.graph.specs.Lists.{each, below}
-use Rattle.graph.specs.PerNode.{Fact}
+use Rattle.graph_laws.specs.PerNode.{Fact}
 use Rattle.passes.specs.Frames.{nextWhere, closesFrame, metEntry, doMetOf, elseEntry, frameRow, frameRows, frameTable}
 use Rattle.passes.specs.Compare.{lt-or}
 

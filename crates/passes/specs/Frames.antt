@@ -11,9 +11,9 @@ use Rattle.listings.specs.Bytes.{pick}
 use Rattle.listings.specs.Records.{padded}
 use Rattle.graph.specs.Lists.{each, below}
 use Rattle.graph.specs.Nodes.{Node}
-use Rattle.graph.specs.NodeRecords.{stmtNumber}
+use Rattle.graph.specs.NodeWords.{stmtNumber}
 use Rattle.graph.specs.Edges.{Move, stays, opens, closes, joins, Stack, loopStack, doStack}
-use Rattle.graph.specs.PerNode.{Met, nothing, closing, joining, noOpeners, Fact, facts, isClosing, isJoining}
+use Rattle.graph_laws.specs.PerNode.{Met, nothing, closing, joining, noOpeners, Fact, facts, isClosing, isJoining}
 
 -- ---- what a statement does to each stack, by the number of its opening word
 

@@ -15,8 +15,8 @@ use Rattle.listings.specs.Records.{padded}
 use Rattle.reader.specs.Tables.{drop-zeros}
 use Rattle.graph.specs.Lists.{list}
 use Rattle.graph.specs.Nodes.{NodeStmt, simple, cond, Node, nodes}
-use Rattle.graph.specs.NodeLaws.{length-nodes}
-use Rattle.graph.specs.NodeRecords.{stmtWord, stmtNumber}
+use Rattle.graph_laws.specs.NodeLaws.{length-nodes}
+use Rattle.graph.specs.NodeWords.{stmtWord, stmtNumber}
 use Rattle.graph.specs.Graph.{Wired, wire, simpleRole, stmtRole, role, roleOf, fallFrom, fallOf, continuationBy, continuation, allSuccessors, predecessorsIn, returnTargets}
 use Rattle.tables.specs.Columns.{callWord, NodesReadable, succStart, succCount, predStart, predCount, succPart, predPart}
 use Rattle.passes.specs.LineEntries.{at-place}

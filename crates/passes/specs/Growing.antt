@@ -9,10 +9,10 @@ use lib.ListN.{length, getD, set, take, length-set}
 use lib.Seq.{take-suc, take-all, take-suc-set, drop-set-lt, length-take-le}
 use Rattle.listings.specs.Every.{All, all[], all∷}
 use Rattle.graph.specs.Lists.{has, add, each}
-use Rattle.graph.specs.ListLaws.{add-old, add-new}
-use Rattle.graph.specs.Adding.{Added, decode, added-none, added-both, added-one}
-use Rattle.graph.specs.Distinct.{Distinct, room as room-new, distinct-all}
-use Rattle.graph.specs.EdgeBounds.{Ids, addAll-ids}
+use Rattle.graph_laws.specs.ListLaws.{add-old, add-new}
+use Rattle.graph_laws.specs.Adding.{Added, decode, added-none, added-both, added-one}
+use Rattle.graph_laws.specs.Distinct.{Distinct, room as room-new, distinct-all}
+use Rattle.graph_laws.specs.EdgeBounds.{Ids, addAll-ids}
 
 -- the first n entries of the part are distinct nodes below m, and the part has room for m
 pub record Grown (m : ℕ) (part : List ℕ) (n : ℕ) : Type 0 where

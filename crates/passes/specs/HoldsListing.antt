@@ -13,10 +13,10 @@ use Rattle.listings.specs.Records.{Rec, lineRecs, lineNumbers, recRow, recRows,
 use Rattle.listings.specs.RecordLaws.{rec-at}
 use Rattle.reader.specs.ReadBack.{lines-wide}
 use Rattle.listings.specs.WordTable.{zeros}
-use Rattle.graph.specs.Members.{all-at}
+use Rattle.graph_laws.specs.Members.{all-at}
 use Rattle.graph.specs.Nodes.{NodeStmt, simple, cond, Node, allocate, lineEntry, nodesBefore, nodes}
-use Rattle.graph.specs.NodeLaws.{length-nodes}
-use Rattle.graph.specs.NodeRecords.{StmtIs, RecOf, lines-match, match-at}
+use Rattle.graph_laws.specs.NodeLaws.{length-nodes}
+use Rattle.graph_laws.specs.NodeRecords.{StmtIs, RecOf, lines-match, match-at}
 use Rattle.graph.specs.Graph.{wire}
 use Rattle.passes.specs.ListedNodes.{StmtListed, NodeListed, Listed}
 use Rattle.passes.specs.Held.{LinesHeld, StmtsHeld, ArgsHeld, lines-held, stmts-held, args-held}

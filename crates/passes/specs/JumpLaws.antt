@@ -20,10 +20,11 @@ use Rattle.reader.specs.ReadBack.{lines-wide}
 use Rattle.listings.specs.RecordLaws.{rec-at}
 use Rattle.listings.specs.Rows.{openingWords}
 use Rattle.listings.specs.WordTable.{words, first, wordIndex}
-use Rattle.graph.specs.Adding.{nodeNumber}
+use Rattle.graph_laws.specs.Adding.{nodeNumber}
 use Rattle.graph.specs.Nodes.{NodeStmt, simple, cond, Node, Entries, entryOf, entries, nodesBefore, nodes}
-use Rattle.graph.specs.NodeLaws.{length-nodes}
-use Rattle.graph.specs.NodeRecords.{stmtWord, stmtNumber, StmtIs, lines-match, match-at}
+use Rattle.graph_laws.specs.NodeLaws.{length-nodes}
+use Rattle.graph.specs.NodeWords.{stmtWord, stmtNumber}
+use Rattle.graph_laws.specs.NodeRecords.{StmtIs, lines-match, match-at}
 use Rattle.graph.specs.Targets.{onSimple}
 use Rattle.passes.specs.Held.{LinesHeld, StmtsHeld, ArgsHeld}
 use Rattle.passes.specs.LineEntries.{at-place}

@@ -8,7 +8,7 @@ use lib.ListN.{take}
 use lib.Seq.{sets}
 use Rattle.listings.specs.Bytes.{pick}
 use Rattle.listings.specs.Listing.{Simple, goto, gosub, return, run, runto, ongoto, ongosub, for, next, repeat, loop, until, endloop, exit, exitif, doif, else, done, clr, stop, any, Lines}
-use Rattle.graph.specs.Adding.{nodeNumber}
+use Rattle.graph_laws.specs.Adding.{nodeNumber}
 use Rattle.graph.specs.Nodes.{NodeStmt, Node, Entries, entryOf, entries, nodes}
 use Rattle.graph.specs.Targets.{onSimple}
 use Rattle.passes.specs.Held.{LinesHeld, StmtsHeld, ArgsHeld}

@@ -10,9 +10,9 @@ use Rattle.listings.specs.Every.{All}
 use Rattle.graph.specs.Lists.{each}
 use Rattle.graph.specs.Nodes.{Node}
 use Rattle.graph.specs.Edges.{nodeMoves, loopStack, doStack}
-use Rattle.graph.specs.PerNode.{noOpeners, Fact, facts, late}
-use Rattle.graph.specs.Adding.{nodeNumber, decode, Added}
-use Rattle.graph.specs.Distinct.{Distinct}
+use Rattle.graph_laws.specs.PerNode.{noOpeners, Fact, facts, late}
+use Rattle.graph_laws.specs.Adding.{nodeNumber, decode, Added}
+use Rattle.graph_laws.specs.Distinct.{Distinct}
 use Rattle.passes.specs.Frames.{Worded, frameTable}
 
 -- a list of distinct ids at the front of a part, which is as long as there are ids

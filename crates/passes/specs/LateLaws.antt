@@ -13,15 +13,15 @@ use Rattle.listings.specs.Bytes.{pick}
 use Rattle.listings.specs.Every.{All, all[], all∷}
 use Rattle.graph.specs.Lists.{each, list}
 use Rattle.graph.specs.Nodes.{Node}
-use Rattle.graph.specs.NodeRecords.{stmtNumber}
-use Rattle.graph.specs.NodeLaws.{Below, NodeFits}
-use Rattle.graph.specs.Members.{all-at}
+use Rattle.graph.specs.NodeWords.{stmtNumber}
+use Rattle.graph_laws.specs.NodeLaws.{Below, NodeFits}
+use Rattle.graph_laws.specs.Members.{all-at}
 use Rattle.graph.specs.Edges.{Move, stays, opens, closes, joins, nodeMoves, Stack, loopStack, doStack}
-use Rattle.graph.specs.PerNode.{Met, nothing, closing, joining, meets, isClosing, isJoining, moveOn, metOn, noOpeners, Fact, facts, fallsWhere, someWhere, closerFall, doifFalls, late}
-use Rattle.graph.specs.Adding.{nodeNumber, decode, decode-number, Added, added-none}
-use Rattle.graph.specs.ListLaws.{later}
+use Rattle.graph_laws.specs.PerNode.{Met, nothing, closing, joining, meets, isClosing, isJoining, moveOn, metOn, noOpeners, Fact, facts, fallsWhere, someWhere, closerFall, doifFalls, late}
+use Rattle.graph_laws.specs.Adding.{nodeNumber, decode, decode-number, Added, added-none}
+use Rattle.graph_laws.specs.ListLaws.{later}
 use Rattle.passes.specs.Frames.{loopMove, doMove, wordMove, eitherMet, frameMet, metNumber, metEntry, closesFrame, isElseOf, firstWhere, nextWhere, doMetOf, elseEntry}
-use Rattle.graph.specs.PerNodeLaws.{length-facts}
+use Rattle.graph_laws.specs.PerNodeLaws.{length-facts}
 use Rattle.passes.specs.OpenerLaws.{MetIs, some-at, in-range, OpensHere, openAt, met-at, fall-at, stmt-at, met-opened, closed-once, node-of}
 use Rattle.passes.specs.MoveLaws.{word-move, one-stack, isExit, loop-joins, do-joins, do-opens}
 use Rattle.passes.specs.FrameRows.{met-entry, closer-entry, else-entry}

@@ -13,7 +13,7 @@ use Rattle.listings.specs.RecordLaws.{rec-at}
 use Rattle.listings.specs.Every.{All, all[], all∷, all-append}
 use Rattle.listings.specs.ReadingRecords.{lines-length}
 use Rattle.graph.specs.Nodes.{lineEntry, Entries, entriesBefore, entries}
-use Rattle.graph.specs.Adding.{nodeNumber}
+use Rattle.graph_laws.specs.Adding.{nodeNumber}
 use Rattle.passes.specs.Held.{StmtsHeld}
 
 -- the entries of lines after which comes e, as the table has them

@@ -17,7 +17,7 @@ use Rattle.listings.specs.ListingText.{lastNumber, Above, LinesOk}
 use Rattle.listings.specs.Records.{lineNumbers, padded}
 use Rattle.listings.specs.ReadingRecords.{numbers-count}
 use Rattle.passes.specs.Compare.{lt-or}
-use Rattle.graph.specs.Adding.{nodeNumber}
+use Rattle.graph_laws.specs.Adding.{nodeNumber}
 use Rattle.graph.specs.Nodes.{lineEntry, Entries, entriesBefore, entries, entryOf}
 use Rattle.passes.specs.Held.{LinesHeld}
 use Rattle.passes.specs.LineEntries.{entryNumbers, entryRows, numbers-length, entries-length}

@@ -15,10 +15,10 @@ use borrow.Author.Tests.{eq-eqb, ne-eqb, le-leb, lt-leb}
 use Rattle.listings.specs.Bytes.{pick}
 use Rattle.graph.specs.Nodes.{Node}
 use Rattle.graph.specs.Edges.{Move, stays, opens, closes, joins, Stack, loopStack, doStack}
-use Rattle.graph.specs.PerNode.{Met, nothing, closing, joining, meets, isClosing, isJoining, metOn, noOpeners, Fact, facts}
+use Rattle.graph_laws.specs.PerNode.{Met, nothing, closing, joining, meets, isClosing, isJoining, metOn, noOpeners, Fact, facts}
 use Rattle.passes.specs.Frames.{loopMove, doMove, wordMove, Worded, eitherMet, frameMet, metNumber, metEntry, closesFrame, isElseOf, firstWhere, nextWhere, doMetOf, elseEntry, Framed}
 use Rattle.passes.specs.FrameRows.{table-is}
-use Rattle.graph.specs.PerNodeLaws.{length-facts}
+use Rattle.graph_laws.specs.PerNodeLaws.{length-facts}
 use Rattle.passes.specs.OpenerLaws.{MetIs, some-at, openAt, met-at, met-below, node-of}
 use Rattle.passes.specs.MoveLaws.{word-move, one-stack, isExit, loop-closes, loop-joins, do-closes, do-joins}
 use Rattle.passes.specs.FramePass.{MetUpto, MetBelow, MetFrames, elseLinked, linkedTo, linked, LinkedFrom}

@@ -17,9 +17,9 @@ use Rattle.listings.specs.WordTable.{words, first, wordIndex}
 use Rattle.listings.specs.WordText.{same-equal}
 use Rattle.listings.specs.Records.{nameKey, argsOf, detailOf}
 use Rattle.tokens.specs.Names.{key-injective, key-not-zero}
-use Rattle.graph.specs.Adding.{nodeNumber}
+use Rattle.graph_laws.specs.Adding.{nodeNumber}
 use Rattle.graph.specs.Nodes.{NodeStmt, simple, cond, Node}
-use Rattle.graph.specs.NodeRecords.{stmtWord, stmtNumber}
+use Rattle.graph.specs.NodeWords.{stmtWord, stmtNumber}
 use Rattle.graph.specs.Targets.{onFor, onNext, onSimple, dispatchTarget, orphanEdges}
 use Rattle.graph.specs.Edges.{keepFors, onFors, onLoops, onDos, noMoves, movesOf, nodeMoves}
 use Rattle.passes.specs.LineEntries.{at-place}

@@ -13,10 +13,10 @@ use Rattle.listings.specs.Listing.{Simple, goto, gosub, return, run, runto, ong
 use Rattle.listings.specs.ListingText.{simpleWord, condWord}
 use Rattle.listings.specs.WordTable.{words, first, wordIndex}
 use Rattle.graph.specs.Nodes.{NodeStmt, simple, cond}
-use Rattle.graph.specs.NodeRecords.{stmtWord, stmtNumber}
+use Rattle.graph.specs.NodeWords.{stmtWord, stmtNumber}
 use Rattle.graph.specs.Edges.{Move, stays, opens, closes, joins, onFors, onLoops, onDos, noMoves, movesOf, nodeMoves, Stack, loopStack, doStack}
-use Rattle.graph.specs.PerNode.{moveOn}
-use Rattle.graph.specs.Distinct.{or-none}
+use Rattle.graph_laws.specs.PerNode.{moveOn}
+use Rattle.graph_laws.specs.Distinct.{or-none}
 use Rattle.passes.specs.Frames.{loopMove, doMove, wordMove}
 use Rattle.passes.specs.Compare.{lt-or}
 

@@ -14,10 +14,10 @@ use Rattle.listings.specs.Bytes.{pick}
 use Rattle.listings.specs.Every.{All, all[], all∷, all-append}
 use Rattle.listings.specs.Listing.{for}
 use Rattle.graph.specs.Lists.{each, list}
-use Rattle.graph.specs.Adding.{decode}
-use Rattle.graph.specs.Members.{all-each}
-use Rattle.graph.specs.EdgeBounds.{Ids}
-use Rattle.graph.specs.ForLaws.{each-append}
+use Rattle.graph_laws.specs.Adding.{decode}
+use Rattle.graph_laws.specs.Members.{all-each}
+use Rattle.graph_laws.specs.EdgeBounds.{Ids}
+use Rattle.graph_laws.specs.ForLaws.{each-append}
 use Rattle.passes.specs.ListedNodes.{keysAt}
 use Rattle.passes.specs.ForLinks.{poppedBy}
 use Rattle.passes.specs.Growing.{Grown, Grows, RoomFor, grown-room, grows-none, all-left, all-right}

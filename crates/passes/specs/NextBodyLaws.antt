@@ -13,14 +13,14 @@ use Rattle.listings.specs.Listing.{Name, Mark, orphan, Slot, next}
 use Rattle.listings.specs.ListingText.{NameOk, SlotsOk, SimpleOk}
 use Rattle.listings.specs.Records.{nameKey, slotKey, argsOf, detailOf, markNumber}
 use Rattle.graph.specs.Lists.{each, list}
-use Rattle.graph.specs.Adding.{decode, decode-number}
-use Rattle.graph.specs.Members.{all-map}
+use Rattle.graph_laws.specs.Adding.{decode, decode-number}
+use Rattle.graph_laws.specs.Members.{all-map}
 use Rattle.graph.specs.Nodes.{NodeStmt, simple, Node}
-use Rattle.graph.specs.NodeRecords.{stmtNumber}
+use Rattle.graph.specs.NodeWords.{stmtNumber}
 use Rattle.graph.specs.Targets.{onNext, onSimple, dispatchTargets, selectable, orphanTargets, orphanEdges}
 use Rattle.graph.specs.Edges.{nodeMoves}
-use Rattle.graph.specs.EdgeBounds.{Ids}
-use Rattle.graph.specs.PerNode.{Openers, noOpeners, after, Fact, factOf, facts, fallOf, fallAt}
+use Rattle.graph_laws.specs.EdgeBounds.{Ids}
+use Rattle.graph_laws.specs.PerNode.{Openers, noOpeners, after, Fact, factOf, facts, fallOf, fallAt}
 use Rattle.passes.specs.ListedNodes.{StmtListed, Listed, FallsListed, keysAt, keys-are, ForKind, isFor, isNext, isOther, for-kind, for-number, next-number, key-some, key-same}
 use Rattle.passes.specs.ForLinks.{linkedRows, poppedBy}
 use Rattle.passes.specs.ForLinkLaws.{next-links, popped-before}

@@ -8,7 +8,7 @@ use lib.ListN.{length, getD, take, drop}
 use Rattle.listings.specs.Bytes.{pick}
 use Rattle.listings.specs.Listing.{Listing}
 use Rattle.graph.specs.Lists.{each}
-use Rattle.graph.specs.Adding.{decode}
+use Rattle.graph_laws.specs.Adding.{decode}
 use Rattle.graph.specs.Graph.{wire, base}
 use Rattle.passes.specs.ForLinks.{poppedBy}
 use Rattle.passes.specs.NextBodies.{bodyAt, linkBody, PoppedRoom}

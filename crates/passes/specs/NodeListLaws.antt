@@ -10,7 +10,7 @@ use lib.Dec.{eqb, ltb}
 use lib.ListN.{length, getD, take, drop}
 use Rattle.listings.specs.Bytes.{pick}
 use Rattle.graph.specs.Lists.{each}
-use Rattle.graph.specs.Adding.{decode}
+use Rattle.graph_laws.specs.Adding.{decode}
 use Rattle.passes.specs.ForLinks.{poppedBy}
 use Rattle.passes.specs.NextBodies.{bodyAt, linkBody, LinkRoom}
 use Rattle.passes.specs.AddRoom.{RoomToAdd, room-one}

@@ -10,17 +10,17 @@ use Rattle.listings.specs.Every.{All}
 use Rattle.listings.specs.Listing.{Mark, Slot, next, Listing}
 use Rattle.listings.specs.Records.{padded}
 use Rattle.graph.specs.Lists.{each}
-use Rattle.graph.specs.Adding.{decode}
-use Rattle.graph.specs.Members.{all-at}
+use Rattle.graph_laws.specs.Adding.{decode}
+use Rattle.graph_laws.specs.Members.{all-at}
 use Rattle.graph.specs.Nodes.{simple, Node, Entries, entries as entriesOf}
-use Rattle.graph.specs.NodeRecords.{stmtNumber}
+use Rattle.graph.specs.NodeWords.{stmtNumber}
 use Rattle.graph.specs.Targets.{targetEntries}
 use Rattle.graph.specs.Edges.{closes, Moves, onLoops, nodeMoves, loopStack, doStack}
 use Rattle.graph.specs.Graph.{wire}
-use Rattle.graph.specs.GraphLaws.{nodeCount, fits}
-use Rattle.graph.specs.EdgeBounds.{Ids}
-use Rattle.graph.specs.PerNode.{Met, nothing, closing, joining, meets, moveOn, metOn, noOpeners, Fact, facts, fallAt, bodyMet}
-use Rattle.graph.specs.PerNodeLaws.{length-facts}
+use Rattle.graph_laws.specs.GraphLaws.{nodeCount, fits}
+use Rattle.graph_laws.specs.EdgeBounds.{Ids}
+use Rattle.graph_laws.specs.PerNode.{Met, nothing, closing, joining, meets, moveOn, metOn, noOpeners, Fact, facts, fallAt, bodyMet}
+use Rattle.graph_laws.specs.PerNodeLaws.{length-facts}
 use Rattle.passes.specs.OpenerLaws.{some-at, MetIs, openAt, met-at, met-below}
 use Rattle.passes.specs.Frames.{metNumber, eitherMet, frameMet, metEntry}
 use Rattle.passes.specs.FrameRows.{met-entry}

@@ -12,7 +12,7 @@ use lib.Dec.{eqb}
 use lib.ListN.{length, getD, replicate, length-replicate}
 use Rattle.listings.specs.Bytes.{pick}
 use Rattle.listings.specs.Every.{All, all[], all∷}
-use Rattle.graph.specs.Members.{all-map}
+use Rattle.graph_laws.specs.Members.{all-map}
 use Rattle.passes.specs.Sets.{bit, In, inserted}
 use Rattle.passes.specs.SetLaws.{in-inserted, inserted-length}
 use Rattle.passes.specs.FrameStacks.{Holds, HoldsBelow}

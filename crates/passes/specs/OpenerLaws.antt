@@ -6,11 +6,11 @@ use mathlib.Core.Option.{some}
 use native.Mathlib.Omega.{arith}
 use lib.ListN.{length, getElem?}
 use Rattle.listings.specs.Every.{All, all[], all∷}
-use Rattle.graph.specs.Members.{all-map}
+use Rattle.graph_laws.specs.Members.{all-map}
 use Rattle.graph.specs.Nodes.{Node}
 use Rattle.graph.specs.Edges.{Move, stays, opens, closes, joins, Moves, nodeMoves, Stack, loopStack, doStack}
-use Rattle.graph.specs.PerNode.{Openers, noOpeners, openersAfter, after, Met, nothing, closing, joining, meets, Fact, factOf, facts, moveOn, metOn}
-use Rattle.graph.specs.PerNodeLaws.{length-facts}
+use Rattle.graph_laws.specs.PerNode.{Openers, noOpeners, openersAfter, after, Met, nothing, closing, joining, meets, Fact, factOf, facts, moveOn, metOn}
+use Rattle.graph_laws.specs.PerNodeLaws.{length-facts}
 use Rattle.passes.specs.FrameStacks.{topOf}
 
 pub some-at : {A : Type 0} (l : List A) (k : ℕ) → k < length l → (a : A) × (getElem? l k ≡ some a)

@@ -15,10 +15,10 @@ use Rattle.listings.specs.Every.{All, all[], all∷, all-append}
 use Rattle.listings.specs.Listing.{Name, Tier, static, framed, dispatched, Listing}
 use Rattle.listings.specs.Records.{detailOf, tierNumber, padded}
 use Rattle.graph.specs.Lists.{each, list}
-use Rattle.graph.specs.Adding.{nodeNumber}
-use Rattle.graph.specs.Members.{all-map}
+use Rattle.graph_laws.specs.Adding.{nodeNumber}
+use Rattle.graph_laws.specs.Members.{all-map}
 use Rattle.graph.specs.Nodes.{NodeStmt, Node}
-use Rattle.graph.specs.NodeRecords.{stmtNumber}
+use Rattle.graph.specs.NodeWords.{stmtNumber}
 use Rattle.graph.specs.Targets.{onFor, onSimple, dispatchTarget, dispatchTargets, orphanEdges}
 use Rattle.graph.specs.Graph.{wire}
 use Rattle.passes.specs.ListedNodes.{StmtListed, Listed, FallsListed, SlotsCounted, keysAt, listed-counted, ForKind, isFor, isNext, isOther, for-kind, for-number, next-number}

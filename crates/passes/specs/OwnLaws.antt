@@ -14,9 +14,9 @@ use Rattle.listings.specs.Rows.{openingWords}
 use Rattle.listings.specs.WordTable.{words, first, wordIndex}
 use Rattle.listings.specs.Records.{argsOf}
 use Rattle.graph.specs.Lists.{each, list}
-use Rattle.graph.specs.Adding.{decode}
+use Rattle.graph_laws.specs.Adding.{decode}
 use Rattle.graph.specs.Nodes.{BranchTarget, simple, cond, Entries, entryOf}
-use Rattle.graph.specs.NodeRecords.{stmtWord, stmtNumber}
+use Rattle.graph.specs.NodeWords.{stmtWord, stmtNumber}
 use Rattle.graph.specs.Targets.{targetEntries, branchEdges}
 use Rattle.graph.specs.Edges.{closes, onLoops, movesOf, closerEdges, ownSimple, own}
 use Rattle.passes.specs.Jumps.{jumpTargets}

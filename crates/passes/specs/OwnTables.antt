@@ -8,13 +8,13 @@ use lib.ListN.{length, getD, getElem?, length-map}
 use Rattle.listings.specs.Listing.{Simple, Listing}
 use Rattle.listings.specs.Records.{slotKey, argsOf}
 use Rattle.graph.specs.Lists.{each, list}
-use Rattle.graph.specs.Adding.{decode, decode-number}
+use Rattle.graph_laws.specs.Adding.{decode, decode-number}
 use Rattle.graph.specs.Nodes.{NodeStmt, simple, cond, Node}
-use Rattle.graph.specs.NodeRecords.{stmtNumber}
+use Rattle.graph.specs.NodeWords.{stmtNumber}
 use Rattle.graph.specs.Targets.{onSimple, targetEntries}
 use Rattle.graph.specs.Edges.{nodeMoves, own, loopStack}
 use Rattle.graph.specs.Graph.{wire}
-use Rattle.graph.specs.PerNode.{noOpeners, Fact, facts, fallAt, bodyMet}
+use Rattle.graph_laws.specs.PerNode.{noOpeners, Fact, facts, fallAt, bodyMet}
 use Rattle.passes.specs.OpenerLaws.{fall-at, stmt-at}
 use Rattle.passes.specs.ListedNodes.{SimpleListed}
 use Rattle.passes.specs.Jumps.{stmtTargets}

@@ -13,10 +13,11 @@ use Rattle.listings.specs.ListingText.{StmtsOk, LinesOk}
 use Rattle.listings.specs.Records.{Rec, simpleRec, condRec, stmtRecs, lineRecs, lineNumbers, recRow, recRows}
 use Rattle.listings.specs.RecordLaws.{rec-at}
 use Rattle.listings.specs.ReadingRecords.{numbers-count}
-use Rattle.graph.specs.Members.{all-at, all-map}
+use Rattle.graph_laws.specs.Members.{all-at, all-map}
 use Rattle.graph.specs.Nodes.{Node, allocate, lineEntry, nodesBefore}
-use Rattle.graph.specs.NodeLaws.{length-allocate, length-nodes}
-use Rattle.graph.specs.NodeRecords.{stmtNumber, match-at, lines-match}
+use Rattle.graph_laws.specs.NodeLaws.{length-allocate, length-nodes}
+use Rattle.graph.specs.NodeWords.{stmtNumber}
+use Rattle.graph_laws.specs.NodeRecords.{match-at, lines-match}
 use Rattle.passes.specs.OpenerLaws.{in-range}
 use Rattle.passes.specs.LineEntries.{at-place}
 use Rattle.tables.specs.Columns.{holderOf, indexOf, heldBy, pathIn}

@@ -12,8 +12,8 @@ use lib.ListN.{length, length-append, length-set, length-drop, getD, set, take, 
 use lib.Seq.{take-append-seam, getD-set-same, getD-set-other, getD-append-seam, take-suc, take-all, take-take, length-take-le, ext-getD, getD-take, getD-drop}
 use Rattle.listings.specs.Every.{All, all[], all∷}
 use Rattle.graph.specs.Lists.{has}
-use Rattle.graph.specs.ListLaws.{has-found, later}
-use Rattle.graph.specs.EdgeBounds.{Ids}
+use Rattle.graph_laws.specs.ListLaws.{has-found, later}
+use Rattle.graph_laws.specs.EdgeBounds.{Ids}
 use Rattle.graph.specs.Graph.{predecessorsIn}
 use Rattle.passes.specs.Walk.{Stored, storedList}
 use Rattle.passes.specs.EdgeTable.{joinedLists, startOf, part-law, part-within, parts-apart, joined-ext, listRows, Columns, columns-rows, columns-ext, columns-then, columns-self, columns-past, ListsStored, stored-part}

@@ -14,11 +14,11 @@ use Rattle.listings.specs.Bytes.{pick}
 use Rattle.listings.specs.Every.{All, all[], all∷, all-append}
 use Rattle.listings.specs.Listing.{Listing}
 use Rattle.graph.specs.Lists.{has}
-use Rattle.graph.specs.ListLaws.{has-found}
-use Rattle.graph.specs.Distinct.{Distinct, dist[], dist∷}
-use Rattle.graph.specs.EdgeBounds.{Ids}
+use Rattle.graph_laws.specs.ListLaws.{has-found}
+use Rattle.graph_laws.specs.Distinct.{Distinct, dist[], dist∷}
+use Rattle.graph_laws.specs.EdgeBounds.{Ids}
 use Rattle.graph.specs.Graph.{wire, successorsIn, successors, allSuccessors, predecessorsIn}
-use Rattle.graph.specs.GraphLaws.{nodeCount, lists-ok}
+use Rattle.graph_laws.specs.GraphLaws.{nodeCount, lists-ok}
 use Rattle.passes.specs.EdgeTable.{joinedLists, startOf, start-end, listsTo, length-lists, lists-at, lists-map, lists-all, Columns, columns-self, columns-ext, changed, changed-here, changed-other, columns-set2, columns-set3}
 use Rattle.tables.specs.Columns.{succStart, succCount, predStart, predCount}
 use Rattle.passes.specs.Counting.{one, occurs, occurs-append, occurs-snoc, occurs-le, occurs-once, sumTo, sum-ext, sum-occurs, start-sum}

@@ -10,11 +10,11 @@ use Rattle.listings.specs.Listing.{Listing, count}
 use Rattle.listings.specs.ListingText.{LinesOk}
 use Rattle.listings.specs.Records.{padded}
 use Rattle.graph.specs.Lists.{each}
-use Rattle.graph.specs.Adding.{decode}
+use Rattle.graph_laws.specs.Adding.{decode}
 use Rattle.graph.specs.Nodes.{Node}
 use Rattle.graph.specs.Targets.{onFor, onSimple, dispatchTarget}
 use Rattle.graph.specs.Graph.{Wired, wire, Role, call, returns, forgets, steps, noNode, role, base, continuation, callees, skipSteps}
-use Rattle.graph.specs.PerNode.{noOpeners, facts}
+use Rattle.graph_laws.specs.PerNode.{noOpeners, facts}
 use Rattle.passes.specs.ListedNodes.{Listed}
 use Rattle.passes.specs.LineEntries.{entryRows}
 use Rattle.passes.specs.Falls.{fallRows}

@@ -16,18 +16,18 @@ use Rattle.listings.specs.Rows.{openingWords}
 use Rattle.listings.specs.WordTable.{words, first, wordIndex}
 use Rattle.listings.specs.Records.{argsOf}
 use Rattle.graph.specs.Lists.{addAll, each, list}
-use Rattle.graph.specs.Adding.{nodeNumber, decode, decode-number}
-use Rattle.graph.specs.Members.{all-at}
+use Rattle.graph_laws.specs.Adding.{nodeNumber, decode, decode-number}
+use Rattle.graph_laws.specs.Members.{all-at}
 use Rattle.graph.specs.Nodes.{NodeStmt, simple, cond, Node, Entries, entryOf}
-use Rattle.graph.specs.NodeLaws.{entry-fits}
-use Rattle.graph.specs.NodeRecords.{stmtWord, stmtNumber}
+use Rattle.graph_laws.specs.NodeLaws.{entry-fits}
+use Rattle.graph.specs.NodeWords.{stmtWord, stmtNumber}
 use Rattle.graph.specs.Targets.{onSimple, onNext, orphanEdges, dispatchTargets}
 use Rattle.graph.specs.Edges.{noMoves, movesOf, nodeMoves, ownSimple, own, loopStack, doStack}
 use Rattle.graph.specs.Graph.{Role, call, returns, forgets, steps, simpleRole, stmtRole, wire, roleOf, role, fallOf, fallFrom, base, continuationBy, continuation, calleesBy, callees, skipStepsBy, skipSteps}
-use Rattle.graph.specs.GraphLaws.{entry-ids, fall-below}
-use Rattle.graph.specs.PerNode.{noOpeners, Fact, facts, fallAt, bodyMet, late, perNode}
-use Rattle.graph.specs.PerNodeLaws.{length-facts}
-use Rattle.graph.specs.Theorems.{factsOf, lists-per-node}
+use Rattle.graph_laws.specs.GraphLaws.{entry-ids, fall-below}
+use Rattle.graph_laws.specs.PerNode.{noOpeners, Fact, facts, fallAt, bodyMet, late, perNode}
+use Rattle.graph_laws.specs.PerNodeLaws.{length-facts}
+use Rattle.graph_laws.specs.Theorems.{factsOf, lists-per-node}
 use Rattle.passes.specs.OpenerLaws.{some-at, stmt-at}
 use Rattle.passes.specs.ListedNodes.{StmtListed}
 use Rattle.passes.specs.Jumps.{jumpTargets, stmtTargets, linkRow, linked}

@@ -12,13 +12,13 @@ use lib.Seq.{length-take-le, take-suc, getD-take, getD-drop, ext-getD}
 use Rattle.listings.specs.Bytes.{pick}
 use Rattle.listings.specs.Every.{All, all[], all∷, all-append}
 use Rattle.graph.specs.Lists.{has, each}
-use Rattle.graph.specs.Adding.{decode}
+use Rattle.graph_laws.specs.Adding.{decode}
 use Rattle.passes.specs.Compare.{eq-or}
-use Rattle.graph.specs.Members.{all-map, all-mem, mem-each, each-mem}
+use Rattle.graph_laws.specs.Members.{all-map, all-mem, mem-each, each-mem}
 use Rattle.passes.specs.Growing.{each-snoc}
 use Rattle.graph.specs.Reach.{has→mem, mem→has}
 use Rattle.graph.specs.Graph.{Wired, skipSteps, regionReturnEdges}
-use Rattle.graph.specs.ReturnLists.{conts-inside, region-sound, region-complete, region-asc}
+use Rattle.graph_laws.specs.ReturnLists.{conts-inside, region-sound, region-complete, region-asc}
 use Rattle.passes.specs.Walk.{Reached}
 use Rattle.passes.specs.Sets.{In, inserted, oneIf, Put}
 use Rattle.passes.specs.SetLaws.{none-in, in-inserted, inserted-length, members-are, put-none, put-both, put-yes}

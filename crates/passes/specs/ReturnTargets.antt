@@ -13,8 +13,8 @@ use lib.ListN.{length, length-set, getD, set, take, drop, replicate, getD-replic
 use lib.Seq.{getD-set-same, getD-set-other, take-suc-set, drop-set-lt}
 use Rattle.listings.specs.Bytes.{pick}
 use Rattle.graph.specs.Lists.{has, addAll, each, below}
-use Rattle.graph.specs.ListLaws.{add-old, add-new, or-true, or-false, has-end}
-use Rattle.graph.specs.Adding.{Added, decode, added-none, added-both, added-one, added-zero}
+use Rattle.graph_laws.specs.ListLaws.{add-old, add-new, or-true, or-false, has-end}
+use Rattle.graph_laws.specs.Adding.{Added, decode, added-none, added-both, added-one, added-zero}
 use Rattle.graph.specs.Graph.{Wired, continuation, returnTargets}
 use Rattle.passes.specs.Compare.{eq-or}
 use Rattle.passes.specs.Growing.{each-snoc}

@@ -9,8 +9,8 @@ use lib.Dec.{eqb}
 use lib.ListN.{length, length-take, getD, take, drop}
 use Rattle.listings.specs.Bytes.{pick}
 use Rattle.listings.specs.Every.{all[], all∷}
-use Rattle.graph.specs.EdgeBounds.{Ids}
-use Rattle.graph.specs.Distinct.{few, distinct-ascending}
+use Rattle.graph_laws.specs.EdgeBounds.{Ids}
+use Rattle.graph_laws.specs.Distinct.{few, distinct-ascending}
 use Rattle.passes.specs.Sets.{membersOf}
 use Rattle.passes.specs.SetLaws.{members-in, members-asc, in-below}
 use Rattle.passes.specs.ReturnSets.{setOf}

@@ -16,7 +16,8 @@ use lib.Pow.{pow-pos, pow-mono, pow-lt, pow-add, shl-shr, shl-exact, shr-shr, mo
 use lib.Seq.{getD-set-same, getD-set-other, take-suc-set, drop-set-lt, drop-drop}
 use Rattle.listings.specs.WordTable.{zeros}
 use Rattle.passes.specs.Compare.{eq-or, lt-or}
-use Rattle.graph.specs.Members.{Ascending, asc[], asc∷, asc-ext}
+use Rattle.graph.specs.Lists.{Ascending, asc[], asc∷}
+use Rattle.graph_laws.specs.Members.{asc-ext}
 use Rattle.passes.specs.Sets.{bit, In, inserted, joinedTo, joined, oneIf, wordMembers, membersTo, membersOf, Put}
 
 -- ---- bits

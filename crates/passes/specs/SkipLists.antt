@@ -11,10 +11,10 @@ use lib.Seq.{length-take-le, take-take}
 use Rattle.listings.specs.Bytes.{pick}
 use Rattle.listings.specs.Every.{all[]}
 use Rattle.listings.specs.Listing.{Listing}
-use Rattle.graph.specs.Adding.{decode}
+use Rattle.graph_laws.specs.Adding.{decode}
 use Rattle.graph.specs.Graph.{Wired, wire, Role, call, returns, forgets, steps, noNode, role, fallFrom, base, skipStepsBy, skipSteps, returnEdges, successorsBy, successorsIn, successors}
-use Rattle.graph.specs.GraphLaws.{nodeCount, fall-below, lists-ok}
-use Rattle.graph.specs.EdgeBounds.{Ids, list-ids}
+use Rattle.graph_laws.specs.GraphLaws.{nodeCount, fall-below, lists-ok}
+use Rattle.graph_laws.specs.EdgeBounds.{Ids, list-ids}
 use Rattle.passes.specs.Walk.{Stored}
 use Rattle.passes.specs.EdgeTable.{joinedLists, joined-snoc, listsTo, length-lists, lists-at, lists-all, ListsStored, Appended, stored-none, stored-more}
 use Rattle.passes.specs.Prepared.{Prepared, Keys, Roles}

@@ -12,7 +12,7 @@ use lib.ListN.{length, length-set, length-drop, getD, set, take, drop, replicate
 use lib.Seq.{take-suc, getD-set-same, getD-set-other, getD-take, getD-drop, length-take-le}
 use Rattle.listings.specs.Bytes.{pick}
 use Rattle.graph.specs.Lists.{each}
-use Rattle.graph.specs.Adding.{decode}
+use Rattle.graph_laws.specs.Adding.{decode}
 use Rattle.passes.specs.Compare.{eq-or}
 use Rattle.listings.specs.WordTable.{zeros}
 use Rattle.passes.specs.Growing.{each-snoc}

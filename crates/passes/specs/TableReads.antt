@@ -13,11 +13,11 @@ use Rattle.listings.specs.ListingText.{LinesOk}
 use Rattle.listings.specs.Records.{Rec, argRow, padded}
 use Rattle.reader.specs.Tables.{Wide}
 use Rattle.reader.specs.ReadBack.{lines-wide}
-use Rattle.graph.specs.Adding.{nodeNumber, decode, decode-number}
+use Rattle.graph_laws.specs.Adding.{nodeNumber, decode, decode-number}
 use Rattle.graph.specs.Lists.{each}
 use Rattle.graph.specs.Nodes.{BranchTarget, NodeStmt, simple, cond, Node, Entries, entryOf, entries, nodes}
 use Rattle.graph.specs.Targets.{targetEntries, branchEdges}
-use Rattle.graph.specs.NodeRecords.{Match, match[], match∷, lines-match}
+use Rattle.graph_laws.specs.NodeRecords.{Match, match[], match∷, lines-match}
 use Rattle.passes.specs.ListedNodes.{FallsListed}
 use Rattle.passes.specs.Falls.{leads, stmtRow, fallRow, fallRows, leads-edges}
 use Rattle.passes.specs.FallLaws.{fall-at}

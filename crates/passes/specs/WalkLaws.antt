@@ -12,8 +12,8 @@ use lib.ListN.{length, getD, take, drop, set, replicate, length-set, length-repl
 use lib.Seq.{getD-set-same, getD-set-other, take-suc, getD-take, length-take-le}
 use Rattle.passes.specs.Compare.{eq-or, lt-or}
 use Rattle.listings.specs.Every.{All, all[], all∷}
-use Rattle.graph.specs.EdgeBounds.{Ids}
-use Rattle.graph.specs.Members.{all-mem, all-map}
+use Rattle.graph_laws.specs.EdgeBounds.{Ids}
+use Rattle.graph_laws.specs.Members.{all-mem, all-map}
 use Rattle.graph.specs.Reach.{Reach, here, on}
 use Rattle.passes.specs.Walk.{Reached, storedList, Stored, RegionListed, free, On, Markable, ListMarked, Walk}
 

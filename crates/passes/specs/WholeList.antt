@@ -14,18 +14,18 @@ use Rattle.listings.specs.Rows.{openingWords}
 use Rattle.listings.specs.WordTable.{words, first, wordIndex}
 use Rattle.listings.specs.Records.{slotKey, argsOf}
 use Rattle.graph.specs.Lists.{addAll}
-use Rattle.graph.specs.Adding.{nodeNumber, Added, added-both}
-use Rattle.graph.specs.Members.{all-map}
+use Rattle.graph_laws.specs.Adding.{nodeNumber, Added, added-both}
+use Rattle.graph_laws.specs.Members.{all-map}
 use Rattle.graph.specs.Nodes.{NodeStmt, simple, cond, Node}
-use Rattle.graph.specs.NodeRecords.{stmtWord, stmtNumber}
+use Rattle.graph.specs.NodeWords.{stmtWord, stmtNumber}
 use Rattle.graph.specs.Targets.{dispatchTargets, orphanEdges}
 use Rattle.graph.specs.Edges.{loopStack}
-use Rattle.graph.specs.EdgeBounds.{Ids, edges-to, ends-ids}
+use Rattle.graph_laws.specs.EdgeBounds.{Ids, edges-to, ends-ids}
 use Rattle.graph.specs.Graph.{wire, base}
-use Rattle.graph.specs.GraphLaws.{nodeCount, fits, entry-ids}
-use Rattle.graph.specs.PerNode.{noOpeners, Fact, facts, perNode}
-use Rattle.graph.specs.PerNodeLaws.{length-facts, per-node}
-use Rattle.graph.specs.Theorems.{factsOf, lists-per-node}
+use Rattle.graph_laws.specs.GraphLaws.{nodeCount, fits, entry-ids}
+use Rattle.graph_laws.specs.PerNode.{noOpeners, Fact, facts, perNode}
+use Rattle.graph_laws.specs.PerNodeLaws.{length-facts, per-node}
+use Rattle.graph_laws.specs.Theorems.{factsOf, lists-per-node}
 use Rattle.passes.specs.OpenerLaws.{some-at, node-of, fall-at, stmt-at}
 use Rattle.passes.specs.ListedNodes.{SimpleListed, SlotsCounted, ForKind, isFor, isNext, isOther, for-kind, for-number}
 use Rattle.passes.specs.LineEntries.{entryRows}

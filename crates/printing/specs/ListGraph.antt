@@ -7,7 +7,7 @@ use lib.ListN.{getD}
 use Rattle.listings.specs.Listing.{Listing}
 use Rattle.listings.specs.Records.{padded}
 use Rattle.listings.specs.Read.{read}
-use Rattle.graph.specs.Theorems.{accepted}
+use Rattle.graph_laws.specs.Theorems.{accepted}
 use Rattle.graph.specs.Print.{printedRefusal}
 use Rattle.graph.specs.Build.{Built, graph, build, builtOf, written}
 use Rattle.passes.specs.Room.{fits-room}

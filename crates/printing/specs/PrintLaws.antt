@@ -9,9 +9,9 @@ use lib.ListN.{length, getD, getElem?, take}
 use Rattle.listings.specs.Bytes.{pick, bytes}
 use Rattle.listings.specs.Listing.{Listing}
 use Rattle.graph.specs.Lists.{each, list, below}
-use Rattle.graph.specs.Adding.{nodeNumber, decode-number}
+use Rattle.graph_laws.specs.Adding.{nodeNumber, decode-number}
 use Rattle.graph.specs.Nodes.{Node, Entries, nodes}
-use Rattle.graph.specs.NodeRecords.{stmtNumber}
+use Rattle.graph.specs.NodeWords.{stmtNumber}
 use Rattle.graph.specs.Graph.{Wired, wire, allSuccessors, predecessorsIn, returnTargets}
 use Rattle.graph.specs.Print.{spaced, joined, nodeRow, nodeRows, entryRow, backRow, printed}
 use Rattle.tables.specs.Columns.{callWord, wordOf}

@@ -11,7 +11,7 @@ use Rattle.graph.specs.Lists.{each}
 use Rattle.listings.specs.Listing.{Listing}
 use Rattle.graph.specs.Print.{spaced, joined, printed}
 use Rattle.passes.specs.GraphHeld.{GraphHeld}
-use Rattle.graph.specs.Adding.{decode}
+use Rattle.graph_laws.specs.Adding.{decode}
 use Rattle.tables.specs.Columns.{callWord, wordOf, succStart, succCount, predStart, predCount, holderOf, indexOf, lineOf, heldBy, pathIn, Holders, succPart, predPart}
 use Rattle.formatting.specs.Printing.{Puts, puts-none, puts-both, puts-is, spaced-snoc, pairText}
 

@@ -19,9 +19,9 @@ use Rattle.reader.specs.Tables.{padded-length, joined-length}
 use Rattle.listings.specs.WordTable.{words, first, wordIndex}
 use Rattle.listings.specs.ReadingRecords.{lines-length}
 use Rattle.graph.specs.Graph.{Role, returnTargets, stmtRole, simpleRole, roleOf, role, fallOf, fallFrom, wire, continuation, successors}
-use Rattle.graph.specs.GraphLaws.{nodeCount, fall-below}
-use Rattle.graph.specs.NodeLaws.{Below}
-use Rattle.graph.specs.NodeRecords.{stmtWord, stmtNumber}
+use Rattle.graph_laws.specs.GraphLaws.{nodeCount, fall-below}
+use Rattle.graph_laws.specs.NodeLaws.{Below}
+use Rattle.graph.specs.NodeWords.{stmtWord, stmtNumber}
 use Rattle.graph.specs.Nodes.{NodeStmt, simple, cond, Node, nodes, nodesBefore}
 use Rattle.graph.specs.Targets.{onFor, onNext, onSimple}
 use Rattle.wiring.specs.DemandLaws.{graph-held, nodes-total, held-succ, held-continuation}

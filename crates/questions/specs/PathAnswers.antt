@@ -15,7 +15,7 @@ use Rattle.listings.specs.Listing.{Lines}
 use Rattle.listings.specs.ListingText.{LinesOk}
 use Rattle.listings.specs.Records.{lineNumbers, lineRecs, recRows}
 use Rattle.graph.specs.Nodes.{Node, nodesBefore}
-use Rattle.graph.specs.NodeRecords.{stmtWord, stmtNumber}
+use Rattle.graph.specs.NodeWords.{stmtWord, stmtNumber}
 use Rattle.passes.specs.Compare.{eq-or, lt-or}
 use Rattle.passes.specs.LineEntries.{at-place}
 use Rattle.passes.specs.OpenerLaws.{in-range}

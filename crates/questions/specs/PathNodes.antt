@@ -11,9 +11,9 @@ use Rattle.listings.specs.Every.{All, all[], all∷, all-append}
 use Rattle.listings.specs.Listing.{Stmts, ∅, _▸_, branching, Lines, nolines, line, size, len, total, count}
 use Rattle.listings.specs.Records.{Rec, simpleRec, condRec, stmtRecs, lineRecs, recRow, recRows}
 use Rattle.listings.specs.RecordLaws.{rec-at}
-use Rattle.graph.specs.Members.{all-at, all-map}
+use Rattle.graph_laws.specs.Members.{all-at, all-map}
 use Rattle.graph.specs.Nodes.{NodeStmt, simple, cond, Node, allocate, lineEntry, nodesBefore}
-use Rattle.graph.specs.NodeLaws.{length-allocate, length-nodes}
+use Rattle.graph_laws.specs.NodeLaws.{length-allocate, length-nodes}
 use Rattle.tables.specs.Columns.{holderOf, indexOf}
 
 -- ---- no two nodes stand at one path

@@ -11,8 +11,8 @@ use Rattle.listings.specs.Listing.{Listing}
 use Rattle.listings.specs.WordTable.{wordIndex}
 use Rattle.listings.specs.Records.{lineRecs, recRows, padded}
 use Rattle.graph.specs.Nodes.{Node, nodes, nodesBefore}
-use Rattle.graph.specs.NodeLaws.{length-nodes}
-use Rattle.graph.specs.NodeRecords.{stmtNumber}
+use Rattle.graph_laws.specs.NodeLaws.{length-nodes}
+use Rattle.graph.specs.NodeWords.{stmtNumber}
 use Rattle.graph.specs.Graph.{wire}
 use Rattle.passes.specs.Compare.{lt-or}
 use Rattle.passes.specs.LineEntries.{at-place}

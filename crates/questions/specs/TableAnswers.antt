@@ -11,9 +11,9 @@ use Rattle.listings.specs.Listing.{Listing, total, count}
 use Rattle.listings.specs.ListingText.{InForm}
 use Rattle.listings.specs.Records.{padded}
 use Rattle.graph.specs.Nodes.{entryOf}
-use Rattle.graph.specs.NodeLaws.{Below, entry-fits}
+use Rattle.graph_laws.specs.NodeLaws.{Below, entry-fits}
 use Rattle.graph.specs.Graph.{wire, successors, predecessors, returnTargets}
-use Rattle.graph.specs.GraphLaws.{nodeCount, entry-ids}
+use Rattle.graph_laws.specs.GraphLaws.{nodeCount, entry-ids}
 use Rattle.graph.specs.Build.{graph}
 use Rattle.tables.specs.Columns.{succStart, succCount, predStart, predCount, NodesReadable, entriesIn}
 use Rattle.wiring.specs.GraphTables.{Sizes, Answered, answerOf, tableOf, countTable}

@@ -11,7 +11,7 @@ use Rattle.listings.specs.WordTable.{words, first, wordIndex}
 use Rattle.reader.specs.CodedRows.{wordNumber, condNumber}
 use Rattle.reader.specs.FillLaws.{word-number, cond-number}
 use Rattle.graph.specs.Nodes.{NodeStmt, simple, cond}
-use Rattle.graph.specs.NodeRecords.{stmtWord, stmtNumber}
+use Rattle.graph.specs.NodeWords.{stmtWord, stmtNumber}
 use Rattle.statements.specs.StatementAt.{branchingWord}
 use Rattle.questions.specs.PathNodes.{Branches}
 

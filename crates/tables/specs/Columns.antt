@@ -5,7 +5,7 @@ use mathlib.Core.List.{List, [], _∷_, _++_}
 use mathlib.Core.Option.{Option, none, some}
 use lib.Dec.{eqb}
 use lib.ListN.{length, getD, take, drop}
-use Rattle.graph.specs.Adding.{decode}
+use Rattle.graph_laws.specs.Adding.{decode}
 use Rattle.graph.specs.Nodes.{Entries}
 
 -- ---- a statement's record (12 entries), and where it falls (3 entries)

@@ -12,7 +12,7 @@ use Rattle.listings.specs.Listing.{Listing}
 use Rattle.listings.specs.Records.{padded}
 use Rattle.reader.specs.Tables.{drop-zeros}
 use Rattle.graph.specs.Graph.{wire, skipSteps, returnTargets, regionReturnEdges, returnEdges, successors}
-use Rattle.graph.specs.GraphLaws.{nodeCount, lists-ok}
+use Rattle.graph_laws.specs.GraphLaws.{nodeCount, lists-ok}
 use Rattle.graph.specs.Build.{edgeCount}
 use Rattle.passes.specs.Sets.{membersOf}
 use Rattle.passes.specs.ReturnSets.{setOf}

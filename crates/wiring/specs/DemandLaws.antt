@@ -16,16 +16,17 @@ use Rattle.listings.specs.Records.{padded, lineRecs}
 use Rattle.listings.specs.ReadingRecords.{numbers-count, lines-length}
 use Rattle.listings.specs.RecordLaws.{recs-length}
 use Rattle.reader.specs.Tables.{padded-length}
-use Rattle.graph.specs.Members.{Ascending, all-map, past}
-use Rattle.graph.specs.Adding.{nodeNumber, decode-number}
+use Rattle.graph.specs.Lists.{Ascending}
+use Rattle.graph_laws.specs.Members.{all-map, past}
+use Rattle.graph_laws.specs.Adding.{nodeNumber, decode-number}
 use Rattle.graph.specs.Nodes.{Node, Entries, nodes, entries, entriesBefore}
-use Rattle.graph.specs.NodeLaws.{length-nodes}
+use Rattle.graph_laws.specs.NodeLaws.{length-nodes}
 use Rattle.graph.specs.Graph.{returns, noNode, wire, role, roleOf, continuation, allSuccessors, returnTargets, successors, predecessors}
-use Rattle.graph.specs.GraphLaws.{nodeCount}
+use Rattle.graph_laws.specs.GraphLaws.{nodeCount}
 use Rattle.graph.specs.Build.{Capacity, graph, refused, edgeCount, fitted}
 use Rattle.graph.specs.Run.{State, run}
-use Rattle.graph.specs.ReturnLists.{Returns}
-use Rattle.graph.specs.Demand3.{IsReturn, demand3}
+use Rattle.graph.specs.SkippingPaths.{Returns}
+use Rattle.graph_laws.specs.Demand3.{IsReturn, demand3}
 use Rattle.passes.specs.EdgeTable.{startOf, length-rows, listRows, lists-at}
 use Rattle.passes.specs.Predecessors.{predsOf, preds-total, successor-lists, all-lists}
 use Rattle.passes.specs.ReturnTargets.{continuationEntry}

@@ -17,14 +17,14 @@ use Rattle.listings.specs.ListingText.{InForm, listingText}
 use Rattle.listings.specs.Read.{Answer, listing, refusal, read}
 use Rattle.listings.specs.Records.{handlerNumber, padded}
 use Rattle.graph.specs.Nodes.{Node}
-use Rattle.graph.specs.NodeRecords.{stmtNumber}
+use Rattle.graph.specs.NodeWords.{stmtNumber}
 use Rattle.graph.specs.Graph.{wire, role, returns, successors, predecessors, continuation, returnTargets}
-use Rattle.graph.specs.GraphLaws.{nodeCount}
-use Rattle.graph.specs.Members.{Ascending}
-use Rattle.graph.specs.ReturnLists.{Returns}
+use Rattle.graph_laws.specs.GraphLaws.{nodeCount}
+use Rattle.graph.specs.Lists.{Ascending}
+use Rattle.graph.specs.SkippingPaths.{Returns}
 use Rattle.graph.specs.Run.{State, run}
 use Rattle.graph.specs.Build.{Built, graph, refused, edgeCount, fitted, build, builtOf}
-use Rattle.graph.specs.Theorems.{accepted, in-form}
+use Rattle.graph_laws.specs.Theorems.{accepted, in-form}
 use Rattle.tables.specs.Columns.{wordOf, lineOf, pathIn, succPart, predPart, entriesIn}
 use Rattle.passes.specs.Room.{StmtsFit, room-fits, fits-room}
 use Rattle.passes.specs.ReturnTargets.{continuationEntry}

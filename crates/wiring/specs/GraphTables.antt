@@ -9,7 +9,7 @@ use Rattle.listings.specs.Bytes.{pick}
 use Rattle.listings.specs.Listing.{Listing, total, count}
 use Rattle.listings.specs.Records.{lineRecs, lineNumbers, recRows, argRows, handlerNumber, padded}
 use Rattle.graph.specs.Graph.{wire, allSuccessors, returnTargets}
-use Rattle.graph.specs.GraphLaws.{nodeCount}
+use Rattle.graph_laws.specs.GraphLaws.{nodeCount}
 use Rattle.graph.specs.Build.{Capacity, Built, graph, refused, edgeCount}
 use Rattle.passes.specs.LineEntries.{entryRows}
 use Rattle.passes.specs.Falls.{fallRows}

@@ -11,9 +11,9 @@ use Rattle.listings.specs.Listing.{Listing}
 use Rattle.listings.specs.Records.{padded, countsOf}
 use Rattle.reader.specs.Tables.{drop-zeros}
 use Rattle.graph.specs.Lists.{each, below}
-use Rattle.graph.specs.Distinct.{dist[], distinct-all, few}
+use Rattle.graph_laws.specs.Distinct.{dist[], distinct-all, few}
 use Rattle.graph.specs.Graph.{Wired, wire, skipSteps, allSuccessors, continuation, returnTargets}
-use Rattle.graph.specs.GraphLaws.{nodeCount, target-ids}
+use Rattle.graph_laws.specs.GraphLaws.{nodeCount, target-ids}
 use Rattle.graph.specs.Build.{edgeCount}
 use Rattle.passes.specs.Compare.{eq-or, lt-or}
 use Rattle.passes.specs.Clearing.{SetsCleared}

@@ -9,7 +9,7 @@ use tables::widths::wide;
 ghost use mathlib.Core.Path.{_≡_};
 ghost use Prim.Native.Nat.{_+_, _*_, _≤_, _<_};
 ghost use lib.ListN.{length, take};
-ghost use Rattle.graph.specs.EdgeBounds.{Ids};
+ghost use Rattle.graph_laws.specs.EdgeBounds.{Ids};
 ghost use Rattle.passes.specs.Sets.{bit};
 ghost use Rattle.passes.specs.ReturnSets.{setOf};
 ghost use Rattle.passes.specs.Closure.{Closed, RowIs, RowJoined, RowsJoined, RowReached, RowListed};

@@ -1,7 +1,7 @@
 // What later nodes add to a node's list: where the closer of its frame falls, and where the ELSEs of a DOIF fall.
 ghost use mathlib.Core.Path.{_≡_};
 ghost use lib.ListN.{length};
-ghost use Rattle.graph.specs.Adding.{Added};
+ghost use Rattle.graph_laws.specs.Adding.{Added};
 ghost use Rattle.passes.specs.Late.{FitsPart, fallFrom, FallFitsFrom, ElsesFit, ElsesAdded, DoifFits, DoifAdded, closerFrom, CloserFits, joinsWord, LateReady, LateAdded};
 use crate::growing::add_node;
 use passes::moves::DOIF;

@@ -13,7 +13,7 @@ ghost use mathlib.Core.Path.{_≡_};
 ghost use Prim.Native.Nat.{_+_, _*_, _≤_};
 ghost use lib.ListN.{length, take, getD};
 ghost use Rattle.graph.specs.Lists.{each};
-ghost use Rattle.graph.specs.Adding.{decode};
+ghost use Rattle.graph_laws.specs.Adding.{decode};
 ghost use Rattle.passes.specs.Growing.{Grows};
 ghost use Rattle.passes.specs.NextBodies.{PoppedRoom};
 ghost use Rattle.passes.specs.AddRoom.{RoomToAdd};

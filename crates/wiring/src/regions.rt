@@ -16,7 +16,7 @@ ghost use Prim.Native.Nat.{_+_, _*_, _≤_, _<_};
 ghost use lib.ListN.{length};
 ghost use Rattle.listings.specs.Every.{All};
 ghost use Rattle.graph.specs.Lists.{each};
-ghost use Rattle.graph.specs.Adding.{decode};
+ghost use Rattle.graph_laws.specs.Adding.{decode};
 ghost use Rattle.passes.specs.Sets.{oneIf, Put};
 ghost use Rattle.tables.specs.Columns.{callWord, wordOf};
 ghost use Rattle.passes.specs.Regions.{callsBelow, backFrom, CallFits, EntryCalls, SetAdded, ListedJoined, EntryJoined, EntriesJoined, EntriesReady, RegionsReady, RegionReturns};

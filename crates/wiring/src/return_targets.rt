@@ -5,7 +5,7 @@ use tables::widths::wide;
 ghost use mathlib.Core.Path.{_≡_};
 ghost use Prim.Native.Nat.{_+_, _*_, _≤_, _<_};
 ghost use lib.ListN.{length};
-ghost use Rattle.graph.specs.Adding.{decode};
+ghost use Rattle.graph_laws.specs.Adding.{decode};
 ghost use Rattle.passes.specs.ReturnTargets.{continuationNumber, FallsFit, Marking, TargetsAdded, TargetsListed};
 
 // Where node i continues if it is a call: one more than the node, or 0.

@@ -7,7 +7,7 @@ ghost use Prim.Native.Nat.{ℕ, _≤_, _<_};
 ghost use lib.ListN.{length, replicate};
 ghost use Rattle.listings.specs.Every.{All};
 ghost use Rattle.graph.specs.Lists.{each};
-ghost use Rattle.graph.specs.Adding.{decode};
+ghost use Rattle.graph_laws.specs.Adding.{decode};
 ghost use Rattle.passes.specs.Prepared.{linkEntries};
 ghost use Rattle.passes.specs.Regions.{TargetsFit};
 ghost use Rattle.passes.specs.Spans.{SpansGrow, Spanned, firstOf};

@@ -1,7 +1,7 @@
 -- `give_fall`: nothing, or a list of one. Assumes nothing.
 use Prim.Native.Nat.{_-_}
 use mathlib.Core.List.{[], _∷_}
-use Rattle.graph.specs.Adding.{decode}
+use Rattle.graph_laws.specs.Adding.{decode}
 use Rattle.frame_slices.specs.FrameSlice.{told-as, decode-none, decode-some}
 use borrow.Author.Needs.{needs}
 use Rattle.frame_slices.proofs.slices.give_fall.Statement.{statement}

@@ -9,7 +9,7 @@ use lib.Dec.{eqb}
 use lib.ListN.{length, take, getD}
 use lib.Seq.{take-suc, take-all}
 use Rattle.graph.specs.Lists.{has}
-use Rattle.graph.specs.ListLaws.{has-end}
+use Rattle.graph_laws.specs.ListLaws.{has-end}
 use Rattle.tables.proofs.lists.holds.Statement.{statement}
 use Rattle.tables.proofs.lists.holds.Tie as tie
 

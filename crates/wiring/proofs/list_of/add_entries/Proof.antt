@@ -5,7 +5,7 @@ use mathlib.Core.Path.{_≡_, refl}
 use Prim.Native.Nat.{_-_, _≤_}
 use lib.ListN.{length, take, drop}
 use Rattle.graph.specs.Lists.{each}
-use Rattle.graph.specs.Adding.{decode}
+use Rattle.graph_laws.specs.Adding.{decode}
 use Rattle.passes.specs.Growing.{Grows, each-start, each-on, each-end}
 use Rattle.passes.specs.EntryOrder.{Rises, LastAdded, last-start, entry-room, rises-next, entries-end}
 use Rattle.wiring.proofs.list_of.add_entries.Statement.{statement}

@@ -5,7 +5,7 @@ use mathlib.Core.Path.{_≡_, refl}
 use Prim.Native.Nat.{_-_, _≤_}
 use lib.ListN.{length, take}
 use Rattle.graph.specs.Lists.{each}
-use Rattle.graph.specs.Adding.{decode}
+use Rattle.graph_laws.specs.Adding.{decode}
 use Rattle.passes.specs.Growing.{Grows, each-start, each-on, each-end}
 use Rattle.passes.specs.AddRoom.{room-one, room-each}
 use Rattle.wiring.proofs.list_of.add_targets.Statement.{statement}

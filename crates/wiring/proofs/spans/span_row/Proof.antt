@@ -6,7 +6,7 @@ use native.Mathlib.Omega.{arith}
 use lib.ListN.{length, take}
 use lib.Seq.{take-all}
 use Rattle.graph.specs.Lists.{each}
-use Rattle.graph.specs.Adding.{decode}
+use Rattle.graph_laws.specs.Adding.{decode}
 use Rattle.passes.specs.RegionLaws.{all-getD}
 use Rattle.passes.specs.Spans.{SpansGrow, row-start, row-more}
 use Rattle.wiring.proofs.spans.span_row.Statement.{statement}

@@ -10,15 +10,15 @@ use Rattle.listings.specs.Listing.{Listing}
 use Rattle.listings.specs.ListingText.{InForm, listingText}
 use Rattle.listings.specs.Read.{listing, read}
 use Rattle.listings.specs.RoundTrip.{in-form-accepted, accepted-in-form}
 use Rattle.graph.specs.Lists.{addAll}
 use Rattle.graph.specs.Nodes.{nodes, entries}
 use Rattle.graph.specs.Targets.{dispatchTargets}
 use Rattle.graph.specs.Edges.{ends}
 use Rattle.graph.specs.Graph.{Wired, wire, base}
-use Rattle.graph.specs.GraphLaws.{ListsOk, lists-ok}
-use Rattle.graph.specs.Demand3.{Demand3, demand3}
-use Rattle.graph.specs.PerNode.{Fact, facts, noOpeners, perNode}
-use Rattle.graph.specs.PerNodeLaws.{per-node}
+use Rattle.graph_laws.specs.GraphLaws.{ListsOk, lists-ok}
+use Rattle.graph_laws.specs.Demand3.{Demand3, demand3}
+use Rattle.graph_laws.specs.PerNode.{Fact, facts, noOpeners, perNode}
+use Rattle.graph_laws.specs.PerNodeLaws.{per-node}
 
 -- the facts of a listing's nodes: what each meets on the stacks
 unfoldable pub factsOf : Listing → List Fact

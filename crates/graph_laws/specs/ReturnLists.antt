@@ -8,24 +8,13 @@ use mathlib.Core.Option.{Option, none, some}
 use native.Mathlib.Omega.{arith}
 use lib.Dec.{T}
 use lib.ListN.{length, getElem?}
-use Rattle.graph.specs.Lists.{each, list, below, ascending}
-use Rattle.graph.specs.Members.{Ascending, mem-each, each-mem, mem-below, ascending-asc, ascending-mem, mem-ascending, past}
+use Rattle.graph.specs.SkippingPaths.{SkippingPath, Returns}
+use Rattle.graph.specs.Lists.{each, list, below, ascending, Ascending}
+use Rattle.graph_laws.specs.Members.{mem-each, each-mem, mem-below, ascending-asc, ascending-mem, mem-ascending, past}
 use Rattle.listings.specs.Listing.{Listing}
 use Rattle.graph.specs.Nodes.{Node}
 use Rattle.graph.specs.Reach.{Reach, here, on, Reach·join, reaches, reaches-exact}
 use Rattle.graph.specs.Graph.{roleOf, Role, call, returns, forgets, steps, noNode, Wired, wire, role, fallFrom, base, continuationBy, continuation, calleesBy, callees, skipStepsBy, skipSteps, someReaches, returnFrom, regionReturnEdges, returnTargets, returnEdges, successorsBy, successorsIn, successors}
-
--- a skipping path
-abbrev pub SkippingPath : Wired → ℕ → ℕ → Type 0
-SkippingPath W a b = Reach (skipSteps W) a b
-
--- k is the continuation of a call that has an existing target with a skipping path from its entry to r
-pub record Returns (W : Wired) (r k : ℕ) : Type 0 where
-  pub caller : ℕ
-  pub callee : ℕ
-  pub continues : List·Memᴰ k (continuation W caller)
-  pub exists : List·Memᴰ callee (callees W caller)
-  pub skips : SkippingPath W callee r
 
 either : (x y : Bool) → T (elim x [ true ↦ true | false ↦ y ]) → T x ⊎ T y
 either true y t = inl tt

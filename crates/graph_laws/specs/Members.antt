@@ -10,12 +10,7 @@ use native.Mathlib.Decide.{ℕ-discrete}
 use lib.Dec.{T, T-not, eqb, ltb, eqb→eq, eqb-refl, ltb→lt, nltb→le}
 use lib.ListN.{length, getElem?}
 use Rattle.listings.specs.Every.{All, all[], all∷, all-append}
-use Rattle.graph.specs.Lists.{each, list, below, insertBy, insert, ascending}
-
--- each element is below all after it
-pub data Ascending : List ℕ → Type 0 where
-  asc[] : Ascending []
-  asc∷ : {a : ℕ} {l : List ℕ} → ((b : ℕ) → List·Memᴰ b l → a < b) → Ascending l → Ascending (a ∷ l)
+use Rattle.graph.specs.Lists.{each, list, below, insertBy, insert, ascending, Ascending, asc[], asc∷}
 
 pub all-map : {A : Type 0} {P Q : A → Type 0} → ((a : A) → P a → Q a) → {l : List A} → All P l → All Q l
 all-map f all[] = all[]

@@ -7,15 +7,16 @@ use mathlib.Core.Logic.{_⊎_, inl, inr, _↔_}
 use mathlib.Core.Option.{Option, none, some}
 use native.Mathlib.Omega.{arith}
 use lib.ListN.{length, getElem?}
 use Rattle.graph.specs.Lists.{list}
 use Rattle.listings.specs.Every.{All, all[], all∷}
-use Rattle.graph.specs.Members.{all-map}
+use Rattle.graph_laws.specs.Members.{all-map}
 use Rattle.listings.specs.Listing.{Listing}
 use Rattle.graph.specs.Nodes.{Entries}
 use Rattle.graph.specs.Reach.{Reach, here, on}
 use Rattle.graph.specs.Graph.{Role, call, returns, forgets, steps, noNode, Wired, wire, role, fallFrom, base, continuationBy, continuation, calleesBy, callees, skipStepsBy, skipSteps, regionReturnEdges, returnEdges, successorsBy, successorsIn, successors}
 use Rattle.graph.specs.Run.{State, toward, mayFall, closeCall, movesBy, moves, runFrom, run}
-use Rattle.graph.specs.ReturnLists.{SkippingPath, Returns, ReturnList, return-list}
+use Rattle.graph.specs.SkippingPaths.{SkippingPath, Returns}
+use Rattle.graph_laws.specs.ReturnLists.{ReturnList, return-list}
 
 abbrev pub IsReturn : Role → Type 0
 IsReturn returns = Unit {0}

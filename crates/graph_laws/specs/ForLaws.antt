@@ -6,9 +6,9 @@ use mathlib.Core.Bool.{Bool, true, false}
 use mathlib.Core.Option.{Option, none, some}
 use Rattle.listings.specs.Bytes.{same, pick}
 use Rattle.listings.specs.Listing.{Name, Slot}
 use Rattle.graph.specs.Lists.{each, list}
 use Rattle.graph.specs.Edges.{ForFrame, ForMove, keepFors, pushFor, popFors, findFor, underOr, foundOr, popFor, popped, left, forsAfter, frameBody, poppedBodies}
-use Rattle.graph.specs.PerNode.{findOpener, openersUnder, openerFound, popOpener, openersPopped, openersLeft, forOpenersAfter, pops}
+use Rattle.graph_laws.specs.PerNode.{findOpener, openersUnder, openerFound, popOpener, openersPopped, openersLeft, forOpenersAfter, pops}
 
 pub each-append : {A B : Type 0} (f : A → List B) (a b : List A) → each f (a ++ b) ≡ each f a ++ each f b
 unfolding each

@@ -11,16 +11,16 @@ use lib.Dec.{T}
 use lib.ListN.{length, getElem?, length-append}
 use Rattle.listings.specs.Bytes.{pick}
 use Rattle.listings.specs.Listing.{Listing, total}
-use Rattle.graph.specs.Lists.{has, addAll, each, list, below, ascending}
+use Rattle.graph.specs.Lists.{has, addAll, each, list, below, ascending, Ascending, asc[], asc∷}
 use Rattle.listings.specs.Every.{All, all[], all∷, all-append}
-use Rattle.graph.specs.Members.{all-mem, all-each, all-at, Ascending, asc[], asc∷, ascending-asc, ascending-mem, past}
+use Rattle.graph_laws.specs.Members.{all-mem, all-each, all-at, ascending-asc, ascending-mem, past}
 use Rattle.graph.specs.Nodes.{Node, Entries, entries, nodes, entriesBefore, nodesBefore}
-use Rattle.graph.specs.NodeLaws.{Below, NodeFits, EntryFits, length-nodes, nodes-fit, entries-fit}
-use Rattle.graph.specs.EdgeBounds.{Ids, list-ids, edges-to, ends-ids, addAll-ids}
-use Rattle.graph.specs.Distinct.{Distinct, dist[], few, distinct-all, distinct-ascending}
+use Rattle.graph_laws.specs.NodeLaws.{Below, NodeFits, EntryFits, length-nodes, nodes-fit, entries-fit}
+use Rattle.graph_laws.specs.EdgeBounds.{Ids, list-ids, edges-to, ends-ids, addAll-ids}
+use Rattle.graph_laws.specs.Distinct.{Distinct, dist[], few, distinct-all, distinct-ascending}
 use Rattle.graph.specs.Edges.{edges, ends}
 use Rattle.graph.specs.Reach.{has→mem, mem→has}
 use Rattle.graph.specs.Graph.{Role, call, returns, forgets, steps, noNode, Wired, wire, roleOf, role, fallOf, fallFrom, base, continuationBy, continuation, returnFrom, regionReturnEdges, returnTargets, returnEdges, successorsBy, successorsIn, successors, allSuccessors, predecessorsIn, predecessors, someReaches, skipSteps, callees}
 
 -- the node count
 abbrev pub nodeCount : Listing → ℕ

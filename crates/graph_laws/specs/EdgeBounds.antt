@@ -7,14 +7,14 @@ use mathlib.Core.Option.{Option, none, some}
 use lib.Dec.{eqb}
 use Rattle.listings.specs.Bytes.{same, pick}
 use Rattle.listings.specs.Listing.{Name, Tier, static, framed, dispatched, Mark, orphan, Slot, Simple, goto, gosub, return, run, runto, ongoto, ongosub, for, next, repeat, loop, until, endloop, exit, exitif, doif, else, done, clr, stop, any}
 use Rattle.graph.specs.Lists.{has, add, addAll, each, list}
 use Rattle.listings.specs.Every.{All, all[], all∷, all-append}
-use Rattle.graph.specs.Members.{all-each}
+use Rattle.graph_laws.specs.Members.{all-each}
 use Rattle.graph.specs.Nodes.{BranchTarget, toLine, toNode, falls, NodeStmt, simple, cond, Node, Entries, entryOf}
-use Rattle.graph.specs.NodeLaws.{Below, BelowTarget, BelowStmt, NodeFits, EntryFits, entry-fits}
+use Rattle.graph_laws.specs.NodeLaws.{Below, BelowTarget, BelowStmt, NodeFits, EntryFits, entry-fits}
 use Rattle.graph.specs.Targets.{targetEntries, firstEntry, allEntries, branchEdges, onFor, onNext, onSimple, dispatchTarget, dispatchTargets, selectable, orphanTargets, orphanEdges}
-use Rattle.graph.specs.TargetLaws.{on-for, on-next, on-simple}
+use Rattle.graph_laws.specs.TargetLaws.{on-for, on-next, on-simple}
 use Rattle.graph.specs.Edges.{ForFrame, Frame, Stacks, emptyStacks, ForMove, keepFors, pushFor, popFors, Move, stays, opens, closes, joins, Moves, nodeMoves, findFor, underOr, foundOr, popFor, popped, left, forsAfter, framesAfter, stacksAfter, frameBody, poppedBodies, closedBody, closerEdges, ownSimple, own, Edge, fromNode, toFall, wired, orphans, edges, ends, sent, loopStack, doStack}
 
 -- node ids below n
 abbrev pub Ids : ℕ → List ℕ → Type 0

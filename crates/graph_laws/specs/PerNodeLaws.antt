@@ -9,15 +9,15 @@ use native.Mathlib.Nat.{add-zero, zero-add}
 use lib.ListN.{length, getElem?}
 use borrow.Author.Tests.{ne-eqb, eq-eqb}
 use Rattle.listings.specs.Listing.{Name, Simple, goto, gosub, return, run, runto, ongoto, ongosub, for, next, repeat, loop, until, endloop, exit, exitif, doif, else, done, clr, stop, any}
 use Rattle.graph.specs.Lists.{each, list}
 use Rattle.graph.specs.Nodes.{NodeStmt, simple, cond, Node, Entries}
 use Rattle.graph.specs.Targets.{dispatchTargets, orphanEdges}
 use Rattle.listings.specs.Every.{All, all[], all∷}
 use Rattle.graph.specs.Edges.{Frame, Stacks, emptyStacks, Move, stays, opens, closes, joins, Moves, onFors, onLoops, onDos, noMoves, movesOf, nodeMoves, framesAfter, stacksAfter, poppedBodies, closedBody, own, Stack, loopStack, doStack, sent, Edge, fromNode, toFall, wired, orphans, edges, ends}
-use Rattle.graph.specs.PerNode.{Openers, noOpeners, openersAfter, after, meets, pops, Fact, factOf, facts, moveOn, metOn, fallOf, fallAt, bodyMet, perNode}
-use Rattle.graph.specs.EdgeLaws.{Outside, out-head, out-tail, ends-append, ends-own, ends-other}
-use Rattle.graph.specs.StackLaws.{openerOf, all-after, openers-after, desc[], Unknown, unknown-after, never-sent, Turns, end, turn, idle, late-law}
-use Rattle.graph.specs.ForLaws.{frameAt, fors-after, bodies-law}
+use Rattle.graph_laws.specs.PerNode.{Openers, noOpeners, openersAfter, after, meets, pops, Fact, factOf, facts, moveOn, metOn, fallOf, fallAt, bodyMet, perNode}
+use Rattle.graph_laws.specs.EdgeLaws.{Outside, out-head, out-tail, ends-append, ends-own, ends-other}
+use Rattle.graph_laws.specs.StackLaws.{openerOf, all-after, openers-after, desc[], Unknown, unknown-after, never-sent, Turns, end, turn, idle, late-law}
+use Rattle.graph_laws.specs.ForLaws.{frameAt, fors-after, bodies-law}
 
 pub length-facts : (i : ℕ) (ns : List Node) (st : Openers) → length (facts i ns st) ≡ length ns
 unfolding facts

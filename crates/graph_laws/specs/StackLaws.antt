@@ -11,12 +11,12 @@ use lib.Dec.{eqb}
 use lib.ListN.{length, getElem?}
 use borrow.Author.Tests.{ne-eqb, eq-eqb, eqb-false}
 use Rattle.listings.specs.Bytes.{pick}
 use Rattle.graph.specs.Lists.{list}
 use Rattle.listings.specs.Every.{All, all[], all∷}
-use Rattle.graph.specs.Members.{all-map, all-at}
+use Rattle.graph_laws.specs.Members.{all-map, all-at}
 use Rattle.graph.specs.Edges.{Frame, Move, stays, opens, closes, joins, nodeMoves, framesAfter, Stack, loopStack, doStack, jumpsOr, sent, Edge, toFall, ends}
-use Rattle.graph.specs.PerNode.{Met, nothing, closing, joining, meets, openersAfter, Fact, moveOn, metOn, isClosing, isJoining, fallsWhere, someWhere, closerFall, doifFalls, late}
-use Rattle.graph.specs.EdgeLaws.{ends-append, Outside, out-head, out-tail, Never, Once, never[], never-one, once-one, never-snoc, once-snoc, once-new, never-or, once-or, turn-never, turn-once}
+use Rattle.graph_laws.specs.PerNode.{Met, nothing, closing, joining, meets, openersAfter, Fact, moveOn, metOn, isClosing, isJoining, fallsWhere, someWhere, closerFall, doifFalls, late}
+use Rattle.graph_laws.specs.EdgeLaws.{ends-append, Outside, out-head, out-tail, Never, Once, never[], never-one, once-one, never-snoc, once-snoc, once-new, never-or, once-or, turn-never, turn-once}
 
 lt-eqb : (i k : ℕ) → i < k → eqb i k ≡ false
 lt-eqb i k h = ne-eqb i k (λ e. omega arith)

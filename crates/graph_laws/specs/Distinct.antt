@@ -8,10 +8,9 @@ use borrow.Author.Tests.{eqb-true, eqb-false, ne-eqb}
 use lib.Dec.{T, eqb}
 use lib.ListN.{length}
 use Rattle.listings.specs.Bytes.{pick}
-use Rattle.graph.specs.Lists.{has, add, addAll}
+use Rattle.graph.specs.Lists.{has, add, addAll, Ascending, asc[], asc∷}
 use Rattle.listings.specs.Every.{All, all[], all∷}
-use Rattle.graph.specs.Members.{Ascending, asc[], asc∷}
 use Rattle.graph.specs.Reach.{has→mem}
 
 pub data Distinct : List ℕ → Type 0 where
   dist[] : Distinct []

@@ -5,20 +5,13 @@ use mathlib.Core.List.{List, [], _∷_, _++_}
 use mathlib.Core.Option.{Option, none, some}
 use native.Mathlib.Omega.{arith}
 use lib.ListN.{length, getElem?}
+use Rattle.graph.specs.NodeWords.{stmtWord, stmtNumber}
 use Rattle.listings.specs.Listing.{Simple, CondWord, BranchForm, to, stmts, absent, Stmts, ∅, _▸_, branching, Lines, nolines, line, size, len, total, count}
 use Rattle.listings.specs.ListingText.{simpleWord, condWord}
 use Rattle.listings.specs.WordTable.{wordIndex}
 use Rattle.listings.specs.Records.{Rec, argsOf, detailOf, branchNumber, branchLine, simpleRec, condRec, stmtRecs, lineRecs}
-use Rattle.graph.specs.NodeLaws.{length-allocate, length-nodes}
+use Rattle.graph_laws.specs.NodeLaws.{length-allocate, length-nodes}
 use Rattle.graph.specs.Nodes.{NodeStmt, simple, cond, Node, branchTarget, allocate, lineEntry, nodesBefore}
-
--- the opening word of a node's statement, and its number in the table of the 28
-unfoldable pub stmtWord : NodeStmt → List ℕ
-stmtWord (simple o) = simpleWord o
-stmtWord (cond w a b) = condWord w
-
-unfoldable pub stmtNumber : NodeStmt → ℕ
-stmtNumber s = wordIndex (stmtWord s)
 
 -- a branch by its form, number and the node where its statements begin and end
 pub record BranchIs (form number from next : ℕ) (t : BranchForm) (a : Stmts) : Type 0 where

@@ -1,0 +1,17 @@
+pub mod ListLaws
+pub mod Adding
+pub mod Members
+pub mod Distinct
+pub mod NodeLaws
+pub mod NodeRecords
+pub mod TargetLaws
+pub mod EdgeBounds
+pub mod GraphLaws
+pub mod ReturnLists
+pub mod Demand3
+pub mod PerNode
+pub mod EdgeLaws
+pub mod StackLaws
+pub mod ForLaws
+pub mod PerNodeLaws
+pub mod Theorems
