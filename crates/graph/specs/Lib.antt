@@ -5,8 +5,8 @@ pub mod Targets
 pub mod Edges
 pub mod Reach
 pub mod Graph
-pub mod SkippingPaths
 pub mod Run
+pub mod Demand3
 pub mod Print
 pub mod Build
 pub mod Opened

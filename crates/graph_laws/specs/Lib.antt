@@ -8,10 +8,11 @@ pub mod TargetLaws
 pub mod EdgeBounds
 pub mod GraphLaws
 pub mod ReturnLists
-pub mod Demand3
+pub mod RunLaws
 pub mod PerNode
 pub mod EdgeLaws
 pub mod StackLaws
 pub mod ForLaws
 pub mod PerNodeLaws
+pub mod Numbers
 pub mod Theorems

@@ -8,7 +8,7 @@ use mathlib.Core.Option.{Option, none, some}
 use native.Mathlib.Omega.{arith}
 use lib.Dec.{T}
 use lib.ListN.{length, getElem?}
-use Rattle.graph.specs.SkippingPaths.{SkippingPath, Returns}
+use Rattle.graph.specs.Demand3.{SkippingPath, Returns}
 use Rattle.graph.specs.Lists.{each, list, below, ascending, Ascending}
 use Rattle.graph_laws.specs.Members.{mem-each, each-mem, mem-below, ascending-asc, ascending-mem, mem-ascending, past}
 use Rattle.listings.specs.Listing.{Listing}

@@ -9,7 +9,7 @@ use Rattle.listings.specs.Bytes.{pick}
 use Rattle.listings.specs.Every.{All}
 use Rattle.graph.specs.Lists.{has, each}
 use Rattle.graph.specs.Graph.{Wired, continuation, callees, skipSteps, regionReturnEdges}
-use Rattle.graph.specs.SkippingPaths.{SkippingPath}
+use Rattle.graph.specs.Demand3.{SkippingPath}
 use Rattle.passes.specs.Walk.{Reached, Stored, storedList}
 use Rattle.passes.specs.Spans.{Spanned}
 use Rattle.passes.specs.Sets.{In, oneIf, membersOf}

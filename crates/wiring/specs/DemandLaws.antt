@@ -25,8 +25,8 @@ use Rattle.graph.specs.Graph.{returns, noNode, wire, role, roleOf, continuation
 use Rattle.graph_laws.specs.GraphLaws.{nodeCount}
 use Rattle.graph.specs.Build.{Capacity, graph, refused, edgeCount, fitted}
 use Rattle.graph.specs.Run.{State, run}
-use Rattle.graph.specs.SkippingPaths.{Returns}
-use Rattle.graph_laws.specs.Demand3.{IsReturn, demand3}
+use Rattle.graph.specs.Demand3.{Returns}
+use Rattle.graph_laws.specs.RunLaws.{IsReturn, demand3}
 use Rattle.passes.specs.EdgeTable.{startOf, length-rows, listRows, lists-at}
 use Rattle.passes.specs.Predecessors.{predsOf, preds-total, successor-lists, all-lists}
 use Rattle.passes.specs.ReturnTargets.{continuationEntry}

@@ -21,7 +21,7 @@ use Rattle.graph.specs.NodeWords.{stmtNumber}
 use Rattle.graph.specs.Graph.{wire, role, returns, successors, predecessors, continuation, returnTargets}
 use Rattle.graph_laws.specs.GraphLaws.{nodeCount}
 use Rattle.graph.specs.Lists.{Ascending}
-use Rattle.graph.specs.SkippingPaths.{Returns}
+use Rattle.graph.specs.Demand3.{Returns}
 use Rattle.graph.specs.Run.{State, run}
 use Rattle.graph.specs.Build.{Built, graph, refused, edgeCount, fitted, build, builtOf}
 use Rattle.graph_laws.specs.Theorems.{accepted, in-form}

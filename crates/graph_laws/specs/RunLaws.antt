@@ -1,4 +1,4 @@
--- Demand 3: every RETURN of every run lands in the RETURN's list. Assumes nothing.
+-- Demand 3, proved of the lists that the rules give. Assumes nothing.
 use Prim.Native.Nat.{ℕ, zero, suc, _<_, _≤_}
 use mathlib.Core.Path.{_≡_, refl, subst, sym, _∙_}
 use mathlib.Core.List.{List, [], _∷_, _++_, map, List·Memᴰ, List·Memᴰ·head, List·Memᴰ·tail, List·Memᴰ·not-nil, List·Memᴰ·append-cases, List·Memᴰ·cases-cons}
@@ -15,19 +15,8 @@ use Rattle.graph.specs.Nodes.{Entries}
 use Rattle.graph.specs.Reach.{Reach, here, on}
 use Rattle.graph.specs.Graph.{Role, call, returns, forgets, steps, noNode, Wired, wire, role, fallFrom, base, continuationBy, continuation, calleesBy, callees, skipStepsBy, skipSteps, regionReturnEdges, returnEdges, successorsBy, successorsIn, successors}
 use Rattle.graph.specs.Run.{State, toward, mayFall, closeCall, movesBy, moves, runFrom, run}
-use Rattle.graph.specs.SkippingPaths.{SkippingPath, Returns}
+use Rattle.graph.specs.Demand3.{SkippingPath, Returns, Demand3}
 use Rattle.graph_laws.specs.ReturnLists.{ReturnList, return-list}
-
-abbrev pub IsReturn : Role → Type 0
-IsReturn returns = Unit {0}
-IsReturn (call m ts) = ⊥
-IsReturn forgets = ⊥
-IsReturn steps = ⊥
-IsReturn noNode = ⊥
-
--- a step from a RETURN ends on a node of its list
-abbrev pub Lands : Listing → State × State → Type 0
-Lands L d = IsReturn (role (wire L) (d .0 .node)) → List·Memᴰ (d .1 .node) (successors L (d .0 .node))
 
 map-mem : {A B : Type 0} (f : A → B) {b : B} (l : List A) → List·Memᴰ b (map f l) → (a : A) × List·Memᴰ a l × (b ≡ f a)
 map-mem f [] m = absurd (List·Memᴰ·not-nil m)
@@ -73,14 +62,14 @@ module _ (W : Wired) where
       → ((m : ℕ) → List·Memᴰ m (calleesBy (W .entries) q) → List·Memᴰ m (callees W n))
       → ((m : ℕ) → List·Memᴰ m (skipStepsBy q e b) → Inv m cs)
       → {t : State} → List·Memᴰ t (movesBy q (W .entries) e b (continuation W) (record { node = n; calls = cs }))
-      → Inv (t .node) (t .calls) × (IsReturn q → Returns W n (t .node))
+      → Inv (t .node) (t .calls) × (q ≡ returns → Returns W n (t .node))
   unfolding movesBy skipStepsBy closeCall
   moves-ok (call m ts) n cs e b v g grow {t} mem =
       elim (List·Memᴰ·append-cases (toward (n ∷ cs) (calleesBy (W .entries) (call m ts))) mem) [
         | inl i ↦ let d = toward-mem (n ∷ cs) (calleesBy (W .entries) (call m ts)) i in
-            (subst (λ (s : State). Inv (s .node) (s .calls)) (sym (d .2)) ((d .0, g (d .0) (d .1), here), v), λ x. absurd x)
+            (subst (λ (s : State). Inv (s .node) (s .calls)) (sym (d .2)) ((d .0, g (d .0) (d .1), here), v), λ x. absurd (let z : _≡_ {A = ℕ} 0 1 = cc in omega arith))
         | inr i ↦ let d = toward-mem cs (mayFall m e) i in
-            (subst (λ (s : State). Inv (s .node) (s .calls)) (sym (d .2)) (grow (d .0) (falling m e (d .0) (d .1))), λ x. absurd x)
+            (subst (λ (s : State). Inv (s .node) (s .calls)) (sym (d .2)) (grow (d .0) (falling m e (d .0) (d .1))), λ x. absurd (let z : _≡_ {A = ℕ} 0 1 = cc in omega arith))
       ]
   moves-ok returns n [] e b v g grow mem = absurd (List·Memᴰ·not-nil mem)
   moves-ok returns n (c ∷ cs) e b v g grow {t} mem =
@@ -90,14 +79,14 @@ module _ (W : Wired) where
       )
   moves-ok forgets n cs e b v g grow {t} mem =
       let d = toward-mem [] b mem in
-      (subst (λ (s : State). Inv (s .node) (s .calls)) (sym (d .2)) tt, λ x. absurd x)
+      (subst (λ (s : State). Inv (s .node) (s .calls)) (sym (d .2)) tt, λ x. absurd (let z : _≡_ {A = ℕ} 0 1 = cc in omega arith))
   moves-ok steps n cs e b v g grow {t} mem =
       let d = toward-mem cs b mem in
-      (subst (λ (s : State). Inv (s .node) (s .calls)) (sym (d .2)) (grow (d .0) (d .1)), λ x. absurd x)
+      (subst (λ (s : State). Inv (s .node) (s .calls)) (sym (d .2)) (grow (d .0) (d .1)), λ x. absurd (let z : _≡_ {A = ℕ} 0 1 = cc in omega arith))
   moves-ok noNode n cs e b v g grow mem = absurd (List·Memᴰ·not-nil mem)
 
   step-ok : (s t : State) → Inv (s .node) (s .calls) → List·Memᴰ t (moves W s)
-      → Inv (t .node) (t .calls) × (IsReturn (role W (s .node)) → Returns W (s .node) (t .node))
+      → Inv (t .node) (t .calls) × (role W (s .node) ≡ returns → Returns W (s .node) (t .node))
   unfolding moves callees skipSteps
   step-ok s t v m =
       moves-ok (role W (s .node)) (s .node) (s .calls) (fallFrom W (s .node)) (base W (s .node)) v
@@ -105,7 +94,7 @@ module _ (W : Wired) where
 
   -- what is claimed of one step, before it is put in terms of the lists
   abbrev Closes : State × State → Type 0
-  Closes d = IsReturn (role W (d .0 .node)) → Returns W (d .0 .node) (d .1 .node)
+  Closes d = role W (d .0 .node) ≡ returns → Returns W (d .0 .node) (d .1 .node)
 
   runs-ok : (cs : List ℕ) (s : State) → Inv (s .node) (s .calls) → All Closes (runFrom W s cs)
   unfolding runFrom
@@ -117,22 +106,11 @@ module _ (W : Wired) where
       go none e rest = all[]
       go (some t) e rest = let w = step-ok s t v (pick-mem (moves W s) c e) in all∷ (w .1) (rest t (w .0))
 
-is-return : (q : Role) → IsReturn q → q ≡ returns
-is-return returns t = refl
-is-return (call m ts) t = absurd t
-is-return forgets t = absurd t
-is-return steps t = absurd t
-is-return noNode t = absurd t
-
-pub record Demand3 (L : Listing) : Type 0 where
-  pub lands : (start : ℕ) (choices : List ℕ) → All (Lands L) (run L start choices)
-  pub lists : (r : ℕ) → IsReturn (role (wire L) r) → ReturnList L r
-
-pub demand3 : (L : Listing) → L .handlers ≡ false → Demand3 L
+pub demand3 : (L : Listing) → L .handlers ≡ false → Demand3 L (successors L)
 unfolding run
 demand3 L h =
     record {
-      lands = λ i cs. all-map (λ d c r. return-list L h (d .0 .node) (is-return (role (wire L) (d .0 .node)) r) .exactly (d .1 .node) .1 (c r))
-          (runs-ok (wire L) cs (record { node = i; calls = [] }) tt);
-      lists = λ r b. return-list L h r (is-return (role (wire L) r) b);
+      lands = λ i cs. all-map (λ d c e. return-list L h (d .0 .node) e .exactly (d .1 .node) .1 (c e)) (runs-ok (wire L) cs (record { node = i; calls = [] }) tt);
+      ascends = λ r e. return-list L h r e .ascends;
+      exactly = λ r e. return-list L h r e .exactly;
     }

@@ -1,0 +1,175 @@
+-- Which numbers a refused build has: 1 to 8 for its input, 21, 22 or 23 for its tables, and no other. Assumes nothing.
+use Prim.Native.Nat.{ℕ, suc, _≤_}
+use mathlib.Core.Path.{_≡_, refl, sym, ap, subst}
+use mathlib.Core.Bool.{Bool, true, false, _&&_}
+use mathlib.Core.List.{List, [], _∷_}
+use mathlib.Core.Option.{Option, none, some}
+use native.Mathlib.Omega.{arith}
+use lib.Dec.{leb, ltb}
+use lib.ListN.{length}
+use Rattle.listings.specs.Bytes.{pick}
+use Rattle.listings.specs.Listing.{CondWord, Stmts, Listing, total, count}
+use Rattle.listings.specs.Rows.{Parse, malformed, invalid, parsed, Content, noForm, endRow, stmtsRow, moduleRow, lineRow, toRow, simpleRow, condRow, split, rowOf, contentOf}
+use Rattle.listings.specs.Read.{OpenCond, Branches, Position, begin, inModule, ended, inStmts, inCond, Reading, start, Outcome, taken, refused, orRefused, check, atBegin, ascends, readLine, atModule, readSimple, readCond, atStmts, NextBranch, noMore, mayFollow, nextBranch, condStmt, endCond, readTo, readStmts, atCond, readRow, Answer, listing, refusal, finish, readRows, read}
+use Rattle.graph.specs.Build.{Capacity, Built, graph, refused as notBuilt, edgeCount, fitted, builtOf, build}
+
+-- "1 text too long" to "8 a 65th number or slot"; "21 line tables too short, 22 node tables too short, 23 either edge table too short or over 32,768 edges"
+pub data BuildNumber : ℕ → Type 0 where
+  ofInput : {n : ℕ} → 1 ≤ n → n ≤ 8 → BuildNumber n
+  ofLines : BuildNumber 21
+  ofNodes : BuildNumber 22
+  ofEdges : BuildNumber 23
+
+-- ---- a row
+
+abbrev InputNumber : {A : Type 0} → Outcome A → Type 0
+InputNumber (taken a) = Unit {0}
+InputNumber (refused n) = (1 ≤ n) × (n ≤ 8)
+
+parse-number : {A B : Type 0} (p : Parse A) (f : A → Outcome B) → ((a : A) → InputNumber (f a)) → InputNumber (orRefused p f)
+unfolding orRefused
+parse-number malformed f h = (omega arith, omega arith)
+parse-number invalid f h = (omega arith, omega arith)
+parse-number (parsed a) f h = h a
+
+check-number : {A : Type 0} (b : Bool) (n : ℕ) (o : Outcome A) → 1 ≤ n → n ≤ 8 → InputNumber o → InputNumber (check b n o)
+unfolding check
+check-number true n o x y h = h
+check-number false n o x y h = (x, y)
+
+two : ((1 ≤ 2) × (2 ≤ 8))
+two = (omega arith, omega arith)
+
+line-number : (r : Reading) (n : ℕ) → InputNumber (readLine r n)
+unfolding readLine
+line-number r n = check-number (ascends n (r .last)) 4 _ (omega arith) (omega arith) (check-number (ltb (r .lineCount) 1024) 5 _ (omega arith) (omega arith) tt)
+
+begin-number : (r : Reading) (d : Content) → InputNumber (atBegin r d)
+unfolding atBegin
+begin-number r noForm = two
+begin-number r endRow = two
+begin-number r stmtsRow = two
+begin-number r (moduleRow h) = tt
+begin-number r (lineRow n) = two
+begin-number r (toRow n) = two
+begin-number r (simpleRow o) = two
+begin-number r (condRow k) = two
+
+module-number : (r : Reading) (d : Content) → InputNumber (atModule r d)
+unfolding atModule
+module-number r noForm = two
+module-number r endRow = tt
+module-number r stmtsRow = two
+module-number r (moduleRow h) = two
+module-number r (lineRow n) = parse-number n (readLine r) (line-number r)
+module-number r (toRow n) = two
+module-number r (simpleRow o) = two
+module-number r (condRow k) = two
+
+stmts-number : (r : Reading) (s : Stmts) (fs : List OpenCond) (d : Content) → InputNumber (atStmts r s fs d)
+unfolding atStmts readSimple readCond
+stmts-number r s fs noForm = two
+stmts-number r s fs endRow = tt
+stmts-number r s fs stmtsRow = two
+stmts-number r s fs (moduleRow h) = two
+stmts-number r s fs (lineRow n) = two
+stmts-number r s fs (toRow n) = two
+stmts-number r s fs (simpleRow o) =
+    parse-number o (readSimple r s fs) λ d.
+    check-number (ltb (r .stmtCount) 4096) 6 _ (omega arith) (omega arith)
+    (check-number (leb (length fs) 16) 7 _ (omega arith) (omega arith) (check-number (leb (d .1) 64) 8 _ (omega arith) (omega arith) tt))
+stmts-number r s fs (condRow k) =
+    check-number (ltb (r .stmtCount) 4096) 6 _ (omega arith) (omega arith) (check-number (leb (length fs) 16) 7 _ (omega arith) (omega arith) tt)
+
+end-number : (r : Reading) (fs : List OpenCond) (o : Option Stmts) → InputNumber (endCond r fs o)
+unfolding endCond
+end-number r fs none = two
+end-number r fs (some s) = tt
+
+to-number : (r : Reading) (s : Stmts) (k : CondWord) (fs : List OpenCond) (b : NextBranch) (n : Parse ℕ) → InputNumber (readTo r s k fs b n)
+unfolding readTo
+to-number r s k fs noMore n = two
+to-number r s k fs (mayFollow a) n = parse-number n _ (λ m. tt)
+
+branch-number : (r : Reading) (s : Stmts) (k : CondWord) (fs : List OpenCond) (b : NextBranch) → InputNumber (readStmts r s k fs b)
+unfolding readStmts
+branch-number r s k fs noMore = two
+branch-number r s k fs (mayFollow a) = tt
+
+cond-number : (r : Reading) (s : Stmts) (k : CondWord) (bs : Branches) (fs : List OpenCond) (d : Content) → InputNumber (atCond r s k bs fs d)
+unfolding atCond
+cond-number r s k bs fs noForm = two
+cond-number r s k bs fs endRow = end-number r fs (condStmt s k bs)
+cond-number r s k bs fs stmtsRow = branch-number r s k fs (nextBranch k bs)
+cond-number r s k bs fs (moduleRow h) = two
+cond-number r s k bs fs (lineRow n) = two
+cond-number r s k bs fs (toRow n) = to-number r s k fs (nextBranch k bs) n
+cond-number r s k bs fs (simpleRow o) = two
+cond-number r s k bs fs (condRow w) = two
+
+row-number : (r : Reading) (p : Position) (d : Content) → InputNumber (readRow r p d)
+unfolding readRow
+row-number r begin d = begin-number r d
+row-number r inModule d = module-number r d
+row-number r ended d = two
+row-number r (inStmts s fs) d = stmts-number r s fs d
+row-number r (inCond s k bs fs) d = cond-number r s k bs fs d
+
+-- ---- a text
+
+abbrev Numbered : Answer → Type 0
+Numbered (listing L) = Unit {0}
+Numbered (refusal n p) = (1 ≤ n) × (n ≤ 8)
+
+finish-number : (r : Reading) (i : ℕ) (p : Position) (l : List ℕ) → Numbered (finish r i p l)
+unfolding finish
+finish-number r i ended [] = tt
+finish-number r i ended (b ∷ l) = (omega arith, omega arith)
+finish-number r i begin l = (omega arith, omega arith)
+finish-number r i inModule l = (omega arith, omega arith)
+finish-number r i (inStmts s fs) l = (omega arith, omega arith)
+finish-number r i (inCond s k bs fs) l = (omega arith, omega arith)
+
+rows-number : (r : Reading) (i : ℕ) (ws : List (List ℕ)) → Numbered (readRows r i ws)
+unfolding readRows
+rows-number r i [] = (omega arith, omega arith)
+rows-number r i (w ∷ []) = finish-number r i (r .position) w
+rows-number r i (w ∷ v ∷ ws) = go (readRow r (r .position) (contentOf (rowOf w))) (row-number r (r .position) (contentOf (rowOf w))) (λ q. rows-number q (suc i) (v ∷ ws))
+  where
+    go : (o : Outcome Reading) → InputNumber o → ((q : Reading) → Numbered (readRows q (suc i) (v ∷ ws)))
+        → Numbered (elim o [ refused n ↦ refusal n i | taken q ↦ readRows q (suc i) (v ∷ ws) ])
+    go (taken q) h f = f q
+    go (refused n) h f = h
+
+read-number : (t : List ℕ) → Numbered (read t)
+unfolding read
+read-number t = go (leb (length t) 65536)
+  where
+    go : (b : Bool) → Numbered (pick b (readRows start 0 (split 10 t)) (refusal 1 0))
+    go true = rows-number start 0 (split 10 t)
+    go false = (omega arith, omega arith)
+
+-- ---- a build
+
+abbrev Given : Built → Type 0
+Given (graph L) = Unit {0}
+Given (notBuilt n p) = BuildNumber n
+
+fitted-number : (c : Capacity) (L : Listing) → Given (fitted c L)
+unfolding fitted
+fitted-number c L = go (leb (count (L .lines)) (c .lines)) (leb (total (L .lines)) (c .nodes)) (leb (edgeCount L) (c .edges) && leb (edgeCount L) 32768)
+  where
+    go : (x y z : Bool) → Given (pick x (pick y (pick z (graph L) (notBuilt 23 (edgeCount L))) (notBuilt 22 (total (L .lines)))) (notBuilt 21 (count (L .lines))))
+    go true true true = tt
+    go true true false = ofEdges
+    go true false z = ofNodes
+    go false y z = ofLines
+
+answer-number : (c : Capacity) (a : Answer) → Numbered a → Given (builtOf c a)
+unfolding builtOf
+answer-number c (listing L) h = fitted-number c L
+answer-number c (refusal n p) h = ofInput (h .0) (h .1)
+
+pub build-number : (c : Capacity) (t : List ℕ) (n p : ℕ) → build c t ≡ notBuilt n p → BuildNumber n
+unfolding build
+build-number c t n p e = subst Given e (answer-number c (read t) (read-number t))
