@@ -140,20 +140,7 @@ module _ (text : List ℕ) (n : ℕ) (cut : CutAt text n) (f : Question → List
 module _ (text : List ℕ) (s : Sizes) (n : ℕ) (cut : CutAt text n) (c l t a e f k i r u p : List ℕ) (x : BuiltAnswer)
     (w : Answered (build (capacity s) (take n text)) s c l t a e f k i r u p x) where
   abbrev T : Tables
-  T =
-      record {
-        counts = c;
-        lines = l;
-        stmts = t;
-        args = a;
-        entries = e;
-        falls = f;
-        links = k;
-        lists = i;
-        returns = r;
-        succ = u;
-        pred = p;
-      }
+  T = tablesOf c l t a e f k i r u p
 
   asked-as : (out out′ : List ℕ) (j : ℕ) → Puts out 0 out′ j (answers (build (capacity s) (take n text)) (parts (split 10 text) .1)) → TextAsked text s c l t a e f k i r u p out out′ j
   unfolding askText
@@ -167,7 +154,7 @@ module _ (text : List ℕ) (s : Sizes) (n : ℕ) (cut : CutAt text n) (c l t a e
   pub listing-refused : (out out′ : List ℕ) (j number place : ℕ) → x ≡ built.Refused number place → Puts out 0 out′ j (printedRefusal number place) → TextAsked text s c l t a e f k i r u p out out′ j
   unfolding answers
   listing-refused out out′ j number place q z =
-      asked-as out out′ j (puts-is (sym (ap (λ (b : Built). answers b (parts (split 10 text) .1)) (demands (take n text) s T x w .first .refused-by number place q .1))) z)
+      asked-as out out′ j (puts-is (sym (ap (λ (b : Built). answers b (parts (split 10 text) .1)) (refused-by (take n text) s T x w number place q .1))) z)
 
   pub questions-asked : (out out′ : List ℕ) (j : ℕ) → x ≡ built.Graph → QuestionsAnswered text (answerAt c l t a e f i u p) out out′ j → TextAsked text s c l t a e f k i r u p out out′ j
   unfolding answers

@@ -8,7 +8,7 @@ use Rattle.graph.specs.Print.{printedRefusal}
 use Rattle.graph.specs.Build.{Capacity, limits}
 use Rattle.wiring.specs.GraphTables.{Sizes}
 use Rattle.formatting.specs.Printing.{Puts, puts-is}
-use Rattle.printing.specs.Limits.{at-limits}
+use Rattle.wiring.specs.Limits.{at-limits}
 use Rattle.answers.specs.Flowask.{askText, flowask}
 use Rattle.asking.specs.Asked.{TextAsked}
 

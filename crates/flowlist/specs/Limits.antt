@@ -5,7 +5,7 @@ use mathlib.Core.List.{List}
 use Rattle.graph.specs.Build.{Capacity, build, written, flowlist}
 use Rattle.wiring.specs.GraphTables.{Sizes}
 use Rattle.formatting.specs.Printing.{Puts, puts-is}
-use Rattle.printing.specs.Limits.{at-limits}
+use Rattle.wiring.specs.Limits.{at-limits}
 use Rattle.printing.specs.ListGraph.{GraphListed}
 
 -- tables of these lengths: s

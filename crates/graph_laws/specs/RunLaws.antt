@@ -1,19 +1,20 @@
 -- Demand 3, proved of the lists that the rules give. Assumes nothing.
 use Prim.Native.Nat.{ℕ, zero, suc, _<_, _≤_}
-use mathlib.Core.Path.{_≡_, refl, subst, sym, _∙_}
+use mathlib.Core.Path.{_≡_, refl, ap, subst, sym, _∙_}
 use mathlib.Core.List.{List, [], _∷_, _++_, map, List·Memᴰ, List·Memᴰ·head, List·Memᴰ·tail, List·Memᴰ·not-nil, List·Memᴰ·append-cases, List·Memᴰ·cases-cons}
 use mathlib.Core.Bool.{Bool, true, false, not}
 use mathlib.Core.Logic.{_⊎_, inl, inr, _↔_}
 use mathlib.Core.Option.{Option, none, some}
 use native.Mathlib.Omega.{arith}
 use lib.ListN.{length, getElem?}
-use Rattle.graph.specs.Lists.{list}
+use Rattle.graph.specs.Lists.{list, Ascending}
 use Rattle.listings.specs.Every.{All, all[], all∷}
-use Rattle.graph_laws.specs.Members.{all-map}
+use Rattle.graph_laws.specs.Members.{all-map, past}
+use Rattle.graph_laws.specs.GraphLaws.{nodeCount}
 use Rattle.listings.specs.Listing.{Listing}
 use Rattle.graph.specs.Nodes.{Entries}
 use Rattle.graph.specs.Reach.{Reach, here, on}
-use Rattle.graph.specs.Graph.{Role, call, returns, forgets, steps, noNode, Wired, wire, role, fallFrom, base, continuationBy, continuation, calleesBy, callees, skipStepsBy, skipSteps, regionReturnEdges, returnEdges, successorsBy, successorsIn, successors}
+use Rattle.graph.specs.Graph.{roleOf, Role, call, returns, forgets, steps, noNode, Wired, wire, role, fallFrom, base, continuationBy, continuation, calleesBy, callees, skipStepsBy, skipSteps, regionReturnEdges, returnEdges, successorsBy, successorsIn, successors}
 use Rattle.graph.specs.Run.{State, toward, mayFall, closeCall, movesBy, moves, runFrom, run}
 use Rattle.graph.specs.Demand3.{SkippingPath, Returns, Demand3}
 use Rattle.graph_laws.specs.ReturnLists.{ReturnList, return-list}
@@ -113,4 +114,19 @@ demand3 L h =
       lands = λ i cs. all-map (λ d c e. return-list L h (d .0 .node) e .exactly (d .1 .node) .1 (c e)) (runs-ok (wire L) cs (record { node = i; calls = [] }) tt);
       ascends = λ r e. return-list L h r e .ascends;
       exactly = λ r e. return-list L h r e .exactly;
+    }
+
+-- a RETURN is a node
+pub return-inside : (L : Listing) (r : ℕ) → role (wire L) r ≡ returns → r < nodeCount L
+unfolding role roleOf
+return-inside L r e = elim (past (wire L .nodes) r) [ inl h ↦ h | inr n ↦ absurd (let q : noNode ≡ returns = sym (ap roleOf n) ∙ e in let z : _≡_ {A = ℕ} 0 1 = cc in omega arith) ]
+
+-- and of any lists that are those of the rules, node by node
+pub demand3-of : (L : Listing) → L .handlers ≡ false → (list : ℕ → List ℕ) → ((i : ℕ) → i < nodeCount L → list i ≡ successors L i) → Demand3 L list
+demand3-of L h list same =
+    let at : (r : ℕ) → role (wire L) r ≡ returns → successors L r ≡ list r = λ r e. sym (same r (return-inside L r e)) in
+    record {
+      lands = λ i cs. all-map (λ d f e. subst (λ (l : List ℕ). List·Memᴰ (d .1 .node) l) (at (d .0 .node) e) (f e)) (demand3 L h .lands i cs);
+      ascends = λ r e. subst Ascending (at r e) (demand3 L h .ascends r e);
+      exactly = λ r e k. subst (λ (l : List ℕ). List·Memᴰ k l ↔ Returns (wire L) r k) (at r e) (demand3 L h .exactly r e k);
     }

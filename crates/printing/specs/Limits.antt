@@ -1,27 +1,11 @@
--- Tables that suffice at all limits, as every program lends them. Assumes nothing.
+-- What was put stays inside the part that was lent. Assumes nothing.
 use Prim.Native.Nat.{ℕ, _≤_}
-use mathlib.Core.Path.{_≡_, sym, ap, _∙_}
+use mathlib.Core.Path.{_≡_, ap, _∙_}
 use mathlib.Core.List.{List}
 use native.Mathlib.Omega.{arith}
 use lib.ListN.{length}
 use lib.Seq.{length-sets}
-use Rattle.graph.specs.Build.{limits}
-use Rattle.passes.specs.Room.{stmtRoom}
-use Rattle.wiring.specs.GraphTables.{Sizes, capacity}
 use Rattle.formatting.specs.Printing.{Puts}
-
-numbers-at-limits : (l t a e f k i r u p : ℕ) → 1024 ≡ l → 49152 ≡ t → 262144 ≡ a → 1024 ≡ e → 12288 ≡ f → 262144 ≡ k → 16384 ≡ i → 4096 ≡ r
-    → 32768 ≡ u → 32768 ≡ p
-    → capacity (record { lines = l; stmts = t; args = a; entries = e; falls = f; links = k; lists = i; returns = r; succ = u; pred = p }) ≡ limits
-unfolding capacity stmtRoom limits
-numbers-at-limits l t a e f k i r u p hl ht ha he hf hk hi hr hu hp =
-    rw (sym hl, sym ht, sym ha, sym he, sym hf, sym hk, sym hi, sym hr, sym hu, sym hp)
-
--- tables of these lengths: s
-pub at-limits : (s : Sizes) → 1024 ≡ s .lines → 49152 ≡ s .stmts → 262144 ≡ s .args → 1024 ≡ s .entries → 12288 ≡ s .falls → 262144 ≡ s .links
-    → 16384 ≡ s .lists → 4096 ≡ s .returns → 32768 ≡ s .succ → 32768 ≡ s .pred → capacity s ≡ limits
-at-limits s hl ht ha he hf hk hi hr hu hp =
-    numbers-at-limits (s .lines) (s .stmts) (s .args) (s .entries) (s .falls) (s .links) (s .lists) (s .returns) (s .succ) (s .pred) hl ht ha he hf hk hi hr hu hp
 
 -- what was put is in `out`
 pub puts-inside : (out out′ l : List ℕ) (n : ℕ) → Puts out 0 out′ n l → n ≤ length out′

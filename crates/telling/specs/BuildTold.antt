@@ -3,7 +3,7 @@ use Prim.Native.Nat.{ℕ}
 use mathlib.Core.Path.{_≡_, _∙_, ap, subst}
 use mathlib.Core.List.{List, [], _∷_}
 use Rattle.graph.specs.Build.{Built, graph, refused}
-use Rattle.wiring.specs.GraphTables.{Sizes, Answered, answerOf}
+use Rattle.wiring.specs.GraphTables.{Sizes, Answered, answerOf, answer-graph, answer-refused}
 use Rattle.wiring.specs.declared.build.Built.{Built as BuiltAnswer}
 use Rattle.wiring.specs.declared.build.Built.the-variants as answer
 
@@ -34,9 +34,9 @@ builtPlace (answer.Refused n p) = p ∷ []
 -- ---- built, then told
 
 pub built-told : (b : Built) {x : BuiltAnswer} {number : ℕ} {place : List ℕ} → x ≡ answerOf b → (number ≡ builtNumber x) × (place ≡ builtPlace x) → (number ≡ numberOf b) × (place ≡ placeOf b ∷ [])
-unfolding numberOf placeOf answerOf
-built-told (graph L) h g = (g .0 ∙ ap builtNumber h, g .1 ∙ ap builtPlace h)
-built-told (refused n p) h g = (g .0 ∙ ap builtNumber h, g .1 ∙ ap builtPlace h)
+unfolding numberOf placeOf
+built-told (graph L) h g = let e = h ∙ answer-graph L in (g .0 ∙ ap builtNumber e, g .1 ∙ ap builtPlace e)
+built-told (refused n p) h g = let e = h ∙ answer-refused n p in (g .0 ∙ ap builtNumber e, g .1 ∙ ap builtPlace e)
 
 pub build-told : {b : Built} {s : Sizes} {c l t a e f k i r u p : List ℕ} {x : BuiltAnswer} {number : ℕ} {place : List ℕ} → Answered b s c l t a e f k i r u p x
     → (number ≡ builtNumber x) × (place ≡ builtPlace x) → BuildTold b s c l t a e f k i r u p number place

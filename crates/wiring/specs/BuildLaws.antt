@@ -20,7 +20,7 @@ use Rattle.graph.specs.Build.{Capacity, Built, graph, refused, edgeCount, fitte
 use Rattle.passes.specs.HoldsListing.{HoldsListing}
 use Rattle.passes.specs.Reading.{readBy, FittingRead, Fits, read-fits}
 use Rattle.passes.specs.Room.{stmtRoom, StmtsFit, room-fits}
-use Rattle.wiring.specs.GraphTables.{Sizes, sizesOf, capacity, answerOf, tableOf, Answered, edgesFitted, Zeroed}
+use Rattle.wiring.specs.GraphTables.{Sizes, sizesOf, tablesOf, capacity, capacity-is, Answered, edgesFitted, Zeroed, refusal-writes}
 use Rattle.wiring.specs.declared.build.Built.{Built as BuiltAnswer}
 use Rattle.wiring.specs.declared.build.Built.the-variants as answer
 
@@ -77,10 +77,9 @@ GraphMade h c n lines stmts args s c′ l′ t′ a′ e′ f′ k′ i′ r′ 
 pub all-zero : (n at : ℕ) (l t a e f k i r u p : List ℕ) (c′ l′ t′ a′ e′ f′ k′ i′ r′ u′ p′ : List ℕ)
     → (c′ ≡ replicate 5 0) × Zeroed l l′ × Zeroed t t′ × Zeroed a a′ → Zeroed e e′ × Zeroed f f′ × Zeroed k k′ → Zeroed i i′ × Zeroed r r′ × Zeroed u u′ × Zeroed p p′
     → Answered (refused n at) (sizesOf l t a e f k i r u p) c′ l′ t′ a′ e′ f′ k′ i′ r′ u′ p′ (answer.Refused n at)
-unfolding tableOf answerOf
 all-zero n at l t a e f k i r u p c′ l′ t′ a′ e′ f′ k′ i′ r′ u′ p′ x y z =
-    record {
-      answer = refl;
+    refusal-writes n at (sizesOf l t a e f k i r u p) (tablesOf c′ l′ t′ a′ e′ f′ k′ i′ r′ u′ p′)
+    (record {
       counts = x .0;
       lines = x .1;
       stmts = x .2;
@@ -92,7 +91,7 @@ all-zero n at l t a e f k i r u p c′ l′ t′ a′ e′ f′ k′ i′ r′ u
       returns = z .1;
       succ = z .2;
       pred = z .3;
-    }
+    })
 
 -- ---- the whole, from tables of these lengths: line and statement tables are cut to what all hold
 
@@ -107,8 +106,7 @@ module _ (text lines stmts args entries falls links lists returns succ pred : Li
   N = stmtRoom (length stmts) (length args) (length falls) (length links) (length lists) (length returns)
 
   by-reading : (b : ReadAnswer) → readBy K N text ≡ b → build (capacity S) text ≡ afterReading (min (length succ) (length pred)) b
-  unfolding capacity
-  by-reading b e = build-read (capacity S) text ∙ ap (afterReading (min (length succ) (length pred))) e
+  by-reading b e = ap (λ (c : Capacity). build c text) (capacity-is S) ∙ build-read _ text ∙ ap (afterReading (min (length succ) (length pred))) e
 
   pub rooms-fit : (K ≤ length lines) × (N * 12 ≤ length stmts) × (N * 64 ≤ length args)
   rooms-fit =
@@ -119,12 +117,11 @@ module _ (text lines stmts args entries falls links lists returns succ pred : Li
       (zi : Zeroed lists i) (zr : Zeroed returns r) (zu : Zeroed succ u) (zp : Zeroed pred p) where
     pub build-refused : (n at : ℕ) → FittingRead text K N (length lines) (length stmts) (length args) c l t a (listed.Refused n at)
         → Answered (build (capacity S) text) S c l t a e f k i r u p (answer.Refused n at)
-    unfolding tableOf answerOf readTable
+    unfolding readTable
     build-refused n at w =
         let q = was-refused (readBy K N text) n at (w .answer) in
         let b : build (capacity S) text ≡ refused n at = by-reading (notRead n at) q in
-        rw b (record {
-          answer = refl;
+        rw b (refusal-writes n at S (tablesOf c l t a e f k i r u p) (record {
           counts = w .counts ∙ ap (λ (z : ReadAnswer). readTable countsOf z 5) q;
           lines = w .lines ∙ ap (λ (z : ReadAnswer). readTable lineEntries z (length lines)) q;
           stmts = w .stmts ∙ ap (λ (z : ReadAnswer). readTable stmtEntries z (length stmts)) q;
@@ -136,7 +133,7 @@ module _ (text lines stmts args entries falls links lists returns succ pred : Li
           returns = zr;
           succ = zu;
           pred = zp;
-        })
+        }))
 
     module _ (h : Bool) (x n : ℕ) (w : FittingRead text K N (length lines) (length stmts) (length args) c l t a (listed.Accepted h x n)) (L₀ : Listing)
         (found : (readBy K N text ≡ accepted L₀) × (h ≡ L₀ .handlers) × (x ≡ count (L₀ .lines)) × (n ≡ total (L₀ .lines))) where

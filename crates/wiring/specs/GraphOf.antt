@@ -1,24 +1,22 @@
 -- The graph of a listing that was read: prepared, wired, or refused for its edges. Assumes nothing.
 use Prim.Native.Nat.{ℕ, min}
 use mathlib.Core.Path.{_≡_, refl, sym, ap, subst, _∙_}
-use mathlib.Core.Bool.{Bool, true, false, _&&_}
+use mathlib.Core.Bool.{Bool, true, false}
 use mathlib.Core.List.{List}
-use lib.Dec.{leb}
 use lib.ListN.{length, replicate}
 use Rattle.listings.specs.Bytes.{pick}
 use Rattle.listings.specs.Listing.{Listing, count, total}
 use Rattle.listings.specs.Records.{padded, countsOf}
 use Rattle.graph.specs.Graph.{wire}
-use Rattle.graph.specs.Build.{Built, graph, refused, edgeCount}
+use Rattle.graph.specs.Build.{graph, refused}
 use Rattle.passes.specs.LineEntries.{entryRows}
 use Rattle.passes.specs.Falls.{fallRows}
 use Rattle.passes.specs.Prepared.{linkTable}
 use Rattle.passes.specs.HoldsListing.{HoldsListing}
 use Rattle.passes.specs.Preparing.{PrepareReady, PreparedTo}
-use Rattle.wiring.specs.Wiring.{WireHeld, WireReady, WiredGraph, WiringDone, WiredTo}
-use Rattle.wiring.specs.GraphTables.{Zeroed, Sizes, sizesOf, answerOf, tableOf, Answered, edgesFitted, countTable, lineTable, stmtTable, argTable, entryTable, fallTable, linksTable, listTable, returnTable, succTable, predTable}
+use Rattle.wiring.specs.Wiring.{WireHeld, WireReady, WiringDone, WiredTo}
+use Rattle.wiring.specs.GraphTables.{Zeroed, Sizes, sizesOf, Answered, edgesFitted, listTable, returnTable, succTable, predTable, tablesOf, graph-writes, line-table, stmt-table, arg-table, entries-table, fall-table, links-table}
 use Rattle.wiring.specs.BuildLaws.{GraphReady, GraphMade, all-zero}
-use Rattle.wiring.specs.declared.build.Built.{Built as BuiltAnswer}
 use Rattle.wiring.specs.declared.build.Built.the-variants as answer
 
 module _ {h : Bool} {c n : ℕ} {counts lines stmts args entries falls links lists returns succ pred : List ℕ}
@@ -78,25 +76,24 @@ module _ {h : Bool} {c n : ℕ} {counts lines stmts args entries falls links lis
 
       pub made-graph : written ≡ true
           → GraphMade h c n lines stmts args (sizesOf lines stmts args entries falls links lists returns succ pred) counts′ lines stmts args′ e f k lists′ returns′ succ′ pred′ answer.Graph
-      unfolding answerOf tableOf lineTable stmtTable argTable entryTable fallTable linksTable
       made-graph t L H g =
           let q = done L H g .graph t in
           let P = p .prepared L H in
           let b : edgesFitted (min (length succ) (length pred)) L ≡ graph L = fitted-by L H g ∙ ap (λ (z : Bool). pick z (graph L) (refused 23 edges)) t in
-          rw b (record {
-            answer = refl;
+          let s = sizesOf lines stmts args entries falls links lists returns succ pred in
+          rw b (graph-writes L s (tablesOf counts′ lines stmts args′ e f k lists′ returns′ succ′ pred′) (record {
             counts = q .counts-are;
-            lines = H .lines-are;
-            stmts = H .stmts-are;
-            args = q .args-are ∙ H .args-are;
-            entries = P .entered ∙ ap (λ (z : ℕ). padded z (entryRows (L .lines))) ee;
-            falls = P .falling ∙ ap (λ (z : ℕ). padded z (fallRows (wire L .entries) (wire L .nodes))) ef;
-            links = P .linking ∙ ap (λ (z : ℕ). linkTable z (wire L)) ek;
+            lines = H .lines-are ∙ sym (line-table L (s .lines));
+            stmts = H .stmts-are ∙ sym (stmt-table L (s .stmts));
+            args = q .args-are ∙ H .args-are ∙ sym (arg-table L (s .args));
+            entries = P .entered ∙ ap (λ (z : ℕ). padded z (entryRows (L .lines))) ee ∙ sym (entries-table L (s .entries));
+            falls = P .falling ∙ ap (λ (z : ℕ). padded z (fallRows (wire L .entries) (wire L .nodes))) ef ∙ sym (fall-table L (s .falls));
+            links = P .linking ∙ ap (λ (z : ℕ). linkTable z (wire L)) ek ∙ sym (links-table L (s .links));
             lists = q .lists-are ∙ ap (listTable L) ei;
             returns = q .returns-are ∙ ap (returnTable L) er;
             succ = q .succ-are ∙ ap (succTable L) eu;
             pred = q .pred-are ∙ ap (predTable L) ep;
-          })
+          }))
 
       same-sizes : length args′ ≡ length args
           → sizesOf lines stmts args′ e f k lists′ returns′ succ′ pred′ ≡ sizesOf lines stmts args entries falls links lists returns succ pred

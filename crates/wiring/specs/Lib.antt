@@ -1,9 +1,11 @@
 pub mod GraphTables
+pub mod Refusals
 pub mod Wiring
 pub mod WriteGraph
 pub mod CountGraph
 pub mod WireLaws
 pub mod BuildLaws
 pub mod GraphOf
-pub mod DemandLaws
-pub mod Demands
+pub mod WrittenLaws
+pub mod BuildAnswers
+pub mod Limits

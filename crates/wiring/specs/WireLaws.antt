@@ -1,6 +1,6 @@
 -- From the counted edges to the written graph. Assumes nothing.
 use Prim.Native.Nat.{ℕ, _*_, _≤_, _<_, min}
-use mathlib.Core.Path.{_≡_, refl, sym, ap, _∙_}
+use mathlib.Core.Path.{_≡_, refl, sym, _∙_}
 use mathlib.Core.Bool.{Bool, true, false, _&&_}
 use mathlib.Core.List.{List}
 use native.Mathlib.Omega.{arith}
@@ -10,7 +10,7 @@ use lib.Dec.{leb}
 use lib.ListN.{length}
 use Rattle.listings.specs.Listing.{Listing}
 use Rattle.graph.specs.Build.{edgeCount}
-use Rattle.wiring.specs.Wiring.{WireHeld, WireReady, WiredGraph, WiringDone}
+use Rattle.wiring.specs.Wiring.{WireHeld, WireReady, WiringDone}
 use Rattle.passes.specs.Preparing.{FramesMade, with-frames}
 use Rattle.wiring.specs.CountGraph.{CountReady, CountedTo, GraphCounted}
 use Rattle.wiring.specs.WriteGraph.{WriteHeld, WriteReady, WrittenGraph}

@@ -1,6 +1,6 @@
 -- The last stage of a build: lists, predecessors and counts are written, the RETURNs' sets are cleared, and every table is the definition's. Assumes nothing.
 use Prim.Native.Nat.{ℕ, _+_, _-_, _*_, _/_, _%_, _≤_, _<_}
-use mathlib.Core.Path.{_≡_, refl, sym, ap, _∙_}
+use mathlib.Core.Path.{_≡_, sym, ap, _∙_}
 use mathlib.Core.Bool.{Bool}
 use mathlib.Core.List.{List, _++_}
 use mathlib.Core.Logic.{_⊎_, inl, inr}
@@ -24,7 +24,7 @@ use Rattle.passes.specs.PredecessorLists.{Ready, Written, Successors, stored-su
 use Rattle.passes.specs.EdgeCount.{edges-joined}
 use Rattle.passes.specs.FinalLists.{FinalTables, SkipsHeld, WritesReady, WritesDone}
 use Rattle.passes.specs.PreparedLaws.{return-row}
-use Rattle.wiring.specs.GraphTables.{countTable, listTable, returnTable, succTable, predTable}
+use Rattle.wiring.specs.GraphTables.{countTable, listTable, succTable, predTable, count-table, list-table, return-table, succ-table, pred-table}
 use Rattle.wiring.specs.Wiring.{WiredGraph}
 
 -- ---- what the tables hold
@@ -162,15 +162,14 @@ module _ {L : Listing} {ks : List ℕ} {handlers : Bool} {stmts args entries fal
         }
 
     pub edges-written : {lists₂ pred₂ : List ℕ} → Written n total succ₁ lists₁ lists₂ pred pred₂ → EdgesAre L lists₂ succ₁ pred₂ total
-    unfolding listTable succTable predTable
     edges-written {lists₂} {pred₂} p =
         let ls = allSuccessors L in
         let v = p ls successors-stand (stored .used) in
         record {
           counted = edges-counted;
-          lists-are = zeros-behind (listRows ls (predsOf ls) n) (drop (n * 4) lists₁) lists₂ rest (v .rows) ∙ ap (λ (m : ℕ). padded (length lists₂) (listRows ls (predsOf ls) m)) nodes-are;
-          succ-are = zeros-behind (joinedLists ls) (drop total succ) succ₁ (zeros-drop total succ (q .zero-succ)) (stored .table);
-          pred-are = zeros-behind (joinedLists (predsOf ls)) (drop (length (joinedLists ls)) pred) pred₂ (zeros-drop (length (joinedLists ls)) pred (q .zero-pred)) (v .table);
+          lists-are = zeros-behind (listRows ls (predsOf ls) n) (drop (n * 4) lists₁) lists₂ rest (v .rows) ∙ ap (λ (m : ℕ). padded (length lists₂) (listRows ls (predsOf ls) m)) nodes-are ∙ sym (list-table L (length lists₂));
+          succ-are = zeros-behind (joinedLists ls) (drop total succ) succ₁ (zeros-drop total succ (q .zero-succ)) (stored .table) ∙ sym (succ-table L (length succ₁));
+          pred-are = zeros-behind (joinedLists (predsOf ls)) (drop (length (joinedLists ls)) pred) pred₂ (zeros-drop (length (joinedLists ls)) pred (q .zero-pred)) (v .table) ∙ sym (pred-table L (length pred₂));
         }
 
 -- ---- the arguments
@@ -194,8 +193,8 @@ few-targets L = few (nodeCount L) (distinct-all (each (continuation (wire L)) (b
 
 counts-written : (L : Listing) (counts counts′ : List ℕ) (edges targets : ℕ) → counts ≡ padded 5 (countsOf L) → edges ≡ edgeCount L → targets ≡ length (returnTargets (wire L))
     → counts′ ≡ set (set counts 3 edges) 4 targets → counts′ ≡ countTable L 5
-unfolding padded countsOf countTable
-counts-written L counts counts′ edges targets c e t p = p ∙ ap (λ (x : List ℕ). set (set x 3 edges) 4 targets) c ∙ rw (e, t) refl
+unfolding padded countsOf
+counts-written L counts counts′ edges targets c e t p = p ∙ ap (λ (x : List ℕ). set (set x 3 edges) 4 targets) c ∙ rw (e, t) (sym (count-table L 5))
 
 -- ---- the whole stage
 
@@ -211,14 +210,13 @@ module _ {L : Listing} {ks : List ℕ} {handlers : Bool} {stmts args entries fal
         (omega (arith, w L ks (q .edges) .counted, q .edges .few-edges), omega (arith, q .targets-are, few-targets L, p .nodes-are, p .few))
 
     pub graph-written : {args′ counts′ : List ℕ} → SetsCleared stmts n args args′ → counts′ ≡ set (set counts 3 total) 4 targets → WiredGraph L ks counts′ args′ lists′ returns succ′ pred′
-    unfolding returnTable
     graph-written {args′} {counts′} s c =
         let e = w L ks (q .edges) in
         record {
           counts-are = counts-written L counts counts′ total targets (q .counts-are) (e .counted) (q .targets-are) c;
           args-are = args-back (q .edges .tables) s;
           lists-are = e .lists-are;
-          returns-are = q .returns-are;
+          returns-are = q .returns-are ∙ sym (return-table L (length returns));
           succ-are = e .succ-are;
           pred-are = e .pred-are;
         }
