@@ -5,6 +5,8 @@ use crate::cfg::Cfg;
 use crate::generate::NAMES;
 use crate::listing::{Form, Line, Listing};
 use crate::lower;
+use crate::random::Random;
+use std::hash::{Hash, Hasher};
 
 fn pair(open: &str, close: &str) -> Listing {
     let body = vec![
@@ -34,17 +36,20 @@ fn pairs(names: &[String]) -> Vec<(&str, &str)> {
     found
 }
 
-/// Every name of one or two characters, without a suffix: a suffix is kept apart in the original.
-fn short_names() -> Vec<String> {
-    let mut names: Vec<String> = ('A'..='Z').map(String::from).collect();
-    for first in 'A'..='Z' {
-        names.extend(('A'..='Z').chain('0'..='9').map(|second| format!("{first}{second}")));
+/// Every name of up to so many characters, without a suffix: a suffix is kept apart in the original.
+fn names_up_to(length: u64) -> Vec<String> {
+    let mut names: Vec<String> = Vec::new();
+    let mut longest: Vec<String> = ('A'..='Z').map(String::from).collect();
+    for _ in 1..length {
+        names.append(&mut longest.clone());
+        longest = longest.iter().flat_map(|n| ('A'..='Z').chain('0'..='9').map(move |c| format!("{n}{c}"))).collect();
     }
+    names.append(&mut longest);
     names
 }
 
 pub fn report() {
-    let names = short_names();
+    let names = names_up_to(2);
     let found = pairs(&names);
     for (a, b) in &found {
         println!("(pair {a} {b})");
@@ -52,6 +57,37 @@ pub fn report() {
     println!("(names {} pairs {})", names.len(), found.len());
     let own: Vec<String> = NAMES.iter().map(|n| n.to_string()).collect();
     assert!(pairs(&own).is_empty(), "names of the generator collide");
+}
+
+/// Too many names for all pairs: those with the same 16 bits of the standard library's hash are candidates, and each is asked of the original;
+/// so are a million pairs that are none.
+pub fn count(length: u64) {
+    let names = names_up_to(length);
+    let mut buckets: Vec<Vec<usize>> = vec![Vec::new(); 65536];
+    for (i, name) in names.iter().enumerate() {
+        buckets[low_bits(name)].push(i);
+    }
+    let mut found = 0;
+    for bucket in &buckets {
+        for (k, &i) in bucket.iter().enumerate() {
+            for &j in &bucket[..k] {
+                assert!(one_to_the_original(&names[i], &names[j]), "{} {}", names[i], names[j]);
+                found += 1;
+            }
+        }
+    }
+    let mut random = Random::new(length);
+    for _ in 0..1_000_000 {
+        let (a, b) = (random.pick(&names).clone(), random.pick(&names).clone());
+        assert!(low_bits(&a) == low_bits(&b) || !one_to_the_original(&a, &b), "{a} {b}");
+    }
+    println!("(names {} pairs {found})", names.len());
+}
+
+fn low_bits(name: &String) -> usize {
+    let mut hasher = std::collections::hash_map::DefaultHasher::new();
+    name.hash(&mut hasher);
+    (hasher.finish() & 0xffff) as usize
 }
 
 /// Listings outside the domain that show the difference, both ways round.

@@ -1,5 +1,5 @@
 -- What a build answers (document 01, "Refused because of the input", "Refused because of the state"), and what `flowlist` writes. Assumes nothing.
-use Prim.Native.Nat.{ℕ, zero, suc, _+_}
+use Prim.Native.Nat.{ℕ, zero, suc, _+_, _≤_}
 use mathlib.Core.List.{List, [], _∷_}
 use mathlib.Core.Bool.{Bool, true, false, _&&_}
 use lib.Dec.{leb}
@@ -46,6 +46,13 @@ builtOf c (refusal n p) = refused n p
 
 unfoldable pub build : Capacity → List ℕ → Built
 build c t = builtOf c (read t)
+
+-- the numbers that a refused build can have: "1 text too long" to "8 a 65th number or slot"; "21 line tables too short, 22 node tables too short, 23 either edge table too short or over 32,768 edges"
+pub data BuildNumber : ℕ → Type 0 where
+  ofInput : {n : ℕ} → 1 ≤ n → n ≤ 8 → BuildNumber n
+  ofLines : BuildNumber 21
+  ofNodes : BuildNumber 22
+  ofEdges : BuildNumber 23
 
 unfoldable pub written : Built → List ℕ
 written (graph L) = printed L

@@ -11,14 +11,7 @@ use Rattle.listings.specs.Bytes.{pick}
 use Rattle.listings.specs.Listing.{CondWord, Stmts, Listing, total, count}
 use Rattle.listings.specs.Rows.{Parse, malformed, invalid, parsed, Content, noForm, endRow, stmtsRow, moduleRow, lineRow, toRow, simpleRow, condRow, split, rowOf, contentOf}
 use Rattle.listings.specs.Read.{OpenCond, Branches, Position, begin, inModule, ended, inStmts, inCond, Reading, start, Outcome, taken, refused, orRefused, check, atBegin, ascends, readLine, atModule, readSimple, readCond, atStmts, NextBranch, noMore, mayFollow, nextBranch, condStmt, endCond, readTo, readStmts, atCond, readRow, Answer, listing, refusal, finish, readRows, read}
-use Rattle.graph.specs.Build.{Capacity, Built, graph, refused as notBuilt, edgeCount, fitted, builtOf, build}
-
--- "1 text too long" to "8 a 65th number or slot"; "21 line tables too short, 22 node tables too short, 23 either edge table too short or over 32,768 edges"
-pub data BuildNumber : ℕ → Type 0 where
-  ofInput : {n : ℕ} → 1 ≤ n → n ≤ 8 → BuildNumber n
-  ofLines : BuildNumber 21
-  ofNodes : BuildNumber 22
-  ofEdges : BuildNumber 23
+use Rattle.graph.specs.Build.{BuildNumber, ofInput, ofLines, ofNodes, ofEdges, Capacity, Built, graph, refused as notBuilt, edgeCount, fitted, builtOf, build}
 
 -- ---- a row
 

@@ -16,9 +16,9 @@ use Rattle.graph.specs.Targets.{dispatchTargets}
 use Rattle.graph.specs.Edges.{ends}
 use Rattle.graph.specs.Graph.{wire, base, successors}
 use Rattle.graph_laws.specs.GraphLaws.{ListsOk, lists-ok}
-use Rattle.graph.specs.Build.{Capacity, refused, build}
+use Rattle.graph.specs.Build.{Capacity, refused, build, BuildNumber}
 use Rattle.graph.specs.Demand3.{Demand3}
-use Rattle.graph_laws.specs.Numbers.{BuildNumber, build-number}
+use Rattle.graph_laws.specs.Numbers.{build-number}
 use Rattle.graph_laws.specs.RunLaws.{demand3}
 use Rattle.graph_laws.specs.PerNode.{Fact, facts, noOpeners, perNode}
 use Rattle.graph_laws.specs.PerNodeLaws.{per-node}
