@@ -9,32 +9,21 @@ use borrow.Author.Tests.{lt-ltb, le-ltb, le-leb}
 use lib.ListN.{length, getD, take, drop}
 use Rattle.listings.specs.Listing.{Listing, total, count}
 use Rattle.listings.specs.ListingText.{InForm}
-use Rattle.listings.specs.Records.{padded}
 use Rattle.graph.specs.Nodes.{entryOf}
 use Rattle.graph_laws.specs.NodeLaws.{Below, entry-fits}
 use Rattle.graph.specs.Graph.{wire, successors, predecessors, returnTargets}
 use Rattle.graph_laws.specs.GraphLaws.{nodeCount, entry-ids}
-use Rattle.graph.specs.Build.{graph}
 use Rattle.tables.specs.Columns.{succStart, succCount, predStart, predCount, NodesReadable, entriesIn}
-use Rattle.wiring.specs.GraphTables.{Sizes, Answered, answerOf, tableOf, countTable}
+use Rattle.wiring.specs.GraphTables.{Sizes, Tables, Written}
 use Rattle.passes.specs.GraphHeld.{GraphHeld}
 use Rattle.passes.specs.GraphReads.{nodes-readable}
-use Rattle.wiring.specs.DemandLaws.{graph-held, nodes-total, held-entries, held-succ, held-pred}
-use Rattle.wiring.specs.Demands.{Tables, Written, LongEnough, ListingOf, BuildWrote, demands}
-use Rattle.wiring.specs.declared.build.Built.{Built as BuiltAnswer}
+use Rattle.wiring.specs.WrittenLaws.{graph-held, counts-held, nodes-total, held-entries, held-succ, held-pred}
+use Rattle.wiring.specs.Refusals.{LongEnough}
 use Rattle.wiring.specs.declared.build.Built.the-variants as built
 use Rattle.graph.specs.Questions.{Reply, answer, ifNode, askSuccessors, askPredecessors, askEntry}
-use Rattle.adjacency.specs.ListsAt.{listAt, successorsAt, predecessorsAt, partOf, listReply}
+use Rattle.adjacency.specs.ListsAt.{listAt, successorsAt, predecessorsAt, listReply}
 use Rattle.adjacency.specs.ListsAtLaws.{no-node, list-found}
 use Rattle.adjacency.specs.EntryAt.{nodeIn, entryAt}
-
--- the answers, by the tables, are those of the listing's graph
-pub record AnswersOf (L : Listing) (T : Tables) : Type 0 where
-  pub successors-are : (i : ℕ) → listReply (successorsAt (T .counts) (T .lists) (length (T .succ)) i) (T .succ) ≡ askSuccessors L i
-  pub predecessors-are : (i : ℕ) → listReply (predecessorsAt (T .counts) (T .lists) (length (T .pred)) i) (T .pred) ≡ askPredecessors L i
-  pub successor-part : (i : ℕ) → i < nodeCount L → partOf (successorsAt (T .counts) (T .lists) (length (T .succ)) i) (T .succ) ≡ successors L i
-  pub predecessor-part : (i : ℕ) → i < nodeCount L → partOf (predecessorsAt (T .counts) (T .lists) (length (T .pred)) i) (T .pred) ≡ predecessors L i
-  pub entry-is : (number : ℕ) → entryAt (T .counts) (T .lines) (T .entries) number ≡ askEntry L number
 
 -- ---- one list, of either table
 
@@ -43,10 +32,6 @@ module _ (L : Listing) (counts lists table : List ℕ) (nodes-are : getD counts 
   module _ (h : i < nodeCount L) where
     found : listAt counts lists (length table) i start count ≡ answer (start, count)
     found = list-found counts lists (length table) i start count (omega arith) (omega arith) (inside h)
-
-    list-part : partOf (listAt counts lists (length table) i start count) table ≡ l
-    unfolding partOf
-    list-part = ap (λ (r : Reply (ℕ × ℕ)). partOf r table) found ∙ part h
 
     list-answered : listReply (listAt counts lists (length table) i start count) table ≡ ifNode L i (answer l)
     unfolding listReply ifNode wire
@@ -69,34 +54,14 @@ node-in n (some i) b = rw (lt-ltb i n b) refl
 -- ---- all of them
 
 module _ (L : Listing) (s : Sizes) (T : Tables) (ok : InForm L) (fits : LongEnough s L) (w : Written L s T) where
-  answered : Answered (graph L) s (T .counts) (T .lines) (T .stmts) (T .args) (T .entries) (T .falls) (T .links) (T .lists) (T .returns) (T .succ) (T .pred) built.Graph
-  unfolding answerOf tableOf
-  answered =
-      record {
-        answer = refl;
-        counts = w .counts;
-        lines = w .lines;
-        stmts = w .stmts;
-        args = w .args;
-        entries = w .entries;
-        falls = w .falls;
-        links = w .links;
-        lists = w .lists;
-        returns = w .returns;
-        succ = w .succ;
-        pred = w .pred;
-      }
-
   held : GraphHeld L (T .lines) (T .stmts) (T .entries) (T .falls) (T .lists) (T .returns) (T .succ) (T .pred) (count (L .lines)) (total (L .lines)) (length (returnTargets (wire L)))
-  held = graph-held L s _ _ _ _ _ _ _ _ _ _ _ built.Graph ok (fits .lines) (fits .nodes) (fits .edges) answered
+  held = graph-held L s T ok fits w
 
   lines-are : getD (T .counts) 0 0 ≡ count (L .lines)
-  unfolding countTable padded
-  lines-are = ap (λ (t : List ℕ). getD t 0 0) (w .counts)
+  lines-are = counts-held L s T w .lines
 
   nodes-are : getD (T .counts) 1 0 ≡ nodeCount L
-  unfolding countTable padded
-  nodes-are = ap (λ (t : List ℕ). getD t 1 0) (w .counts) ∙ sym (nodes-total L)
+  nodes-are = counts-held L s T w .stmts ∙ sym (nodes-total L)
 
   readable : NodesReadable (T .lines) (T .stmts) (T .lists) (T .succ) (T .pred) (total (L .lines))
   readable = nodes-readable held
@@ -110,26 +75,19 @@ module _ (L : Listing) (s : Sizes) (T : Tables) (ok : InForm L) (fits : LongEnou
   pred-inside : (i : ℕ) → i < nodeCount L → predStart (T .lists) i + predCount (T .lists) i ≤ length (T .pred)
   pred-inside i h = readable .pred-in i (omega (arith, nodes-total L))
 
-  entry-at : (number : ℕ) → entryAt (T .counts) (T .lines) (T .entries) number ≡ askEntry L number
+  pub entry-is : (number : ℕ) → entryAt (T .counts) (T .lines) (T .entries) number ≡ askEntry L number
   unfolding entryAt askEntry wire
-  entry-at number =
+  entry-is number =
       rw (le-leb (getD (T .counts) 0 0) (length (T .lines)) (omega (arith, lines-are, held .lines-fit)), le-leb (getD (T .counts) 0 0) (length (T .entries)) (omega (arith, lines-are, held .entries-fit)))
       (ap (λ (n : ℕ). nodeIn n (entryOf (entriesIn (getD (T .counts) 0 0) (T .lines) (T .entries)) number)) nodes-are
       ∙ ap (λ (k : ℕ). nodeIn (nodeCount L) (entryOf (entriesIn k (T .lines) (T .entries)) number)) lines-are
       ∙ ap (λ es. nodeIn (nodeCount L) (entryOf es number)) (held-entries held)
       ∙ node-in (nodeCount L) (entryOf (wire L .entries) number) (entry-fits (nodeCount L) (entry-ids L) number))
 
-  pub answers-of : AnswersOf L T
-  unfolding successorsAt predecessorsAt askSuccessors askPredecessors
-  answers-of =
-      record {
-        successors-are = λ i. list-is L (T .counts) (T .lists) (T .succ) nodes-are rows i _ _ (successors L i) (succ-inside i) (held-succ held i);
-        predecessors-are = λ i. list-is L (T .counts) (T .lists) (T .pred) nodes-are rows i _ _ (predecessors L i) (pred-inside i) (held-pred held i);
-        successor-part = λ i h. list-part L (T .counts) (T .lists) (T .succ) nodes-are rows i _ _ (successors L i) (succ-inside i) (held-succ held i) h;
-        predecessor-part = λ i h. list-part L (T .counts) (T .lists) (T .pred) nodes-are rows i _ _ (predecessors L i) (pred-inside i) (held-pred held i) h;
-        entry-is = entry-at;
-      }
+  pub successors-are : (i : ℕ) → listReply (successorsAt (T .counts) (T .lists) (length (T .succ)) i) (T .succ) ≡ askSuccessors L i
+  unfolding successorsAt askSuccessors
+  successors-are i = list-is L (T .counts) (T .lists) (T .succ) nodes-are rows i _ _ (successors L i) (succ-inside i) (held-succ held i)
 
--- after a build that answers with a graph
-pub build-answers : (text : List ℕ) (s : Sizes) (T : Tables) (x : BuiltAnswer) → BuildWrote text s T x → x ≡ built.Graph → (L : Listing) × ListingOf text L × AnswersOf L T
-build-answers text s T x wrote e = let d = demands text s T x wrote .first .graph-of e in (d .0, d .1, answers-of (d .0) s T (d .1 .in-form) (d .2) (d .3))
+  pub predecessors-are : (i : ℕ) → listReply (predecessorsAt (T .counts) (T .lists) (length (T .pred)) i) (T .pred) ≡ askPredecessors L i
+  unfolding predecessorsAt askPredecessors
+  predecessors-are i = list-is L (T .counts) (T .lists) (T .pred) nodes-are rows i _ _ (predecessors L i) (pred-inside i) (held-pred held i)
