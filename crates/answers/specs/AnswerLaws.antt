@@ -69,21 +69,21 @@ framed-refused (Reply.refused k j) o o′ n p g =
     let y : j ≡ p = let e = g .told in cc in
     rw (x, y) refl
 
-module _ (c t a f i u : List ℕ) (h n : ℕ) (v : Name) (g : Bool) (o o′ : List ℕ) (r : Framed) (told : FrameTold (frameAt (getD c 1 0) t a f i u h n v g (length o)) o o′ r) (size : length o ≡ 4096) where
+module _ (c t a f i u : List ℕ) (h n : ℕ) (v : Name) (g : Bool) (o o′ : List ℕ) (r : Framed) (told : FrameTold (frameAt (getD c 0 0) (getD c 1 0) t a f i u h n v g (length o)) o o′ r) (size : length o ≡ 4096) where
   pub frame-fits : (m : ℕ) → r ≡ framed.Listed m → m ≤ length o′
-  frame-fits m e = framed-list (frameAt (getD c 1 0) t a f i u h n v g (length o)) o o′ m (subst (FrameTold (frameAt (getD c 1 0) t a f i u h n v g (length o)) o o′) e told) .0
+  frame-fits m e = framed-list (frameAt (getD c 0 0) (getD c 1 0) t a f i u h n v g (length o)) o o′ m (subst (FrameTold (frameAt (getD c 0 0) (getD c 1 0) t a f i u h n v g (length o)) o o′) e told) .0
 
   pub frame-put : (m : ℕ) → r ≡ framed.Listed m → listRow (bytes "(frame") (take m o′) ≡ frameAnswer c t a f i u h n v g
   unfolding frameAnswer replyRow
   frame-put m e =
-      let q = framed-list (frameAt (getD c 1 0) t a f i u h n v g (length o)) o o′ m (subst (FrameTold (frameAt (getD c 1 0) t a f i u h n v g (length o)) o o′) e told) .1 in
-      sym (ap (replyRow (listRow (bytes "(frame"))) (ap (frameAt (getD c 1 0) t a f i u h n v g) (sym size) ∙ q))
+      let q = framed-list (frameAt (getD c 0 0) (getD c 1 0) t a f i u h n v g (length o)) o o′ m (subst (FrameTold (frameAt (getD c 0 0) (getD c 1 0) t a f i u h n v g (length o)) o o′) e told) .1 in
+      sym (ap (replyRow (listRow (bytes "(frame"))) (ap (frameAt (getD c 0 0) (getD c 1 0) t a f i u h n v g) (sym size) ∙ q))
 
   pub frame-turned : (m p : ℕ) → r ≡ framed.Refused m p → printedRefusal m p ≡ frameAnswer c t a f i u h n v g
   unfolding frameAnswer replyRow
   frame-turned m p e =
-      let q = framed-refused (frameAt (getD c 1 0) t a f i u h n v g (length o)) o o′ m p (subst (FrameTold (frameAt (getD c 1 0) t a f i u h n v g (length o)) o o′) e told) in
-      sym (ap (replyRow (listRow (bytes "(frame"))) (ap (frameAt (getD c 1 0) t a f i u h n v g) (sym size) ∙ q))
+      let q = framed-refused (frameAt (getD c 0 0) (getD c 1 0) t a f i u h n v g (length o)) o o′ m p (subst (FrameTold (frameAt (getD c 0 0) (getD c 1 0) t a f i u h n v g (length o)) o o′) e told) in
+      sym (ap (replyRow (listRow (bytes "(frame"))) (ap (frameAt (getD c 0 0) (getD c 1 0) t a f i u h n v g) (sym size) ∙ q))
 
 -- ---- the numbers of a path
 

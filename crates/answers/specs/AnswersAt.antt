@@ -46,7 +46,7 @@ unfoldable pub entryAnswer : (counts lines entries : List ℕ) → ℕ → List 
 entryAnswer c l e n = replyRow (λ d. listRow (bytes "(entry") (list d)) (entryAt c l e n)
 
 unfoldable pub frameAnswer : (counts stmts args falls lists succ : List ℕ) → (header node : ℕ) → Name → Bool → List ℕ
-frameAnswer c t a f i u h n v flag = replyRow (listRow (bytes "(frame")) (frameAt (getD c 1 0) t a f i u h n v flag 4096)
+frameAnswer c t a f i u h n v flag = replyRow (listRow (bytes "(frame")) (frameAt (getD c 0 0) (getD c 1 0) t a f i u h n v flag 4096)
 
 unfoldable pub answerAt : (counts lines stmts args entries falls lists succ pred : List ℕ) → Question → List ℕ
 answerAt c l t a e f i u p (ofSuccessors n) = successorsAnswer c i u n

@@ -16,7 +16,7 @@ use Rattle.graph.specs.Build.{Capacity, Built, graph, refused as refusedBuild, 
 use Rattle.graph.specs.Questions.{Reply, answer, refused, ifRoom}
 use Rattle.adjacency.specs.ListsAt.{listAt, successorsAt, predecessorsAt}
 use Rattle.adjacency.specs.EntryAt.{nodeIn, entryAt}
-use Rattle.statements.specs.StatementAt.{ifRows, stmtAt, pathStatement, unlessRefused, nodeStatement}
+use Rattle.statements.specs.StatementAt.{ifRows, recordOutside, stmtAt, childAt, ifFound, statementFrom, pathStatement, unlessRefused, nodeStatement}
 use Rattle.frame_lists.specs.FrameAt.{frameOutside, frameRead, frameIn, frameAt}
 use Rattle.telling.specs.BuildTold.{numberOf}
 use Rattle.telling.specs.QuestionTold.{codeOf}
@@ -187,7 +187,17 @@ entry-numbered counts lines entries number =
 stmt-numbered : (stmts : List ℕ) (h : ℕ) → Numbered (stmtAt stmts h)
 unfolding stmtAt
 stmt-numbered stmts zero = omega arith
-stmt-numbered stmts (suc i) = either Numbered (ltb 27 (getD stmts (i * 12) 0)) (refused 25 0) (answer (i, getD stmts (i * 12) 0)) (omega arith) tt
+stmt-numbered stmts (suc i) = tt
+
+found-numbered : (lines : ℕ) (stmts : List ℕ) (r : ℕ) (f : ℕ → Reply (ℕ × ℕ)) → ((k : ℕ) → Numbered (f k)) → Numbered (ifFound lines stmts r f)
+unfolding ifFound
+found-numbered lines stmts zero f h = omega arith
+found-numbered lines stmts (suc i) f h = either Numbered (recordOutside lines stmts i) (refused 25 0) (f (suc i)) (omega arith) (h (suc i))
+
+from-numbered : (lines : ℕ) (stmts : List ℕ) (n line h : ℕ) (path : List ℕ) → Numbered (statementFrom lines stmts n line h path)
+unfolding statementFrom
+from-numbered lines stmts n line h [] = stmt-numbered stmts h
+from-numbered lines stmts n line h (p ∷ path) = found-numbered lines stmts (childAt stmts n line h p) _ (λ k. from-numbered lines stmts n line k path)
 
 rows-held : {A : Type 0} (n : ℕ) (stmts : List ℕ) (q : Reply A) → Numbered q → Numbered (ifRows n stmts q)
 unfolding ifRows
@@ -200,7 +210,8 @@ unless-numbered (suc c) q h = omega arith
 
 path-numbered : (counts stmts : List ℕ) (line : ℕ) (path : List ℕ) → Numbered (pathStatement counts stmts line path)
 unfolding pathStatement
-path-numbered counts stmts line path = rows-held (getD counts 1 0) stmts _ (stmt-numbered stmts _)
+path-numbered counts stmts line path =
+    rows-held (getD counts 1 0) stmts _ (either Numbered (ltb line (getD counts 0 0)) _ _ (from-numbered (getD counts 0 0) stmts (getD counts 1 0) line 0 path) (omega arith))
 
 statement-numbered : (counts stmts : List ℕ) (node : ℕ) → Numbered (nodeStatement counts stmts node)
 unfolding nodeStatement
@@ -210,9 +221,9 @@ room-numbered : (room : ℕ) (l : List ℕ) → Numbered (ifRoom room l)
 unfolding ifRoom
 room-numbered room l = either Numbered (leb (length l) room) (answer l) (refused 28 (length l)) tt (omega arith)
 
-frame-numbered : (n : ℕ) (stmts args falls lists succ : List ℕ) (header node : ℕ) (name : List ℕ) (flag : Bool) (room : ℕ) → Numbered (frameAt n stmts args falls lists succ header node name flag room)
+frame-numbered : (lines n : ℕ) (stmts args falls lists succ : List ℕ) (header node : ℕ) (name : List ℕ) (flag : Bool) (room : ℕ) → Numbered (frameAt lines n stmts args falls lists succ header node name flag room)
 unfolding frameAt frameIn
-frame-numbered n stmts args falls lists succ header node name flag room =
+frame-numbered lines n stmts args falls lists succ header node name flag room =
     either Numbered (isName name) _ _
     (either Numbered (ltb header n) _ _
     (either Numbered (ltb node n) _ _
@@ -245,6 +256,6 @@ zero-path counts stmts line path = zero-answer _ (path-numbered counts stmts lin
 pub zero-entry : (counts lines entries : List ℕ) (number : ℕ) → codeOf (entryAt counts lines entries number) ≡ 0 → (x : Option ℕ) × (entryAt counts lines entries number ≡ answer x)
 zero-entry counts lines entries number = zero-answer _ (entry-numbered counts lines entries number)
 
-pub zero-frame : (n : ℕ) (stmts args falls lists succ : List ℕ) (header node : ℕ) (name : List ℕ) (flag : Bool) (room : ℕ)
-    → codeOf (frameAt n stmts args falls lists succ header node name flag room) ≡ 0 → (l : List ℕ) × (frameAt n stmts args falls lists succ header node name flag room ≡ answer l)
-zero-frame n stmts args falls lists succ header node name flag room = zero-answer _ (frame-numbered n stmts args falls lists succ header node name flag room)
+pub zero-frame : (lines n : ℕ) (stmts args falls lists succ : List ℕ) (header node : ℕ) (name : List ℕ) (flag : Bool) (room : ℕ)
+    → codeOf (frameAt lines n stmts args falls lists succ header node name flag room) ≡ 0 → (l : List ℕ) × (frameAt lines n stmts args falls lists succ header node name flag room ≡ answer l)
+zero-frame lines n stmts args falls lists succ header node name flag room = zero-answer _ (frame-numbered lines n stmts args falls lists succ header node name flag room)

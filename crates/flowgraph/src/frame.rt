@@ -20,7 +20,7 @@ pub extern "C" fn flow_frame(
     out: &mut [u16],
     answer: &mut [usize; 2],
 ) -> u8
-    ensures { λ r. ⌜ ListTold (frameAt (getD (now (counts .entry)) 1 0) (now (stmts .entry)) (now (args .entry)) (now (falls .entry)) (now (lists .entry)) (now (succ .entry)) header node (now (name .entry)) flag (length (now (out .entry)))) (now (out .entry)) (now (out .exit)) r (now (answer .exit)) ⌝ }
+    ensures { λ r. ⌜ ListTold (frameAt (getD (now (counts .entry)) 0 0) (getD (now (counts .entry)) 1 0) (now (stmts .entry)) (now (args .entry)) (now (falls .entry)) (now (lists .entry)) (now (succ .entry)) header node (now (name .entry)) flag (length (now (out .entry)))) (now (out .entry)) (now (out .exit)) r (now (answer .exit)) ⌝ }
 {
     let framed = ask_frame(
         counts,

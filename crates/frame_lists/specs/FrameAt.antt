@@ -53,16 +53,16 @@ unfoldable pub frameOutside : ℕ → (stmts args falls lists succ : List ℕ) �
 frameOutside n stmts args falls lists succ h i =
     shortTables n (length stmts) (length args) (length falls) (length lists) || (partOutside lists succ h || (partOutside lists succ i || fallOutside n stmts falls i))
 
--- ---- the question: "3 (a bad name, place 0), then 24 (the header first), 25, 26, 28"; n: the used count of statements
+-- ---- the question: "3 (a bad name, place 0), then 24 (the header first), 25, 26, 28"; lines, n: the used counts of lines and statements
 
 -- of the name with key k; "26 no statement .. at the path in a node's record"
-unfoldable pub frameIn : ℕ → (stmts args falls lists succ : List ℕ) → (header node key : ℕ) → Bool → (room : ℕ) → Reply (List ℕ)
-frameIn n stmts args falls lists succ h i k flag room =
+unfoldable pub frameIn : (lines n : ℕ) (stmts args falls lists succ : List ℕ) → (header node key : ℕ) → Bool → (room : ℕ) → Reply (List ℕ)
+frameIn lines n stmts args falls lists succ h i k flag room =
     pick (ltb h n)
     (pick (ltb i n)
-    (pick (frameOutside n stmts args falls lists succ h i) (refused 25 0) (unlessRefused (noStatement stmts n i) (ifRoom room (frameRead stmts args falls lists succ h i k flag))))
+    (pick (frameOutside n stmts args falls lists succ h i) (refused 25 0) (unlessRefused (noStatement lines stmts n i) (ifRoom room (frameRead stmts args falls lists succ h i k flag))))
     (refused 24 i))
     (refused 24 h)
 
-unfoldable pub frameAt : ℕ → (stmts args falls lists succ : List ℕ) → (header node : ℕ) → Name → Bool → (room : ℕ) → Reply (List ℕ)
-frameAt n stmts args falls lists succ h i v flag room = pick (isName v) (frameIn n stmts args falls lists succ h i (nameKey v) flag room) (refused 3 0)
+unfoldable pub frameAt : (lines n : ℕ) (stmts args falls lists succ : List ℕ) → (header node : ℕ) → Name → Bool → (room : ℕ) → Reply (List ℕ)
+frameAt lines n stmts args falls lists succ h i v flag room = pick (isName v) (frameIn lines n stmts args falls lists succ h i (nameKey v) flag room) (refused 3 0)

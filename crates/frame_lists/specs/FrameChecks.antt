@@ -155,25 +155,25 @@ module _ (n : ℕ) (stmts args falls lists succ : List ℕ) (h i : ℕ) where
 
   -- ---- the answer's cases
 
-  module _ (k : ℕ) (flag : Bool) (room : ℕ) where
-    pub in-24-header : n ≤ h → frameIn n stmts args falls lists succ h i k flag room ≡ refused 24 h
+  module _ (lines k : ℕ) (flag : Bool) (room : ℕ) where
+    pub in-24-header : n ≤ h → frameIn lines n stmts args falls lists succ h i k flag room ≡ refused 24 h
     unfolding frameIn
     in-24-header a = rw (le-ltb h n a) refl
 
-    pub in-24-node : h < n → n ≤ i → frameIn n stmts args falls lists succ h i k flag room ≡ refused 24 i
+    pub in-24-node : h < n → n ≤ i → frameIn lines n stmts args falls lists succ h i k flag room ≡ refused 24 i
     unfolding frameIn
     in-24-node a b = rw (lt-ltb h n a, le-ltb i n b) refl
 
-    pub in-25 : h < n → i < n → frameOutside n stmts args falls lists succ h i ≡ true → frameIn n stmts args falls lists succ h i k flag room ≡ refused 25 0
+    pub in-25 : h < n → i < n → frameOutside n stmts args falls lists succ h i ≡ true → frameIn lines n stmts args falls lists succ h i k flag room ≡ refused 25 0
     unfolding frameIn
     in-25 a b e = rw (lt-ltb h n a, lt-ltb i n b, e) refl
 
-    module _ (a : h < n) (b : i < n) (e : frameOutside n stmts args falls lists succ h i ≡ false) (c : ℕ) (f : c ≡ noStatement stmts n i) where
-      by-number : unlessRefused c (ifRoom room (frameRead stmts args falls lists succ h i k flag)) ≡ frameIn n stmts args falls lists succ h i k flag room
+    module _ (a : h < n) (b : i < n) (e : frameOutside n stmts args falls lists succ h i ≡ false) (c : ℕ) (f : c ≡ noStatement lines stmts n i) where
+      by-number : unlessRefused c (ifRoom room (frameRead stmts args falls lists succ h i k flag)) ≡ frameIn lines n stmts args falls lists succ h i k flag room
       unfolding frameIn
       by-number = rw (lt-ltb h n a, lt-ltb i n b, e, f) refl
 
-      pub in-26 : (c ≡ 0 → ⊥) → frameIn n stmts args falls lists succ h i k flag room ≡ refused c 0
+      pub in-26 : (c ≡ 0 → ⊥) → frameIn lines n stmts args falls lists succ h i k flag room ≡ refused c 0
       unfolding unlessRefused
       in-26 z = sym by-number ∙ go c z
         where
@@ -181,7 +181,7 @@ module _ (n : ℕ) (stmts args falls lists succ : List ℕ) (h i : ℕ) where
           go zero z = absurd (z refl)
           go (suc c) z = refl
 
-      pub in-list : c ≡ 0 → ifRoom room (frameRead stmts args falls lists succ h i k flag) ≡ frameIn n stmts args falls lists succ h i k flag room
+      pub in-list : c ≡ 0 → ifRoom room (frameRead stmts args falls lists succ h i k flag) ≡ frameIn lines n stmts args falls lists succ h i k flag room
       unfolding unlessRefused
       in-list z = ap (λ (j : ℕ). unlessRefused j (ifRoom room (frameRead stmts args falls lists succ h i k flag))) (sym z) ∙ by-number
 
@@ -214,11 +214,11 @@ name-key v e = rw e
 pub answer-as : (q p : Reply (List ℕ)) (out t : List ℕ) (r : Framed) → q ≡ p → FrameTold q out t r → FrameTold p out t r
 answer-as q p out t r e g = subst (λ (z : Reply (List ℕ)). FrameTold z out t r) e g
 
-module _ (n : ℕ) (stmts args falls lists succ : List ℕ) (h i : ℕ) (v : Name) (flag : Bool) (room : ℕ) where
-  pub at-3 : isName v ≡ false → frameAt n stmts args falls lists succ h i v flag room ≡ refused 3 0
+module _ (lines n : ℕ) (stmts args falls lists succ : List ℕ) (h i : ℕ) (v : Name) (flag : Bool) (room : ℕ) where
+  pub at-3 : isName v ≡ false → frameAt lines n stmts args falls lists succ h i v flag room ≡ refused 3 0
   unfolding frameAt
   at-3 e = rw e refl
 
-  pub at-name : (k m : ℕ) → isName v ≡ true → m ≡ n → k ≡ nameKey v → frameIn m stmts args falls lists succ h i k flag room ≡ frameAt n stmts args falls lists succ h i v flag room
+  pub at-name : (k l m : ℕ) → isName v ≡ true → l ≡ lines → m ≡ n → k ≡ nameKey v → frameIn l m stmts args falls lists succ h i k flag room ≡ frameAt lines n stmts args falls lists succ h i v flag room
   unfolding frameAt
-  at-name k m e d f = rw (e, d, f) refl
+  at-name k l m e g d f = rw (e, g, d, f) refl

@@ -179,6 +179,7 @@ fn key_answer(k: NameKey) -> u64
 
 // Once the name is known to be one. All is decided before the first entry is written.
 fn frame_of(
+    lines: usize,
     n: usize,
     stmts: &[u16],
     args: &[u64],
@@ -191,7 +192,7 @@ fn frame_of(
     flag: bool,
     out: &mut [u16],
 ) -> Framed
-    ensures { λ r. ⌜ FrameTold (frameIn n (now (stmts .entry)) (now (args .entry)) (now (falls .entry)) (now (lists .entry)) (now (succ .entry)) header node key flag (length (now (out .entry)))) (now (out .entry)) (now (out .exit)) r ⌝ }
+    ensures { λ r. ⌜ FrameTold (frameIn lines n (now (stmts .entry)) (now (args .entry)) (now (falls .entry)) (now (lists .entry)) (now (succ .entry)) header node key flag (length (now (out .entry)))) (now (out .entry)) (now (out .exit)) r ⌝ }
 {
     if n <= header {
         return Framed::Refused {
@@ -211,7 +212,7 @@ fn frame_of(
             place: 0,
         };
     }
-    let number = no_statement(stmts, n, node);
+    let number = no_statement(lines, stmts, n, node);
     if number != 0 {
         return Framed::Refused { number, place: 0 };
     }
@@ -243,11 +244,12 @@ pub fn ask_frame(
     flag: bool,
     out: &mut [u16],
 ) -> Framed
-    ensures { λ r. ⌜ FrameTold (frameAt (getD (now (counts .entry)) 1 0) (now (stmts .entry)) (now (args .entry)) (now (falls .entry)) (now (lists .entry)) (now (succ .entry)) header node (now (name .entry)) flag (length (now (out .entry)))) (now (out .entry)) (now (out .exit)) r ⌝ }
+    ensures { λ r. ⌜ FrameTold (frameAt (getD (now (counts .entry)) 0 0) (getD (now (counts .entry)) 1 0) (now (stmts .entry)) (now (args .entry)) (now (falls .entry)) (now (lists .entry)) (now (succ .entry)) header node (now (name .entry)) flag (length (now (out .entry)))) (now (out .entry)) (now (out .exit)) r ⌝ }
 {
     if is_name(name) {
         let key = key_answer(key_of(name));
         return frame_of(
+            count_of(counts[0]),
             count_of(counts[1]),
             stmts,
             args,

@@ -97,7 +97,7 @@ key-told ts ks i v s ok l u t q =
 -- ---- what the tables say
 
 -- of the n nodes of the listing L
-pub record FrameTables (L : Listing) (n : ℕ) (stmts args falls lists succ : List ℕ) : Type 0 where
+pub record FrameTables (L : Listing) (lines n : ℕ) (stmts args falls lists succ : List ℕ) : Type 0 where
   pub nodes-are : n ≡ nodeCount L
   pub in-stmts : n * 12 ≤ length stmts
   pub in-args : n * 64 ≤ length args
@@ -108,9 +108,9 @@ pub record FrameTables (L : Listing) (n : ℕ) (stmts args falls lists succ : Li
   pub lists-in : (i : ℕ) → i < n → succStart lists i + succCount lists i ≤ length succ
   pub continues : (i : ℕ) (d : Node) → getElem? (wire L .nodes) i ≡ some d → continuationEntry stmts falls i ≡ continuation (wire L) i
   pub falls-in : (i : ℕ) → i < n → getD falls (i * 3) 0 ≤ n
-  pub has-stmt : (i : ℕ) → i < n → noStatement stmts n i ≡ 0
+  pub has-stmt : (i : ℕ) → i < n → noStatement lines stmts n i ≡ 0
 
-module _ {L : Listing} {n : ℕ} {stmts args falls lists succ : List ℕ} (g : FrameTables L n stmts args falls lists succ) where
+module _ {L : Listing} {lines n : ℕ} {stmts args falls lists succ : List ℕ} (g : FrameTables L lines n stmts args falls lists succ) where
   part-in : (i : ℕ) → i < n → partOutside lists succ i ≡ false
   unfolding partOutside
   part-in i h = le-ltb (length succ) (succStart lists i + succCount lists i) (g .lists-in i h)
@@ -147,12 +147,12 @@ module _ {L : Listing} {n : ℕ} {stmts args falls lists succ : List ℕ} (g : F
     read-is = let p = some-at (wire L .nodes) i (omega (arith, g .nodes-are)) in node-read (p .0) (p .1)
 
   -- the answer read from the tables is that of the listing's graph
-  pub frame-is : (h i : ℕ) (v : Name) (flag : Bool) (room : ℕ) → frameAt n stmts args falls lists succ h i v flag room ≡ askFrame L h i v flag room
+  pub frame-is : (h i : ℕ) (v : Name) (flag : Bool) (room : ℕ) → frameAt lines n stmts args falls lists succ h i v flag room ≡ askFrame L h i v flag room
   unfolding frameAt frameIn unlessRefused askFrame ifNode wire
   frame-is h i v flag room = go (isName v) (ltb h n) (ltb i n) refl refl refl
     where
       go : (x y z : Bool) → isName v ≡ x → ltb h n ≡ y → ltb i n ≡ z
-          → pick x (pick y (pick z (pick (frameOutside n stmts args falls lists succ h i) (refused 25 0) (unlessRefused (noStatement stmts n i) (ifRoom room (frameRead stmts args falls lists succ h i (nameKey v) flag)))) (refused 24 i)) (refused 24 h)) (refused 3 0)
+          → pick x (pick y (pick z (pick (frameOutside n stmts args falls lists succ h i) (refused 25 0) (unlessRefused (noStatement lines stmts n i) (ifRoom room (frameRead stmts args falls lists succ h i (nameKey v) flag)))) (refused 24 i)) (refused 24 h)) (refused 3 0)
           ≡ pick x (pick (ltb h (length (nodes (L .lines)))) (pick (ltb i (length (nodes (L .lines)))) (ifRoom room (frameList L h i v flag)) (refused 24 i)) (refused 24 h)) (refused 3 0)
       go false y z e f k = refl
       go true false z e f k = rw (sym (g .nodes-are), f) refl
@@ -211,14 +211,14 @@ module _ (L : Listing) (s : Sizes) (T : Tables) (ok : InForm L) (f : LongEnough 
       let q : Below (nodeCount L) ((p .0) .fall) = subst (λ (o : Option Node). Below (nodeCount L) (fallOf o)) (p .1) (fall-below L i) in
       omega (arith, fall-of (wire L .entries) (wire L .nodes) (length (T .falls)) (T .falls) (held .falls-are) i (p .0) (p .1), number-below (nodeCount L) ((p .0) .fall) q, nodes-total L)
 
-  stmt-of : (i : ℕ) → i < total (L .lines) → noStatement (T .stmts) (total (L .lines)) i ≡ 0
+  stmt-of : (i : ℕ) → i < total (L .lines) → noStatement (count (L .lines)) (T .stmts) (total (L .lines)) i ≡ 0
   unfolding wire nodes padded
   stmt-of i h =
       let p = some-at (wire L .nodes) i (omega (arith, nodes-total L)) in
       let r = recorded-by (L .lines) (ok .lines) (T .lines) (T .stmts) _ _ (held .lines-are) (held .stmts-are) in
-      ap (λ (k : ℕ). noStatement (T .stmts) k i) (sym (nodes-total L)) ∙ stated (T .stmts) (nodesBefore none (L .lines)) r i (p .0) (p .1)
+      ap (λ (k : ℕ). noStatement (count (L .lines)) (T .stmts) k i) (sym (nodes-total L)) ∙ stated (count (L .lines)) (T .stmts) (nodesBefore none (L .lines)) r i (p .0) (p .1)
 
-  frame-tables : FrameTables L (total (L .lines)) (T .stmts) (T .args) (T .falls) (T .lists) (T .succ)
+  frame-tables : FrameTables L (count (L .lines)) (total (L .lines)) (T .stmts) (T .args) (T .falls) (T .lists) (T .succ)
   frame-tables =
       record {
         nodes-are = sym (nodes-total L);
@@ -236,12 +236,12 @@ module _ (L : Listing) (s : Sizes) (T : Tables) (ok : InForm L) (f : LongEnough 
 
   -- `ask_frame` on these tables
   pub frame-built : (h i : ℕ) (v : Name) (flag : Bool) (room : ℕ)
-      → frameAt (getD (T .counts) 1 0) (T .stmts) (T .args) (T .falls) (T .lists) (T .succ) h i v flag room ≡ askFrame L h i v flag room
+      → frameAt (getD (T .counts) 0 0) (getD (T .counts) 1 0) (T .stmts) (T .args) (T .falls) (T .lists) (T .succ) h i v flag room ≡ askFrame L h i v flag room
   unfolding countTable padded
   frame-built h i v flag room =
-      ap (λ (t : List ℕ). frameAt (getD t 1 0) (T .stmts) (T .args) (T .falls) (T .lists) (T .succ) h i v flag room) (w .counts) ∙ frame-is frame-tables h i v flag room
+      ap (λ (t : List ℕ). frameAt (getD t 0 0) (getD t 1 0) (T .stmts) (T .args) (T .falls) (T .lists) (T .succ) h i v flag room) (w .counts) ∙ frame-is frame-tables h i v flag room
 
   -- so what `ask_frame` promises is the answer of the listing's graph
   pub frame-told : (h i : ℕ) (v : Name) (flag : Bool) (out out′ : List ℕ) (r : Framed)
-      → FrameTold (frameAt (getD (T .counts) 1 0) (T .stmts) (T .args) (T .falls) (T .lists) (T .succ) h i v flag (length out)) out out′ r → FrameTold (askFrame L h i v flag (length out)) out out′ r
+      → FrameTold (frameAt (getD (T .counts) 0 0) (getD (T .counts) 1 0) (T .stmts) (T .args) (T .falls) (T .lists) (T .succ) h i v flag (length out)) out out′ r → FrameTold (askFrame L h i v flag (length out)) out out′ r
   frame-told h i v flag out out′ r g = answer-as _ _ out out′ r (frame-built h i v flag (length out)) g

@@ -6,12 +6,12 @@ use mathlib.Core.List.{List, [], _∷_, _++_, append-assoc, append-nil}
 use mathlib.Core.Logic.{inl, inr}
 use mathlib.Core.Option.{Option, none, some}
 use native.Mathlib.Omega.{arith}
-use borrow.Author.Tests.{eq-eqb, eqb-true, lt-ltb, le-ltb}
+use borrow.Author.Tests.{eq-eqb, eqb-true, lt-ltb, lt-leb}
 use lib.Dec.{eqb}
 use lib.ListN.{length, getD, getElem?, length-append}
 use Rattle.listings.specs.Bytes.{same, pick}
 use Rattle.listings.specs.WordText.{same-equal}
-use Rattle.listings.specs.Listing.{Lines}
+use Rattle.listings.specs.Listing.{Lines, count}
 use Rattle.listings.specs.ListingText.{LinesOk}
 use Rattle.listings.specs.Records.{lineNumbers, lineRecs, recRows}
 use Rattle.graph.specs.Nodes.{Node, nodesBefore}
@@ -22,11 +22,11 @@ use Rattle.passes.specs.OpenerLaws.{in-range}
 use Rattle.passes.specs.Paths.{node-read}
 use Rattle.tables.specs.Columns.{wordOf, holderOf, indexOf, lineOf, heldBy, pathIn}
 use Rattle.passes.specs.ListedNodes.{same-self}
-use Rattle.graph.specs.Questions.{nodeFrom}
-use Rattle.statements.specs.StatementAt.{branchingWord, standsAt, firstFrom, childAt, ifFound, nodeAt, climb, noStatement}
-use Rattle.statements.specs.StatementLaws.{other-holder, other-index, under-if, on-line, node-snoc}
-use Rattle.questions.specs.PathNodes.{HeldBy, onLine, inIf, one-node, node-held}
-use Rattle.questions.specs.Words.{word-low, branching-word}
+use Rattle.graph.specs.Questions.{Reply, nodeFrom}
+use Rattle.statements.specs.StatementAt.{recordOutside, branchingWord, standsAt, firstFrom, childAt, stmtAt, ifFound, statementFrom, climb, noStatement}
+use Rattle.statements.specs.StatementLaws.{other-holder, other-index, under-if, on-line, child-le}
+use Rattle.questions.specs.PathNodes.{HeldBy, onLine, inIf, line-below, one-node, node-held}
+use Rattle.questions.specs.Words.{word-opens, branching-word}
 
 -- ---- the first that passes
 
@@ -106,6 +106,47 @@ sought (n ∷ ns) i line path = go (eqb (n .line) line) (same (n .path) path) re
     go true false e f r s = later r (not-path f) s
     go false y e f r s = later r (not-line e) s
 
+-- ---- the node at a path, where no record points outside
+
+abbrev ifSome : ℕ → (ℕ → ℕ) → ℕ
+ifSome zero f = 0
+ifSome (suc i) f = f (suc i)
+
+-- one more than the node at a path, or 0: by each number to what the node found so far holds
+unfoldable pub nodeAt : (stmts : List ℕ) (n line h : ℕ) → List ℕ → ℕ
+nodeAt stmts n line h [] = h
+nodeAt stmts n line h (p ∷ ps) = ifSome (childAt stmts n line h p) (λ k. nodeAt stmts n line k ps)
+
+module _ (stmts : List ℕ) (n line : ℕ) where
+  if-self : (c : ℕ) → ifSome c (λ k. k) ≡ c
+  if-self zero = refl
+  if-self (suc c) = refl
+
+  -- one number more
+  node-snoc : (h q : ℕ) (qs : List ℕ) (x : ℕ) → nodeAt stmts n line h (q ∷ (qs ++ (x ∷ []))) ≡ ifSome (nodeAt stmts n line h (q ∷ qs)) (λ k. childAt stmts n line k x)
+  unfolding nodeAt
+  node-snoc h q [] x = go (childAt stmts n line h q)
+    where
+      go : (c : ℕ) → ifSome c (λ k. ifSome (childAt stmts n line k x) (λ j. j)) ≡ ifSome (ifSome c (λ k. k)) (λ k. childAt stmts n line k x)
+      go zero = refl
+      go (suc c) = if-self (childAt stmts n line (suc c) x)
+  node-snoc h q (p ∷ qs) x = go (childAt stmts n line h q) (λ c. node-snoc c p qs x)
+    where
+      go : (c : ℕ) → ((k : ℕ) → nodeAt stmts n line k (p ∷ (qs ++ (x ∷ []))) ≡ ifSome (nodeAt stmts n line k (p ∷ qs)) (λ j. childAt stmts n line j x))
+          → ifSome c (λ k. nodeAt stmts n line k (p ∷ (qs ++ (x ∷ [])))) ≡ ifSome (ifSome c (λ k. nodeAt stmts n line k (p ∷ qs))) (λ k. childAt stmts n line k x)
+      go zero f = refl
+      go (suc c) f = f (suc c)
+
+  from-node : (lines : ℕ) → ((i : ℕ) → i < n → recordOutside lines stmts i ≡ false) → (h : ℕ) (ps : List ℕ) → statementFrom lines stmts n line h ps ≡ stmtAt stmts (nodeAt stmts n line h ps)
+  unfolding statementFrom nodeAt ifFound stmtAt
+  from-node lines f h [] = refl
+  from-node lines f h (p ∷ ps) = go (childAt stmts n line h p) (child-le stmts n line h p) (λ k. from-node lines f k ps)
+    where
+      go : (c : ℕ) → c ≤ n → ((k : ℕ) → statementFrom lines stmts n line k ps ≡ stmtAt stmts (nodeAt stmts n line k ps))
+          → ifFound lines stmts c (λ k. statementFrom lines stmts n line k ps) ≡ stmtAt stmts (ifSome c (λ k. nodeAt stmts n line k ps))
+      go zero e r = refl
+      go (suc i) e r = rw (f i (omega arith)) (r (suc i))
+
 -- ---- down a path
 
 stands-true : (stmts : List ℕ) (line h p i : ℕ) → standsAt stmts line h p i ≡ true → (holderOf stmts i ≡ h) × (indexOf stmts i ≡ p) × (h ≡ 0 → lineOf stmts i ≡ line)
@@ -121,16 +162,17 @@ stands-true stmts line h p i e =
     no : false ≡ standsAt stmts line h p i → ⊥
     no f = let y : false ≡ true = f ∙ e in let w : _≡_ {A = ℕ} 0 1 = cc in absurd (omega arith)
 
-module _ (stmts : List ℕ) (ns : List Node) where
+module _ (lines : ℕ) (stmts : List ℕ) (ns : List Node) where
   -- what the records say of these nodes
   pub record Recorded : Type 0 where
     pub one : (i j : ℕ) (a b : Node) → getElem? ns i ≡ some a → getElem? ns j ≡ some b → a .line ≡ b .line → a .path ≡ b .path → i ≡ j
     pub held : (i : ℕ) (d : Node) → getElem? ns i ≡ some d → HeldBy (λ j. getElem? ns j) (holderOf stmts i) (indexOf stmts i) i d
     pub lined : (i : ℕ) (d : Node) → getElem? ns i ≡ some d → lineOf stmts i ≡ d .line
+    pub below : (i : ℕ) (d : Node) → getElem? ns i ≡ some d → d .line < lines
     pub worded : (i : ℕ) (d : Node) → getElem? ns i ≡ some d → getD stmts (i * 12) 0 ≡ stmtNumber (d .stmt)
     pub short : (i : ℕ) (d : Node) → getElem? ns i ≡ some d → length (d .path) ≤ 17
 
-module _ (stmts : List ℕ) (ns : List Node) (R : Recorded stmts ns) where
+module _ (lines : ℕ) (stmts : List ℕ) (ns : List Node) (R : Recorded lines stmts ns) where
   both : (j : ℕ) (a b : Node) → getElem? ns j ≡ some a → getElem? ns j ≡ some b → a ≡ b
   both j a b e f = let q : some a ≡ some b = sym e ∙ f in let r : a ≡ b = cc in r
 
@@ -172,7 +214,7 @@ module _ (stmts : List ℕ) (ns : List Node) (R : Recorded stmts ns) where
   node-on : (line : ℕ) (ps : List ℕ) (j x : ℕ) → nodeAt stmts (length ns) line 0 ps ≡ suc j → nodeAt stmts (length ns) line 0 (ps ++ (x ∷ [])) ≡ childAt stmts (length ns) line (suc j) x
   unfolding nodeAt
   node-on line [] j x e = absurd (omega arith)
-  node-on line (q ∷ qs) j x e = node-snoc stmts (length ns) line 0 q qs x ∙ ap (λ (z : ℕ). ifFound z (λ k. childAt stmts (length ns) line k x)) e
+  node-on line (q ∷ qs) j x e = node-snoc stmts (length ns) line 0 q qs x ∙ ap (λ (z : ℕ). ifSome z (λ k. childAt stmts (length ns) line k x)) e
 
   -- "every node's path leads back to it"
   leads : (k i : ℕ) (d : Node) → i < k → getElem? ns i ≡ some d → nodeAt stmts (length ns) (d .line) 0 (d .path) ≡ suc i
@@ -181,7 +223,7 @@ module _ (stmts : List ℕ) (ns : List Node) (R : Recorded stmts ns) where
   leads (suc k) i d h e = go (R .held i d e) (λ j m l f. leads k j m l f)
     where
       go : HeldBy (λ j. getElem? ns j) (holderOf stmts i) (indexOf stmts i) i d → ((j : ℕ) (m : Node) → j < k → getElem? ns j ≡ some m → nodeAt stmts (length ns) (m .line) 0 (m .path) ≡ suc j) → nodeAt stmts (length ns) (d .line) 0 (d .path) ≡ suc i
-      go (onLine a p) f = ap (λ (l : List ℕ). nodeAt stmts (length ns) (d .line) 0 l) p ∙ ap (λ (c : ℕ). ifFound c (λ o. o)) (child-is i d e 0 (indexOf stmts i) a refl)
+      go (onLine a p) f = ap (λ (l : List ℕ). nodeAt stmts (length ns) (d .line) 0 l) p ∙ ap (λ (c : ℕ). ifSome c (λ o. o)) (child-is i d e 0 (indexOf stmts i) a refl)
       go (inIf j m u o v y w q) f =
           ap (λ (l : List ℕ). nodeAt stmts (length ns) (d .line) 0 l) q
           ∙ node-on (d .line) (m .path) j (indexOf stmts i) (ap (λ (o : ℕ). nodeAt stmts (length ns) o 0 (m .path)) (sym w) ∙ f j m (omega arith) u)
@@ -219,7 +261,7 @@ module _ (stmts : List ℕ) (ns : List Node) (R : Recorded stmts ns) where
   sound line h q [] i (node j a s) e = let z : j ≡ i = omega arith in rw (← z, append-nil q) s
   sound line h q (p ∷ ps) i s e = go (childAt stmts (length ns) line h p) refl e (λ k t f. sound line k (q ++ (p ∷ [])) ps i t f)
     where
-      go : (c : ℕ) → childAt stmts (length ns) line h p ≡ c → ifFound c (λ k. nodeAt stmts (length ns) line k ps) ≡ suc i
+      go : (c : ℕ) → childAt stmts (length ns) line h p ≡ c → ifSome c (λ k. nodeAt stmts (length ns) line k ps) ≡ suc i
           → ((k : ℕ) → Spot line k (q ++ (p ∷ [])) → nodeAt stmts (length ns) line k ps ≡ suc i → Stands ns line ((q ++ (p ∷ [])) ++ ps) i) → Stands ns line (q ++ (p ∷ ps)) i
       go zero f e r = absurd (omega arith)
       go (suc j) f e r =
@@ -231,6 +273,13 @@ module _ (stmts : List ℕ) (ns : List Node) (R : Recorded stmts ns) where
   pub stands-there : (line : ℕ) (path : List ℕ) (i : ℕ) → nodeAt stmts (length ns) line 0 path ≡ suc i → Stands ns line path i
   stands-there line path i e = sound line 0 [] path i (start refl refl) e
 
+  record-in : (i : ℕ) (d : Node) → getElem? ns i ≡ some d → recordOutside lines stmts i ≡ false
+  unfolding recordOutside wordOf
+  record-in i d e = rw (R .worded i d e, word-opens (d .stmt), R .lined i d e) (lt-leb lines (d .line) (R .below i d e))
+
+  pub by-node-at : (line : ℕ) (path : List ℕ) → statementFrom lines stmts (length ns) line 0 path ≡ stmtAt stmts (nodeAt stmts (length ns) line 0 path)
+  by-node-at line path = from-node stmts (length ns) line lines (λ i l. let p = at-place ns i l in record-in i (p .0) (p .1)) 0 path
+
   -- ---- up by the holders
 
   some-path : (i : ℕ) (d : Node) → getElem? ns i ≡ some d → 0 < length (d .path)
@@ -240,26 +289,26 @@ module _ (stmts : List ℕ) (ns : List Node) (R : Recorded stmts ns) where
       go (onLine a p) = omega (arith, ap length p)
       go (inIf j m u o v y w q) = omega (arith, ap length q, length-append (m .path) (indexOf stmts i ∷ []))
 
-  climb-is : (k i : ℕ) (d : Node) → getElem? ns i ≡ some d → length (d .path) ≤ suc k → climb stmts (length ns) k (holderOf stmts i) ≡ 0
+  climb-is : (k i : ℕ) (d : Node) → getElem? ns i ≡ some d → length (d .path) ≤ suc k → climb lines stmts (length ns) k (holderOf stmts i) ≡ 0
   unfolding climb wordOf
   climb-is zero i d e h = go (R .held i d e)
     where
-      go : HeldBy (λ j. getElem? ns j) (holderOf stmts i) (indexOf stmts i) i d → climb stmts (length ns) 0 (holderOf stmts i) ≡ 0
+      go : HeldBy (λ j. getElem? ns j) (holderOf stmts i) (indexOf stmts i) i d → climb lines stmts (length ns) 0 (holderOf stmts i) ≡ 0
       go (onLine a p) = rw a refl
       go (inIf j m u o v y w q) = absurd (omega (arith, some-path j m u, h, ap length q, length-append (m .path) (indexOf stmts i ∷ [])))
   climb-is (suc k) i d e h = go (R .held i d e) (λ j m f l. climb-is k j m f l)
     where
-      go : HeldBy (λ j. getElem? ns j) (holderOf stmts i) (indexOf stmts i) i d → ((j : ℕ) (m : Node) → getElem? ns j ≡ some m → length (m .path) ≤ suc k → climb stmts (length ns) k (holderOf stmts j) ≡ 0)
-          → climb stmts (length ns) (suc k) (holderOf stmts i) ≡ 0
+      go : HeldBy (λ j. getElem? ns j) (holderOf stmts i) (indexOf stmts i) i d → ((j : ℕ) (m : Node) → getElem? ns j ≡ some m → length (m .path) ≤ suc k → climb lines stmts (length ns) k (holderOf stmts j) ≡ 0)
+          → climb lines stmts (length ns) (suc k) (holderOf stmts i) ≡ 0
       go (onLine a p) f = rw a refl
       go (inIf j m u o v y w q) f =
-          rw (y, lt-ltb j (length ns) (in-range ns j m u), R .worded j m u, branching-word (m .stmt) o)
+          rw (y, lt-ltb j (length ns) (in-range ns j m u), record-in j m u, R .worded j m u, branching-word (m .stmt) o)
           (f j m u (omega (arith, h, ap length q, length-append (m .path) (indexOf stmts i ∷ []))))
 
   -- each node has a statement
-  pub stated : (i : ℕ) (d : Node) → getElem? ns i ≡ some d → noStatement stmts (length ns) i ≡ 0
-  unfolding noStatement wordOf
-  stated i d e = rw (R .worded i d e, le-ltb 27 (stmtNumber (d .stmt)) (word-low (d .stmt))) (climb-is 16 i d e (R .short i d e))
+  pub stated : (i : ℕ) (d : Node) → getElem? ns i ≡ some d → noStatement lines stmts (length ns) i ≡ 0
+  unfolding noStatement
+  stated i d e = rw (record-in i d e) (climb-is 16 i d e (R .short i d e))
 
 -- ---- the tables that hold a listing
 
@@ -272,13 +321,14 @@ path-short stmts (suc k) i = go (holderOf stmts i) (λ h. path-short stmts k h)
     go zero f = omega arith
     go (suc h) f = omega (arith, f h, length-append (pathIn stmts k h) (indexOf stmts i ∷ []))
 
-pub recorded-by : (ls : Lines) → LinesOk ls → (lines stmts more rest : List ℕ) → lines ≡ lineNumbers ls ++ more → stmts ≡ recRows (lineRecs ls) ++ rest → Recorded stmts (nodesBefore none ls)
+pub recorded-by : (ls : Lines) → LinesOk ls → (lines stmts more rest : List ℕ) → lines ≡ lineNumbers ls ++ more → stmts ≡ recRows (lineRecs ls) ++ rest → Recorded (count ls) stmts (nodesBefore none ls)
 recorded-by ls ok lines stmts more rest el es =
     let r = node-read ls ok lines stmts more rest el es in
     record {
       one = one-node ls;
       held = node-held ls stmts rest es;
       lined = λ i d e. r i d e .line-is;
+      below = line-below ls;
       worded = λ i d e. r i d e .word-is;
       short = λ i d e. omega (arith, path-short stmts 16 i, ap length (r i d e .path-is));
     }

@@ -126,6 +126,9 @@ lines-distinct e (line ls n s) =
     distinct-append (lines-distinct (lineEntry (total ls) s e) ls) (stmts-distinct (count ls) n [] (total ls) 0 e s)
     (cross (λ a b h g f _. absurd (omega (arith, h, g, f))) (lines-below (lineEntry (total ls) s e) ls) (stmts-line (count ls) n [] (total ls) 0 e s))
 
+pub line-below : (ls : Lines) (i : ℕ) (d : Node) → getElem? (nodesBefore none ls) i ≡ some d → d .line < count ls
+line-below ls i d e = all-at (lines-below none ls) i d e
+
 pub one-node : (ls : Lines) (i j : ℕ) (a b : Node) → getElem? (nodesBefore none ls) i ≡ some a → getElem? (nodesBefore none ls) j ≡ some b → a .line ≡ b .line → a .path ≡ b .path → i ≡ j
 one-node ls = distinct-at (lines-distinct none ls)
 

@@ -7,7 +7,7 @@ use mathlib.Core.Option.{Option, none, some}
 use native.Mathlib.Omega.{arith}
 use borrow.Author.Tests.{lt-ltb, le-ltb}
 use lib.ListN.{length, getD, getElem?, replicate, length-append, length-replicate}
-use Rattle.listings.specs.Listing.{Listing}
+use Rattle.listings.specs.Listing.{Listing, count}
 use Rattle.listings.specs.WordTable.{wordIndex}
 use Rattle.listings.specs.Records.{lineRecs, recRows, padded}
 use Rattle.graph.specs.Nodes.{Node, nodes, nodesBefore}
@@ -17,13 +17,12 @@ use Rattle.graph.specs.Graph.{wire}
 use Rattle.passes.specs.Compare.{lt-or}
 use Rattle.passes.specs.LineEntries.{at-place}
 use Rattle.tables.specs.Columns.{wordOf}
-use Rattle.wiring.specs.GraphTables.{Sizes, lineTable, stmtTable}
+use Rattle.wiring.specs.GraphTables.{Sizes, countTable, lineTable, stmtTable}
 use Rattle.wiring.specs.Demands.{Tables, BuildWrote, ListingOf, LongEnough, Written, NodeWritten, Demand2, demands}
 use Rattle.wiring.specs.declared.build.Built.{Built as BuiltAnswer}
 use Rattle.graph.specs.Questions.{Reply, answer, refused, nodeFrom, statementOf, askStatement, foundOr, askPath}
-use Rattle.statements.specs.StatementAt.{ifRows, nodeAt, stmtAt, pathStatement, noStatement, unlessRefused, nodeStatement}
-use Rattle.questions.specs.PathAnswers.{Stands, Sought, found, missing, sought, Recorded, leads-back, stands-there, stated, recorded-by}
-use Rattle.questions.specs.Words.{word-low}
+use Rattle.statements.specs.StatementAt.{ifRows, stmtAt, pathStatement, noStatement, unlessRefused, nodeStatement}
+use Rattle.questions.specs.PathAnswers.{Stands, Sought, found, missing, sought, nodeAt, Recorded, leads-back, stands-there, by-node-at, stated, recorded-by}
 
 -- an answer with the opening word as its number in the table of the 28
 unfoldable pub numbered : Reply (ℕ × List ℕ) → Reply (ℕ × ℕ)
@@ -61,7 +60,11 @@ module _ (text : List ℕ) (s : Sizes) (T : Tables) (x : BuiltAnswer) (wrote : B
   unfolding wire nodes
   count-is = second .nodes
 
-  recorded : Recorded (T .stmts) ns
+  lines-are : getD (T .counts) 0 0 ≡ count (L .lines)
+  unfolding countTable padded
+  lines-are = ap (λ (t : List ℕ). getD t 0 0) (written .counts)
+
+  recorded : Recorded (count (L .lines)) (T .stmts) ns
   unfolding lineTable stmtTable padded
   recorded = recorded-by (L .lines) (h .in-form .lines) (T .lines) (T .stmts) _ _ (written .lines) (written .stmts)
 
@@ -70,27 +73,34 @@ module _ (text : List ℕ) (s : Sizes) (T : Tables) (x : BuiltAnswer) (wrote : B
   rows = omega (arith, g .nodes .in-stmts, length-nodes none (L .lines), ap length (written .stmts), padded-long (s .stmts) (recRows (lineRecs (L .lines))))
 
   stmt-is : (i : ℕ) (d : Node) → getElem? ns i ≡ some d → stmtAt (T .stmts) (suc i) ≡ answer (i, stmtNumber (d .stmt))
-  unfolding stmtAt wordOf
-  stmt-is i d e =
-      let q : getD (T .stmts) (i * 12) 0 ≡ stmtNumber (d .stmt) = node-written i d e .word in
-      rw (q, le-ltb 27 (stmtNumber (d .stmt)) (word-low (d .stmt))) refl
+  unfolding stmtAt
+  stmt-is i d e = ap (λ (w : ℕ). answer (i, w)) (node-written i d e .word)
 
-  by-path : (li : ℕ) (p : List ℕ) → pathStatement (T .counts) (T .stmts) li p ≡ stmtAt (T .stmts) (nodeAt (T .stmts) (length ns) li 0 p)
-  unfolding pathStatement ifRows
-  by-path li p = rw (count-is, le-ltb (length (T .stmts)) (length ns * 12) rows) refl
+  module _ (li : ℕ) (p : List ℕ) where
+    by-path : li < count (L .lines) → pathStatement (T .counts) (T .stmts) li p ≡ stmtAt (T .stmts) (nodeAt (T .stmts) (length ns) li 0 p)
+    unfolding pathStatement ifRows
+    by-path l = rw (count-is, lines-are, le-ltb (length (T .stmts)) (length ns * 12) rows, lt-ltb li (count (L .lines)) l) (by-node-at (count (L .lines)) (T .stmts) ns recorded li p)
+
+    no-line : count (L .lines) ≤ li → pathStatement (T .counts) (T .stmts) li p ≡ refused 26 0
+    unfolding pathStatement ifRows
+    no-line l = rw (count-is, lines-are, le-ltb (length (T .stmts)) (length ns * 12) rows, le-ltb li (count (L .lines)) l) refl
 
   -- every node's path leads back to it
   pub path-back : (i : ℕ) (d : Node) → getElem? (nodesBefore none (L .lines)) i ≡ some d → pathStatement (T .counts) (T .stmts) (d .line) (d .path) ≡ answer (i, stmtNumber (d .stmt))
-  path-back i d e = by-path (d .line) (d .path) ∙ ap (stmtAt (T .stmts)) (leads-back (T .stmts) ns recorded i d e) ∙ stmt-is i d e
+  path-back i d e = by-path (d .line) (d .path) (recorded .below i d e) ∙ ap (stmtAt (T .stmts)) (leads-back (count (L .lines)) (T .stmts) ns recorded i d e) ∙ stmt-is i d e
 
   -- the statement at a path is that of the listing
   pub path-answer : (li : ℕ) (p : List ℕ) → pathStatement (T .counts) (T .stmts) li p ≡ numbered (askPath L li p)
   unfolding askPath foundOr nodes numbered stmtNumber stmtAt
-  path-answer li p = by-path li p ∙ go (nodeFrom 0 li p ns) (sought ns 0 li p)
+  path-answer li p = elim (lt-or li (count (L .lines))) [ inl l ↦ by-path li p l ∙ go (nodeFrom 0 li p ns) (sought ns 0 li p) | inr l ↦ no-line li p l ∙ past l (nodeFrom 0 li p ns) (sought ns 0 li p) ]
     where
+      past : count (L .lines) ≤ li → (r : Option (ℕ × List ℕ)) → Sought ns 0 li p r → refused 26 0 ≡ numbered (foundOr r)
+      past l r (found k d) = absurd (omega (arith, l, recorded .below k (d .node) (d .is), d .line-is))
+      past l r (missing f) = refl
+
       none-there : ((k : ℕ) → Stands ns li p k → ⊥) → (k : ℕ) → nodeAt (T .stmts) (length ns) li 0 p ≡ k → stmtAt (T .stmts) k ≡ refused 26 0
       none-there f zero e = refl
-      none-there f (suc k) e = absurd (f k (stands-there (T .stmts) ns recorded li p k e))
+      none-there f (suc k) e = absurd (f k (stands-there (count (L .lines)) (T .stmts) ns recorded li p k e))
 
       go : (r : Option (ℕ × List ℕ)) → Sought ns 0 li p r → stmtAt (T .stmts) (nodeAt (T .stmts) (length ns) li 0 p) ≡ numbered (foundOr r)
       go r (found k d) =
@@ -98,13 +108,13 @@ module _ (text : List ℕ) (s : Sizes) (T : Tables) (x : BuiltAnswer) (wrote : B
           let q : nodeAt (T .stmts) (length ns) li 0 p ≡ suc k
           = ap (λ (o : ℕ). nodeAt (T .stmts) (length ns) o 0 p) (sym (d .line-is))
           ∙ ap (λ (o : List ℕ). nodeAt (T .stmts) (length ns) (d .node .line) 0 o) (sym (d .path-is))
-          ∙ leads-back (T .stmts) ns recorded k (d .node) (d .is) in
+          ∙ leads-back (count (L .lines)) (T .stmts) ns recorded k (d .node) (d .is) in
           ap (stmtAt (T .stmts)) q ∙ stmt-is k (d .node) (d .is) ∙ ap (λ (o : ℕ). answer (o, stmtNumber (d .node .stmt))) z
       go r (missing f) = none-there f (nodeAt (T .stmts) (length ns) li 0 p) refl
 
-  by-node : (i : ℕ) → i < length ns → nodeStatement (T .counts) (T .stmts) i ≡ unlessRefused (noStatement (T .stmts) (length ns) i) (answer (i, wordOf (T .stmts) i))
+  by-node : (i : ℕ) → i < length ns → nodeStatement (T .counts) (T .stmts) i ≡ unlessRefused (noStatement (count (L .lines)) (T .stmts) (length ns) i) (answer (i, wordOf (T .stmts) i))
   unfolding nodeStatement ifRows
-  by-node i l = rw (count-is, lt-ltb i (length ns) l, le-ltb (length (T .stmts)) (length ns * 12) rows) refl
+  by-node i l = rw (count-is, lines-are, lt-ltb i (length ns) l, le-ltb (length (T .stmts)) (length ns * 12) rows) refl
 
   -- and so is a node's statement
   pub node-answer : (i : ℕ) → nodeStatement (T .counts) (T .stmts) i ≡ numbered (askStatement L i)
@@ -118,6 +128,6 @@ module _ (text : List ℕ) (s : Sizes) (T : Tables) (x : BuiltAnswer) (wrote : B
       there l =
           let d = at-place ns i l in
           by-node i l
-          ∙ ap (λ (c : ℕ). unlessRefused c (answer (i, wordOf (T .stmts) i))) (stated (T .stmts) ns recorded i (d .0) (d .1))
+          ∙ ap (λ (c : ℕ). unlessRefused c (answer (i, wordOf (T .stmts) i))) (stated (count (L .lines)) (T .stmts) ns recorded i (d .0) (d .1))
           ∙ ap (λ (w : ℕ). answer (i, w)) (node-written i (d .0) (d .1) .word)
           ∙ ap (λ (o : Option Node). numbered (statementOf i o)) (sym (d .1))

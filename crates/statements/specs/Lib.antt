@@ -1,2 +1,3 @@
+pub mod StatementWords
 pub mod StatementAt
 pub mod StatementLaws

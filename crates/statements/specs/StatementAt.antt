@@ -2,11 +2,12 @@
 use Prim.Native.Nat.{ℕ, zero, suc, _*_}
 use mathlib.Core.List.{List, [], _∷_}
 use mathlib.Core.Bool.{Bool, false, _||_}
-use lib.Dec.{eqb, ltb}
+use lib.Dec.{eqb, ltb, leb}
 use lib.ListN.{length, getD}
 use Rattle.listings.specs.Bytes.{pick}
 use Rattle.tables.specs.Columns.{wordOf, holderOf, indexOf, lineOf}
 use Rattle.graph.specs.Questions.{Reply, answer, refused}
+use Rattle.statements.specs.StatementWords.{noStatementWord}
 use Rattle.statements.specs.declared.statement.Stated.{Stated}
 use Rattle.statements.specs.declared.statement.Stated.the-variants as stated
 
@@ -18,6 +19,10 @@ statedOf (refused n p) = stated.Refused n p
 -- "25 a used count or a record that the call reads points outside its table (place 0)": n statements of 12 entries each
 unfoldable pub ifRows : {A : Type 0} → ℕ → List ℕ → Reply A → Reply A
 ifRows n stmts r = pick (ltb (length stmts) (n * 12)) (refused 25 0) r
+
+-- and the record of node i: its word opens no statement, or its line index is none of so many lines
+unfoldable pub recordOutside : (lines : ℕ) (stmts : List ℕ) (i : ℕ) → Bool
+recordOutside lines stmts i = noStatementWord (wordOf stmts i) || leb lines (lineOf stmts i)
 
 -- `(if`, `(ifelse` and `(rcomp` alone hold statements: 2, 3 and 4 of the opening words
 unfoldable pub branchingWord : ℕ → Bool
@@ -42,41 +47,44 @@ firstFrom t (suc k) i = pick (t i) (suc i) (firstFrom t k (suc i))
 unfoldable pub childAt : (stmts : List ℕ) (n line h p : ℕ) → ℕ
 childAt stmts n line h p = firstFrom (standsAt stmts line h p) n 0
 
--- on from the node found, if there is one
-abbrev pub ifFound : ℕ → (ℕ → ℕ) → ℕ
-ifFound zero f = 0
-ifFound (suc i) f = f (suc i)
-
--- by each number to what the node found so far holds; a number that finds none ends it
-unfoldable pub nodeAt : (stmts : List ℕ) (n line h : ℕ) → List ℕ → ℕ
-nodeAt stmts n line h [] = h
-nodeAt stmts n line h (p ∷ ps) = ifFound (childAt stmts n line h p) (λ k. nodeAt stmts n line k ps)
-
--- "26 no statement at the path asked": h is one more than the node found, or 0; there are 28 opening words
+-- "26 no statement at the path asked": h is one more than a node, or 0
 unfoldable pub stmtAt : List ℕ → ℕ → Reply (ℕ × ℕ)
 stmtAt stmts zero = refused 26 0
-stmtAt stmts (suc i) = pick (ltb 27 (getD stmts (i * 12) 0)) (refused 25 0) (answer (i, getD stmts (i * 12) 0))
+stmtAt stmts (suc i) = answer (i, wordOf stmts i)
 
+-- on from the node found, if there is one; its record is read first
+unfoldable pub ifFound : (lines : ℕ) (stmts : List ℕ) → ℕ → (ℕ → Reply (ℕ × ℕ)) → Reply (ℕ × ℕ)
+ifFound lines stmts zero f = refused 26 0
+ifFound lines stmts (suc i) f = pick (recordOutside lines stmts i) (refused 25 0) (f (suc i))
+
+-- by each number to what the node found so far holds
+unfoldable pub statementFrom : (lines : ℕ) (stmts : List ℕ) (n line h : ℕ) → List ℕ → Reply (ℕ × ℕ)
+statementFrom lines stmts n line h [] = stmtAt stmts h
+statementFrom lines stmts n line h (p ∷ ps) = ifFound lines stmts (childAt stmts n line h p) (λ k. statementFrom lines stmts n line k ps)
+
+-- "A path is a line index and numbers": no line, no statement
 unfoldable pub pathStatement : (counts stmts : List ℕ) (line : ℕ) (path : List ℕ) → Reply (ℕ × ℕ)
-pathStatement counts stmts line path = ifRows (getD counts 1 0) stmts (stmtAt stmts (nodeAt stmts (getD counts 1 0) line 0 path))
+pathStatement counts stmts line path =
+    ifRows (getD counts 1 0) stmts (pick (ltb line (getD counts 0 0)) (statementFrom (getD counts 0 0) stmts (getD counts 1 0) line 0 path) (refused 26 0))
 
 -- ---- "the path in a node's record"
 
 -- document 01's number if a record with that holder gives no path, else 0: up from holder to holder, at most k of them.
--- A holder that is none of n nodes is 25, one that holds no statements 26, and so is one too many.
-unfoldable pub climb : (stmts : List ℕ) (n k holder : ℕ) → ℕ
-climb stmts n zero zero = 0
-climb stmts n zero (suc h) = pick (ltb h n) 26 25
-climb stmts n (suc k) zero = 0
-climb stmts n (suc k) (suc h) = pick (ltb h n) (pick (branchingWord (wordOf stmts h)) (climb stmts n k (holderOf stmts h)) 26) 25
+-- A holder that is none of n nodes, or whose record points outside, is 25; one that holds no statements is 26, and so is one too many.
+unfoldable pub climb : (lines : ℕ) (stmts : List ℕ) (n k holder : ℕ) → ℕ
+climb lines stmts n zero zero = 0
+climb lines stmts n zero (suc h) = pick (ltb h n) (pick (recordOutside lines stmts h) 25 26) 25
+climb lines stmts n (suc k) zero = 0
+climb lines stmts n (suc k) (suc h) =
+    pick (ltb h n) (pick (recordOutside lines stmts h) 25 (pick (branchingWord (wordOf stmts h)) (climb lines stmts n k (holderOf stmts h)) 26)) 25
 
--- the same of node i, whose word is one of the 28; "depth 16 is accepted": so many IFs can hold a statement
-unfoldable pub noStatement : (stmts : List ℕ) (n i : ℕ) → ℕ
-noStatement stmts n i = pick (ltb 27 (wordOf stmts i)) 25 (climb stmts n 16 (holderOf stmts i))
+-- the same of node i, whose own record is read first; "depth 16 is accepted": so many IFs can hold a statement
+unfoldable pub noStatement : (lines : ℕ) (stmts : List ℕ) (n i : ℕ) → ℕ
+noStatement lines stmts n i = pick (recordOutside lines stmts i) 25 (climb lines stmts n 16 (holderOf stmts i))
 
 -- the same of any node of any table: 25 where n statements have no record of it there
-unfoldable pub noStatementIn : (stmts : List ℕ) (n i : ℕ) → ℕ
-noStatementIn stmts n i = pick (ltb i n) (pick (ltb (length stmts) (n * 12)) 25 (noStatement stmts n i)) 25
+unfoldable pub noStatementIn : (lines : ℕ) (stmts : List ℕ) (n i : ℕ) → ℕ
+noStatementIn lines stmts n i = pick (ltb i n) (pick (ltb (length stmts) (n * 12)) 25 (noStatement lines stmts n i)) 25
 
 -- 0 is no refusal
 unfoldable pub unlessRefused : {A : Type 0} → ℕ → Reply A → Reply A
@@ -86,4 +94,6 @@ unlessRefused (suc c) r = refused (suc c) 0
 -- "24 node id not below the node count (place: the id)"
 unfoldable pub nodeStatement : (counts stmts : List ℕ) (i : ℕ) → Reply (ℕ × ℕ)
 nodeStatement counts stmts i =
-    pick (ltb i (getD counts 1 0)) (ifRows (getD counts 1 0) stmts (unlessRefused (noStatement stmts (getD counts 1 0) i) (answer (i, wordOf stmts i)))) (refused 24 i)
+    pick (ltb i (getD counts 1 0))
+    (ifRows (getD counts 1 0) stmts (unlessRefused (noStatement (getD counts 0 0) stmts (getD counts 1 0) i) (answer (i, wordOf stmts i))))
+    (refused 24 i)

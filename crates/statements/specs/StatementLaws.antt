@@ -1,17 +1,18 @@
 -- Laws of the statement at a path and of a node's, as code goes down a path and up by holders. Assumes nothing.
 use Prim.Native.Nat.{ℕ, zero, suc, _+_, _*_, _-_, _/_, _<_, _≤_}
 use mathlib.Core.Path.{_≡_, refl, sym, ap, _∙_}
-use mathlib.Core.List.{List, [], _∷_, _++_}
+use mathlib.Core.List.{List, [], _∷_}
 use mathlib.Core.Bool.{Bool, true, false}
 use native.Mathlib.Omega.{arith}
 use native.Mathlib.Numerals.{add-one}
 use borrow.Author.Tests.{eq-eqb, ne-eqb, lt-ltb, le-ltb}
-use lib.Dec.{eqb}
+use lib.Dec.{eqb, leb}
 use lib.ListN.{length, getD, drop}
 use Rattle.listings.specs.Bytes.{pick}
 use Rattle.tables.specs.Columns.{wordOf, holderOf, indexOf, lineOf}
-use Rattle.graph.specs.Questions.{answer}
-use Rattle.statements.specs.StatementAt.{statedOf, ifRows, branchingWord, heldIn, standsAt, firstFrom, childAt, ifFound, nodeAt, stmtAt, pathStatement, climb, noStatement, noStatementIn, unlessRefused, nodeStatement}
+use Rattle.graph.specs.Questions.{Reply, answer, refused}
+use Rattle.statements.specs.StatementWords.{noStatementWord}
+use Rattle.statements.specs.StatementAt.{statedOf, ifRows, recordOutside, branchingWord, heldIn, standsAt, firstFrom, childAt, ifFound, statementFrom, stmtAt, pathStatement, climb, noStatement, noStatementIn, unlessRefused, nodeStatement}
 use Rattle.statements.specs.declared.statement.Stated.{Stated}
 use Rattle.statements.specs.declared.statement.Stated.the-variants as stated
 
@@ -72,45 +73,67 @@ module _ (t : ℕ → Bool) where
       go true h = omega arith
       go false h = omega arith
 
+-- ---- a record
+
+module _ (lines : ℕ) (stmts : List ℕ) (i : ℕ) where
+  at-start : i * 12 + 0 ≡ i * 12
+  at-start = omega arith
+
+  pub word-outside : noStatementWord (getD stmts (i * 12 + 0) 0) ≡ true → true ≡ recordOutside lines stmts i
+  unfolding recordOutside wordOf
+  word-outside e = let q = rw at-start at e in rw q refl
+
+  pub line-outside : (l : ℕ) → noStatementWord (getD stmts (i * 12 + 0) 0) ≡ false → l ≡ lineOf stmts i → leb lines l ≡ recordOutside lines stmts i
+  unfolding recordOutside wordOf
+  line-outside l e f = let q = rw at-start at e in rw (q, f) refl
+
 -- ---- down a path
 
-if-some : (r : ℕ) (f : ℕ → ℕ) → (r ≡ 0 → ⊥) → ifFound r f ≡ f r
-if-some zero f g = absurd (g refl)
-if-some (suc r) f g = refl
+pub child-le : (stmts : List ℕ) (n line h p : ℕ) → childAt stmts n line h p ≤ n
+unfolding childAt
+child-le stmts n line h p = omega (arith, first-le (standsAt stmts line h p) n 0)
 
-module _ (stmts : List ℕ) (n line : ℕ) where
-  pub child-le : (h p : ℕ) → childAt stmts n line h p ≤ n
-  unfolding childAt
-  child-le h p = omega (arith, first-le (standsAt stmts line h p) n 0)
+module _ (lines : ℕ) (stmts : List ℕ) where
+  found-none : (r : ℕ) (f : ℕ → Reply (ℕ × ℕ)) → r ≡ 0 → ifFound lines stmts r f ≡ refused 26 0
+  unfolding ifFound
+  found-none zero f e = refl
+  found-none (suc r) f e = absurd (omega arith)
 
-  pub node-le : (h : ℕ) (ps : List ℕ) → h ≤ n → nodeAt stmts n line h ps ≤ n
-  unfolding nodeAt
-  node-le h [] g = g
-  node-le h (p ∷ ps) g = go (childAt stmts n line h p) (child-le h p) (λ c f. node-le c ps f)
-    where
-      go : (c : ℕ) → c ≤ n → ((k : ℕ) → k ≤ n → nodeAt stmts n line k ps ≤ n) → ifFound c (λ k. nodeAt stmts n line k ps) ≤ n
-      go zero e f = omega arith
-      go (suc c) e f = f (suc c) e
+  found-some : (r : ℕ) (f : ℕ → Reply (ℕ × ℕ)) → (r ≡ 0 → ⊥) → ifFound lines stmts r f ≡ pick (recordOutside lines stmts (r - 1)) (refused 25 0) (f r)
+  unfolding ifFound
+  found-some zero f g = absurd (g refl)
+  found-some (suc r) f g = let q : r ≡ suc r - 1 = omega arith in ap (λ (k : ℕ). pick (recordOutside lines stmts k) (refused 25 0) (f (suc r))) q
 
-  pub node-none : (h : ℕ) (ps : List ℕ) (k r : ℕ) → k < length ps → r ≡ childAt stmts n line h (getD ps k 0) → r ≡ 0 → nodeAt stmts n line h (drop k ps) ≡ 0
-  unfolding nodeAt
-  node-none h [] k r g e f = absurd (omega arith)
-  node-none h (p ∷ ps) zero r g e f = ap (λ (z : ℕ). ifFound z (λ k. nodeAt stmts n line k ps)) (sym e ∙ f)
-  node-none h (p ∷ ps) (suc k) r g e f = node-none h ps k r (omega arith) e f
+module _ (lines : ℕ) (stmts : List ℕ) (n line h : ℕ) where
+  from-step : (ps : List ℕ) (k : ℕ) → k < length ps
+      → statementFrom lines stmts n line h (drop k ps) ≡ ifFound lines stmts (childAt stmts n line h (getD ps k 0)) (λ j. statementFrom lines stmts n line j (drop (k + 1) ps))
+  unfolding statementFrom
+  from-step [] k g = absurd (omega arith)
+  from-step (p ∷ ps) zero g = refl
+  from-step (p ∷ ps) (suc k) g = let q : suc k + 1 ≡ suc (k + 1) = omega arith in rw q (from-step ps k (omega arith))
 
-  pub node-next : (h : ℕ) (ps : List ℕ) (k r : ℕ) → k < length ps → r ≡ childAt stmts n line h (getD ps k 0) → (r ≡ 0 → ⊥) → nodeAt stmts n line h (drop k ps) ≡ nodeAt stmts n line r (drop (k + 1) ps)
-  unfolding nodeAt
-  node-next h [] k r g e f = absurd (omega arith)
-  node-next h (p ∷ ps) zero r g e f = ap (λ (z : ℕ). ifFound z (λ k. nodeAt stmts n line k ps)) (sym e) ∙ if-some r (λ k. nodeAt stmts n line k ps) f
-  node-next h (p ∷ ps) (suc k) r g e f =
-      let q : suc k + 1 ≡ suc (k + 1) = omega arith in rw q (node-next h ps k r (omega arith) e f)
+  pub from-end : (ps : List ℕ) (k : ℕ) → length ps ≤ k → statementFrom lines stmts n line h (drop k ps) ≡ stmtAt stmts h
+  unfolding statementFrom
+  from-end [] zero g = refl
+  from-end [] (suc k) g = refl
+  from-end (p ∷ ps) zero g = absurd (omega arith)
+  from-end (p ∷ ps) (suc k) g = from-end ps k (omega arith)
 
-  pub node-end : (h : ℕ) (ps : List ℕ) (k : ℕ) → length ps ≤ k → nodeAt stmts n line h (drop k ps) ≡ h
-  unfolding nodeAt
-  node-end h [] zero g = refl
-  node-end h [] (suc k) g = refl
-  node-end h (p ∷ ps) zero g = absurd (omega arith)
-  node-end h (p ∷ ps) (suc k) g = node-end h ps k (omega arith)
+  module _ (ps : List ℕ) (k r : ℕ) (g : k < length ps) (e : r ≡ childAt stmts n line h (getD ps k 0)) where
+    abbrev rest : ℕ → Reply (ℕ × ℕ)
+    rest j = statementFrom lines stmts n line j (drop (k + 1) ps)
+
+    by-child : statementFrom lines stmts n line h (drop k ps) ≡ ifFound lines stmts r rest
+    by-child = from-step ps k g ∙ ap (λ (j : ℕ). ifFound lines stmts j rest) (sym e)
+
+    pub from-none : r ≡ 0 → statementFrom lines stmts n line h (drop k ps) ≡ refused 26 0
+    from-none f = by-child ∙ found-none lines stmts r rest f
+
+    pub from-outside : (r ≡ 0 → ⊥) → recordOutside lines stmts (r - 1) ≡ true → statementFrom lines stmts n line h (drop k ps) ≡ refused 25 0
+    from-outside f o = by-child ∙ found-some lines stmts r rest f ∙ ap (λ (x : Bool). pick x (refused 25 0) (rest r)) o
+
+    pub from-next : (r ≡ 0 → ⊥) → recordOutside lines stmts (r - 1) ≡ false → statementFrom lines stmts n line h (drop k ps) ≡ statementFrom lines stmts n line r (drop (k + 1) ps)
+    from-next f o = by-child ∙ found-some lines stmts r rest f ∙ ap (λ (x : Bool). pick x (refused 25 0) (rest r)) o
 
 -- ---- the statement found
 
@@ -120,110 +143,108 @@ module _ (stmts : List ℕ) where
   no-stmt zero e = refl
   no-stmt (suc i) e = absurd (omega arith)
 
-  pub no-word : (at w : ℕ) → (at ≡ 0 → ⊥) → w ≡ getD stmts ((at - 1) * 12 + 0) 0 → 27 < w → stated.Refused 25 0 ≡ statedOf (stmtAt stmts at)
-  unfolding statedOf stmtAt
-  no-word zero w f e h = absurd (f refl)
-  no-word (suc i) w f e h =
-      let q : (suc i - 1) * 12 + 0 ≡ i * 12 = omega arith in
-      let g : w ≡ getD stmts (i * 12) 0 = e ∙ ap (λ (k : ℕ). getD stmts k 0) q in
-      rw (lt-ltb 27 (getD stmts (i * 12) 0) (omega (arith, g)))
-
-  pub the-stmt : (at w : ℕ) → (at ≡ 0 → ⊥) → w ≡ getD stmts ((at - 1) * 12 + 0) 0 → w ≤ 27 → stated.Stmt (at - 1) w ≡ statedOf (stmtAt stmts at)
-  unfolding statedOf stmtAt
-  the-stmt zero w f e h = absurd (f refl)
-  the-stmt (suc i) w f e h =
+  pub the-stmt : (at w : ℕ) → (at ≡ 0 → ⊥) → w ≡ getD stmts ((at - 1) * 12 + 0) 0 → stated.Stmt (at - 1) w ≡ statedOf (stmtAt stmts at)
+  unfolding statedOf stmtAt wordOf
+  the-stmt zero w f e = absurd (f refl)
+  the-stmt (suc i) w f e =
       let q : (suc i - 1) * 12 + 0 ≡ i * 12 = omega arith in
       let g : w ≡ getD stmts (i * 12) 0 = e ∙ ap (λ (k : ℕ). getD stmts k 0) q in
       let z : suc i - 1 ≡ i = omega arith in
-      rw (le-ltb 27 (getD stmts (i * 12) 0) (omega (arith, g)), z, g) refl
+      rw (z, g) refl
 
-module _ (counts stmts : List ℕ) (line : ℕ) (path : List ℕ) (n : ℕ) (e : n ≡ getD counts 1 0) where
+-- by the answer of the definition
+pub stated-25 : (q : Reply (ℕ × ℕ)) → q ≡ refused 25 0 → stated.Refused 25 0 ≡ statedOf q
+unfolding statedOf
+stated-25 q e = ap statedOf (sym e)
+
+pub stated-26 : (q : Reply (ℕ × ℕ)) → q ≡ refused 26 0 → stated.Refused 26 0 ≡ statedOf q
+unfolding statedOf
+stated-26 q e = ap statedOf (sym e)
+
+module _ (counts stmts : List ℕ) (line : ℕ) (path : List ℕ) (lines n : ℕ) (d : lines ≡ getD counts 0 0) (e : n ≡ getD counts 1 0) where
   pub path-rows : length stmts < n * 12 → stated.Refused 25 0 ≡ statedOf (pathStatement counts stmts line path)
   unfolding statedOf pathStatement ifRows
   path-rows h = rw (← e, lt-ltb (length stmts) (n * 12) h)
 
-  pub path-found : {r : Stated} {at : ℕ} → n * 12 ≤ length stmts → at ≡ nodeAt stmts n line 0 path → r ≡ statedOf (stmtAt stmts at) → r ≡ statedOf (pathStatement counts stmts line path)
-  unfolding pathStatement ifRows
-  path-found h f g = g ∙ rw (← e, le-ltb (length stmts) (n * 12) h, ← f) refl
+  module _ (h : n * 12 ≤ length stmts) where
+    pub path-line : lines ≤ line → stated.Refused 26 0 ≡ statedOf (pathStatement counts stmts line path)
+    unfolding statedOf pathStatement ifRows
+    path-line g = rw (← e, ← d, le-ltb (length stmts) (n * 12) h, le-ltb line lines g)
 
--- ---- one number more
-
-module _ (stmts : List ℕ) (n line : ℕ) where
-  if-self : (c : ℕ) → ifFound c (λ k. k) ≡ c
-  if-self zero = refl
-  if-self (suc c) = refl
-
-  pub node-snoc : (h q : ℕ) (qs : List ℕ) (x : ℕ) → nodeAt stmts n line h (q ∷ (qs ++ (x ∷ []))) ≡ ifFound (nodeAt stmts n line h (q ∷ qs)) (λ k. childAt stmts n line k x)
-  unfolding nodeAt
-  node-snoc h q [] x = go (childAt stmts n line h q)
-    where
-      go : (c : ℕ) → ifFound c (λ k. ifFound (childAt stmts n line k x) (λ j. j)) ≡ ifFound (ifFound c (λ k. k)) (λ k. childAt stmts n line k x)
-      go zero = refl
-      go (suc c) = if-self (childAt stmts n line (suc c) x)
-  node-snoc h q (p ∷ qs) x = go (childAt stmts n line h q) (λ c. node-snoc c p qs x)
-    where
-      go : (c : ℕ) → ((k : ℕ) → nodeAt stmts n line k (p ∷ (qs ++ (x ∷ []))) ≡ ifFound (nodeAt stmts n line k (p ∷ qs)) (λ j. childAt stmts n line j x))
-          → ifFound c (λ k. nodeAt stmts n line k (p ∷ (qs ++ (x ∷ [])))) ≡ ifFound (ifFound c (λ k. nodeAt stmts n line k (p ∷ qs))) (λ k. childAt stmts n line k x)
-      go zero f = refl
-      go (suc c) f = f (suc c)
+    pub path-found : {r : Stated} → line < lines → r ≡ statedOf (statementFrom lines stmts n line 0 path) → r ≡ statedOf (pathStatement counts stmts line path)
+    unfolding pathStatement ifRows
+    path-found g f = f ∙ rw (← e, ← d, le-ltb (length stmts) (n * 12) h, lt-ltb line lines g) refl
 
 -- ---- up by the holders
 
-module _ (stmts : List ℕ) (n k : ℕ) where
-  pub climb-end : (h : ℕ) → h ≡ 0 → climb stmts n k h ≡ 0
+module _ (lines : ℕ) (stmts : List ℕ) (n k : ℕ) where
+  pub climb-end : (h : ℕ) → h ≡ 0 → climb lines stmts n k h ≡ 0
   unfolding climb
   climb-end (suc h) e = absurd (omega arith)
   climb-end zero e = go k
     where
-      go : (k : ℕ) → climb stmts n k 0 ≡ 0
+      go : (k : ℕ) → climb lines stmts n k 0 ≡ 0
       go zero = refl
       go (suc k) = refl
 
-  pub climb-outside : (h : ℕ) → n < h → climb stmts n k h ≡ 25
+  pub climb-none : (h : ℕ) → n < h → climb lines stmts n k h ≡ 25
   unfolding climb
-  climb-outside zero e = absurd (omega arith)
-  climb-outside (suc h) e = go k
+  climb-none zero e = absurd (omega arith)
+  climb-none (suc h) e = go k
     where
-      go : (k : ℕ) → climb stmts n k (suc h) ≡ 25
+      go : (k : ℕ) → climb lines stmts n k (suc h) ≡ 25
       go zero = rw (le-ltb h n (omega arith)) refl
       go (suc k) = rw (le-ltb h n (omega arith)) refl
 
-  pub climb-deep : (h : ℕ) → (h ≡ 0 → ⊥) → h ≤ n → k ≡ 0 → climb stmts n k h ≡ 26
-  unfolding climb
-  climb-deep zero f e z = absurd (f refl)
-  climb-deep (suc h) f e z = rw (z, lt-ltb h n (omega arith)) refl
-
-  module _ (h : ℕ) (f : h ≡ 0 → ⊥) (e : h ≤ n) (z : k ≡ 0 → ⊥) where
-    step : climb stmts n k h ≡ pick (branchingWord (getD stmts ((h - 1) * 12 + 0) 0)) (climb stmts n (k - 1) (holderOf stmts (h - 1))) 26
-    unfolding climb wordOf
-    step = go k h f e z
+  module _ (h : ℕ) (f : h ≡ 0 → ⊥) (e : h ≤ n) where
+    pub climb-outside : recordOutside lines stmts (h - 1) ≡ true → climb lines stmts n k h ≡ 25
+    unfolding climb
+    climb-outside o = go k h f e o
       where
-        go : (k h : ℕ) → (h ≡ 0 → ⊥) → h ≤ n → (k ≡ 0 → ⊥) → climb stmts n k h ≡ pick (branchingWord (getD stmts ((h - 1) * 12 + 0) 0)) (climb stmts n (k - 1) (holderOf stmts (h - 1))) 26
-        go k zero f e z = absurd (f refl)
-        go zero (suc h) f e z = absurd (z refl)
-        go (suc k) (suc h) f e z =
-            let a : suc k - 1 ≡ k = omega arith in
-            let b : suc h - 1 ≡ h = omega arith in
-            let q : h * 12 + 0 ≡ h * 12 = omega arith in
-            rw (a, b, q, lt-ltb h n (omega arith)) refl
+        go : (k h : ℕ) → (h ≡ 0 → ⊥) → h ≤ n → recordOutside lines stmts (h - 1) ≡ true → climb lines stmts n k h ≡ 25
+        go k zero f e o = absurd (f refl)
+        go zero (suc h) f e o = let b : suc h - 1 ≡ h = omega arith in let q = rw b at o in rw (lt-ltb h n (omega arith), q) refl
+        go (suc k) (suc h) f e o = let b : suc h - 1 ≡ h = omega arith in let q = rw b at o in rw (lt-ltb h n (omega arith), q) refl
 
-    pub climb-leaf : branchingWord (getD stmts ((h - 1) * 12 + 0) 0) ≡ false → climb stmts n k h ≡ 26
-    climb-leaf g = step ∙ ap (λ (x : Bool). pick x (climb stmts n (k - 1) (holderOf stmts (h - 1))) 26) g
+    module _ (o : recordOutside lines stmts (h - 1) ≡ false) where
+      pub climb-deep : k ≡ 0 → climb lines stmts n k h ≡ 26
+      unfolding climb
+      climb-deep z = go h f e o
+        where
+          go : (h : ℕ) → (h ≡ 0 → ⊥) → h ≤ n → recordOutside lines stmts (h - 1) ≡ false → climb lines stmts n k h ≡ 26
+          go zero f e o = absurd (f refl)
+          go (suc h) f e o = let b : suc h - 1 ≡ h = omega arith in let q = rw b at o in rw (z, lt-ltb h n (omega arith), q) refl
 
-    pub climb-on : branchingWord (getD stmts ((h - 1) * 12 + 0) 0) ≡ true → climb stmts n k h ≡ climb stmts n (k - 1) (holderOf stmts (h - 1))
-    climb-on g = step ∙ ap (λ (x : Bool). pick x (climb stmts n (k - 1) (holderOf stmts (h - 1))) 26) g
+      module _ (z : k ≡ 0 → ⊥) where
+        step : climb lines stmts n k h ≡ pick (branchingWord (getD stmts ((h - 1) * 12 + 0) 0)) (climb lines stmts n (k - 1) (holderOf stmts (h - 1))) 26
+        unfolding climb wordOf
+        step = go k h f e o z
+          where
+            go : (k h : ℕ) → (h ≡ 0 → ⊥) → h ≤ n → recordOutside lines stmts (h - 1) ≡ false → (k ≡ 0 → ⊥)
+                → climb lines stmts n k h ≡ pick (branchingWord (getD stmts ((h - 1) * 12 + 0) 0)) (climb lines stmts n (k - 1) (holderOf stmts (h - 1))) 26
+            go k zero f e o z = absurd (f refl)
+            go zero (suc h) f e o z = absurd (z refl)
+            go (suc k) (suc h) f e o z =
+                let a : suc k - 1 ≡ k = omega arith in
+                let b : suc h - 1 ≡ h = omega arith in
+                let q : h * 12 + 0 ≡ h * 12 = omega arith in
+                let y = rw b at o in
+                rw (a, b, q, lt-ltb h n (omega arith), y) refl
 
-module _ (stmts : List ℕ) (n i w : ℕ) (e : w ≡ getD stmts (i * 12 + 0) 0) where
-  at-start : i * 12 + 0 ≡ i * 12
-  at-start = omega arith
+        pub climb-leaf : branchingWord (getD stmts ((h - 1) * 12 + 0) 0) ≡ false → climb lines stmts n k h ≡ 26
+        climb-leaf g = step ∙ ap (λ (x : Bool). pick x (climb lines stmts n (k - 1) (holderOf stmts (h - 1))) 26) g
 
-  pub word-outside : 27 < w → 25 ≡ noStatement stmts n i
-  unfolding noStatement wordOf
-  word-outside h = let g : w ≡ getD stmts (i * 12) 0 = e ∙ ap (λ (k : ℕ). getD stmts k 0) at-start in rw (lt-ltb 27 (getD stmts (i * 12) 0) (omega (arith, g))) refl
+        pub climb-on : branchingWord (getD stmts ((h - 1) * 12 + 0) 0) ≡ true → climb lines stmts n k h ≡ climb lines stmts n (k - 1) (holderOf stmts (h - 1))
+        climb-on g = step ∙ ap (λ (x : Bool). pick x (climb lines stmts n (k - 1) (holderOf stmts (h - 1))) 26) g
 
-  pub word-inside : (h : ℕ) → w ≤ 27 → h ≡ holderOf stmts i → climb stmts n 16 h ≡ noStatement stmts n i
-  unfolding noStatement wordOf
-  word-inside h l f = let g : w ≡ getD stmts (i * 12) 0 = e ∙ ap (λ (k : ℕ). getD stmts k 0) at-start in rw (le-ltb 27 (getD stmts (i * 12) 0) (omega (arith, g)), f) refl
+module _ (lines : ℕ) (stmts : List ℕ) (n i : ℕ) where
+  pub own-outside : recordOutside lines stmts i ≡ true → 25 ≡ noStatement lines stmts n i
+  unfolding noStatement
+  own-outside o = rw o refl
+
+  pub own-inside : (h : ℕ) → recordOutside lines stmts i ≡ false → h ≡ holderOf stmts i → climb lines stmts n 16 h ≡ noStatement lines stmts n i
+  unfolding noStatement
+  own-inside h o f = rw (o, f) refl
 
 -- ---- a node's statement
 
@@ -237,10 +258,10 @@ module _ (counts stmts : List ℕ) (i n : ℕ) (e : n ≡ getD counts 1 0) where
     unfolding statedOf nodeStatement ifRows
     node-rows g = rw (← e, lt-ltb i n h, lt-ltb (length stmts) (n * 12) g)
 
-    module _ (g : n * 12 ≤ length stmts) (c : ℕ) (f : c ≡ noStatement stmts n i) where
+    module _ (g : n * 12 ≤ length stmts) (lines : ℕ) (d : lines ≡ getD counts 0 0) (c : ℕ) (f : c ≡ noStatement lines stmts n i) where
       by-number : unlessRefused c (answer (i, wordOf stmts i)) ≡ nodeStatement counts stmts i
       unfolding nodeStatement ifRows
-      by-number = rw (← e, lt-ltb i n h, le-ltb (length stmts) (n * 12) g, f) refl
+      by-number = rw (← e, ← d, lt-ltb i n h, le-ltb (length stmts) (n * 12) g, f) refl
 
       pub node-refused : (c ≡ 0 → ⊥) → stated.Refused c 0 ≡ statedOf (nodeStatement counts stmts i)
       unfolding statedOf unlessRefused
@@ -262,24 +283,21 @@ pub first-all : (stmts : List ℕ) (n line h p : ℕ) → childAt stmts n line h
 unfolding childAt
 first-all stmts n line h p = let q : n ≡ n - 0 = omega arith in ap (λ (k : ℕ). firstFrom (standsAt stmts line h p) k 0) q
 
-pub node-all : (stmts : List ℕ) (n line : ℕ) (ps : List ℕ) → nodeAt stmts n line 0 ps ≡ nodeAt stmts n line 0 (drop 0 ps)
-node-all stmts n line ps = refl
-
 -- ---- the record of any node
 
-module _ (stmts : List ℕ) (n i : ℕ) where
-  pub no-record-node : n ≤ i → 25 ≡ noStatementIn stmts n i
+module _ (lines : ℕ) (stmts : List ℕ) (n i : ℕ) where
+  pub no-record-node : n ≤ i → 25 ≡ noStatementIn lines stmts n i
   unfolding noStatementIn
   no-record-node a = rw (le-ltb i n a) refl
 
-  pub no-record-rows : i < n → length stmts / 12 < n → 25 ≡ noStatementIn stmts n i
+  pub no-record-rows : i < n → length stmts / 12 < n → 25 ≡ noStatementIn lines stmts n i
   unfolding noStatementIn
   no-record-rows a b = rw (lt-ltb i n a, lt-ltb (length stmts) (n * 12) (omega arith)) refl
 
-  pub record-inside : i < n → n ≤ length stmts / 12 → noStatement stmts n i ≡ noStatementIn stmts n i
+  pub record-inside : i < n → n ≤ length stmts / 12 → noStatement lines stmts n i ≡ noStatementIn lines stmts n i
   unfolding noStatementIn
   record-inside a b = rw (lt-ltb i n a, le-ltb (length stmts) (n * 12) (omega arith)) refl
 
-  pub statement-inside : i < n → n * 12 ≤ length stmts → noStatementIn stmts n i ≡ noStatement stmts n i
+  pub statement-inside : i < n → n * 12 ≤ length stmts → noStatementIn lines stmts n i ≡ noStatement lines stmts n i
   unfolding noStatementIn
   statement-inside a b = rw (lt-ltb i n a, le-ltb (length stmts) (n * 12) b) refl

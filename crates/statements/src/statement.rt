@@ -9,9 +9,18 @@ use tables::widths::wide;
 ghost use mathlib.Core.Path.{_≡_};
 ghost use Prim.Native.Nat.{_+_, _*_, _≤_, _<_};
 ghost use lib.ListN.{length};
-ghost use Rattle.statements.specs.StatementAt.{statedOf, branchingWord, standsAt, childAt, nodeAt, stmtAt, pathStatement, climb as climbed, noStatement, noStatementIn, nodeStatement};
+ghost use Rattle.statements.specs.StatementWords.{noStatementWord};
+ghost use Rattle.statements.specs.StatementAt.{statedOf, branchingWord, recordOutside, standsAt, childAt, statementFrom, stmtAt, pathStatement, climb as climbed, noStatement, noStatementIn, nodeStatement};
 
-// Numbers of opening words.
+// Numbers of opening words: the four that open no statement, and the three whose statements hold others.
+const MODULE: u16 = 0;
+
+const LINE_FORM: u16 = 1;
+
+const TO: u16 = 5;
+
+const STMTS: u16 = 6;
+
 const IF: u16 = 2;
 
 const IFELSE: u16 = 3;
@@ -19,7 +28,7 @@ const IFELSE: u16 = 3;
 const RCOMP: u16 = 4;
 
 // The number of the last of the 28 opening words.
-const LAST_WORD: usize = 27;
+const LAST_WORD: u16 = 27;
 
 // "depth 16 is accepted": so many IFs can hold a statement.
 const DEPTH: usize = 16;
@@ -35,6 +44,25 @@ fn is_branching(word: u16) -> bool
     ensures { λ r. ⌜ r ≡ branchingWord word ⌝ }
 {
     word == IF || (word == IFELSE || word == RCOMP)
+}
+
+// Whether no statement opens with this word.
+fn no_statement_word(word: u16) -> bool
+    ensures { λ r. ⌜ r ≡ noStatementWord word ⌝ }
+{
+    word == MODULE || (word == LINE_FORM || (word == TO || (word == STMTS || LAST_WORD < word)))
+}
+
+// Whether the record of node i points outside: its word opens no statement, or its line index is none of so many lines.
+fn record_outside(lines: usize, stmts: &[u16], i: usize) -> bool
+    requires { ⌜ i * 12 + 12 ≤ length (now stmts) ⌝ }
+    ensures { λ r. ⌜ r ≡ recordOutside lines (now (stmts .entry)) i ⌝ }
+{
+    let row = i * STMT_ENTRIES;
+    if no_statement_word(stmts[row + WORD]) {
+        return true;
+    }
+    lines <= wide(stmts[row + LINE])
 }
 
 // Whether node i has that number under its holder, which is one more than an IF, or 0 for the line.
@@ -70,23 +98,6 @@ fn find(stmts: &[u16], n: usize, line: usize, holder: usize, index: u16) -> usiz
     0
 }
 
-// One more than the node at a path, or 0.
-fn follow(stmts: &[u16], n: usize, line: usize, path: &[u16]) -> usize
-    requires { ⌜ n * 12 ≤ length (now stmts) ⌝ }
-    ensures { λ r. ⌜ r ≡ nodeAt (now (stmts .entry)) n line 0 (now (path .entry)) ⌝ }
-{
-    let mut at: usize = 0;
-    let mut k: usize = 0;
-    while k < path.len() {
-        at = find(stmts, n, line, at, path[k]);
-        if at == 0 {
-            return 0;
-        }
-        k += 1;
-    }
-    at
-}
-
 // The statement of the node `at - 1`, if `at` is not 0.
 fn state(stmts: &[u16], at: usize) -> Stated
     requires { ⌜ at * 12 ≤ length (now stmts) ⌝ }
@@ -100,19 +111,40 @@ fn state(stmts: &[u16], at: usize) -> Stated
     }
     let node = at - 1;
     let word = wide(stmts[node * STMT_ENTRIES + WORD]);
-    if LAST_WORD < word {
-        return Stated::Refused {
-            number: 25,
-            place: 0,
-        };
-    }
     Stated::Stmt { node, word }
+}
+
+// Down from the line, number by number; each record is read before what it holds.
+fn follow(lines: usize, stmts: &[u16], n: usize, line: usize, path: &[u16]) -> Stated
+    requires { ⌜ n * 12 ≤ length (now stmts) ⌝ }
+    ensures { λ r. ⌜ r ≡ statedOf (statementFrom lines (now (stmts .entry)) n line 0 (now (path .entry))) ⌝ }
+{
+    let mut at: usize = 0;
+    let mut k: usize = 0;
+    while k < path.len() {
+        at = find(stmts, n, line, at, path[k]);
+        if at == 0 {
+            return Stated::Refused {
+                number: 26,
+                place: 0,
+            };
+        }
+        if record_outside(lines, stmts, at - 1) {
+            return Stated::Refused {
+                number: 25,
+                place: 0,
+            };
+        }
+        k += 1;
+    }
+    state(stmts, at)
 }
 
 // The statement at a path: a line index and numbers.
 pub fn ask_path(counts: &[u32; 5], stmts: &[u16], line: usize, path: &[u16]) -> Stated
     ensures { λ r. ⌜ r ≡ statedOf (pathStatement (now (counts .entry)) (now (stmts .entry)) line (now (path .entry))) ⌝ }
 {
+    let lines = count_of(counts[0]);
     let n = count_of(counts[1]);
     if stmts.len() < n * STMT_ENTRIES {
         return Stated::Refused {
@@ -120,13 +152,19 @@ pub fn ask_path(counts: &[u32; 5], stmts: &[u16], line: usize, path: &[u16]) -> 
             place: 0,
         };
     }
-    state(stmts, follow(stmts, n, line, path))
+    if lines <= line {
+        return Stated::Refused {
+            number: 26,
+            place: 0,
+        };
+    }
+    follow(lines, stmts, n, line, path)
 }
 
 // 0 if a record with that holder gives a path, else document 01's number. Up from holder to holder, `DEPTH` of them at most.
-fn climb(stmts: &[u16], n: usize, holder: usize) -> u8
+fn climb(lines: usize, stmts: &[u16], n: usize, holder: usize) -> u8
     requires { ⌜ n * 12 ≤ length (now stmts) ⌝ }
-    ensures { λ r. ⌜ r ≡ climbed (now (stmts .entry)) n 16 holder ⌝ }
+    ensures { λ r. ⌜ r ≡ climbed lines (now (stmts .entry)) n 16 holder ⌝ }
 {
     let mut at = holder;
     let mut left: usize = DEPTH;
@@ -134,10 +172,14 @@ fn climb(stmts: &[u16], n: usize, holder: usize) -> u8
         if n < at {
             return 25;
         }
+        let node = at - 1;
+        if record_outside(lines, stmts, node) {
+            return 25;
+        }
         if left == 0 {
             return 26;
         }
-        let row = (at - 1) * STMT_ENTRIES;
+        let row = node * STMT_ENTRIES;
         if !is_branching(stmts[row + WORD]) {
             return 26;
         }
@@ -147,21 +189,20 @@ fn climb(stmts: &[u16], n: usize, holder: usize) -> u8
     0
 }
 
-// 0 if the record of a node has an opening word and a path, else document 01's number.
-fn record_number(stmts: &[u16], n: usize, node: usize) -> u8
+// 0 if the record of a node is a statement's and has a path, else document 01's number.
+fn record_number(lines: usize, stmts: &[u16], n: usize, node: usize) -> u8
     requires { ⌜ (node < n) × (n * 12 ≤ length (now stmts)) ⌝ }
-    ensures { λ r. ⌜ r ≡ noStatement (now (stmts .entry)) n node ⌝ }
+    ensures { λ r. ⌜ r ≡ noStatement lines (now (stmts .entry)) n node ⌝ }
 {
-    let row = node * STMT_ENTRIES;
-    if LAST_WORD < wide(stmts[row + WORD]) {
+    if record_outside(lines, stmts, node) {
         return 25;
     }
-    climb(stmts, n, wide(stmts[row + HOLDER]))
+    climb(lines, stmts, n, wide(stmts[node * STMT_ENTRIES + HOLDER]))
 }
 
 // The same of any node of any table: 25 where n statements have no record of it there. By division, so that no product can wrap.
-pub fn no_statement(stmts: &[u16], n: usize, node: usize) -> u8
-    ensures { λ r. ⌜ r ≡ noStatementIn (now (stmts .entry)) n node ⌝ }
+pub fn no_statement(lines: usize, stmts: &[u16], n: usize, node: usize) -> u8
+    ensures { λ r. ⌜ r ≡ noStatementIn lines (now (stmts .entry)) n node ⌝ }
 {
     if n <= node {
         return 25;
@@ -169,7 +210,7 @@ pub fn no_statement(stmts: &[u16], n: usize, node: usize) -> u8
     if stmts.len() / STMT_ENTRIES < n {
         return 25;
     }
-    record_number(stmts, n, node)
+    record_number(lines, stmts, n, node)
 }
 
 // A node's statement: the node itself, if its record has a path.
@@ -189,7 +230,7 @@ pub fn ask_statement(counts: &[u32; 5], stmts: &[u16], node: usize) -> Stated
             place: 0,
         };
     }
-    let number = record_number(stmts, n, node);
+    let number = record_number(count_of(counts[0]), stmts, n, node);
     if number != 0 {
         return Stated::Refused { number, place: 0 };
     }

@@ -148,7 +148,7 @@ const TABLES: usize = 9;
 /// Values at which an entry may begin to point outside.
 fn values(t: &Tables, old: u16) -> Vec<u16> {
     let counted = t.counts.map(|n| n as u16);
-    let mut values = vec![65535, 32768, 0, 1, 27, 28, old.wrapping_add(1), old.wrapping_sub(1)];
+    let mut values = vec![65535, 32768, 0, 1, 4, 5, 6, 7, 27, 28, old.wrapping_add(1), old.wrapping_sub(1)];
     values.extend(counted.iter().flat_map(|&n| [n.wrapping_sub(1), n, n.wrapping_add(1)]));
     values.sort_unstable();
     values.dedup();
@@ -271,11 +271,29 @@ fn entries_that_point_outside() {
                 outside(&t, &|t| frame(t, node, node), "fall of a call");
             }
         }
+        let paths = paths(&t);
         for node in 0..n {
+            let (line, path) = &paths[paths.len() - n + node];
+            // `module`, `line`, `to`, `stmts`, and one past the last word.
+            for word in [0, 1, 5, 6, 28] {
+                let mut t = t.clone();
+                t.stmts[12 * node] = word;
+                outside(&t, &|t| t.stmt_at(node).err(), "word");
+                outside(&t, &|t| t.stmt_at_path(*line, path).err(), "word of the statement at a path");
+                outside(&t, &|t| frame(t, node, node), "word of a frame's node");
+                for held in (0..n).filter(|&i| usize::from(t.stmts[12 * i + 2]) == node + 1) {
+                    outside(&t, &|t| t.stmt_at(held).err(), "word of a holder");
+                }
+            }
             let mut t = t.clone();
-            t.stmts[12 * node] = 28;
-            outside(&t, &|t| t.stmt_at(node).err(), "word");
-            outside(&t, &|t| frame(t, node, node), "word of a frame's node");
+            let lines = t.counts[0] as u16;
+            t.stmts[12 * node + 1] = lines;
+            outside(&t, &|t| t.stmt_at(node).err(), "line");
+            outside(&t, &|t| frame(t, node, node), "line of a frame's node");
+            // Asked by its own line it is not found, or in an IF by the IF's line; no path begins with a line that is none.
+            let due = if path.len() == 1 { 26 } else { 25 };
+            assert_eq!(t.stmt_at_path(*line, path).map_err(|r| r.number), Err(due), "line of the statement at a path");
+            assert_eq!(t.stmt_at_path(lines.into(), path).map_err(|r| r.number), Err(26), "a path without a line");
         }
     }
 }

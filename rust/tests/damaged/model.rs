@@ -11,9 +11,13 @@ const OUTSIDE: Refused = (25, 0);
 const NOWHERE: Refused = (26, 0);
 
 const IFS: usize = 16;
+const MODULE: u16 = 0;
+const LINE: u16 = 1;
 const IF: u16 = 2;
 const IFELSE: u16 = 3;
 const RCOMP: u16 = 4;
+const TO: u16 = 5;
+const STMTS: u16 = 6;
 const GOSUB: u16 = 8;
 const RETURN: u16 = 9;
 const RUN: u16 = 10;
@@ -80,25 +84,30 @@ fn record(t: &Tables, node: usize) -> Record {
     Record { word: row[0], line: row[1], holder: row[2], index: row[3] }
 }
 
-/// "A statement's record [points outside] if its word is none of the 28 (25)."
-fn word(t: &Tables, node: usize) -> Result<u16, Refused> {
-    let word = record(t, node).word;
-    if word > LAST_WORD { Err(OUTSIDE) } else { Ok(word) }
+/// "A statement's record [points outside] if its word opens no statement or its line index is not below the count of lines (25)."
+fn read(t: &Tables, node: usize) -> Result<Record, Refused> {
+    let r = record(t, node);
+    let opens = r.word <= LAST_WORD && !matches!(r.word, MODULE | LINE | TO | STMTS);
+    if opens && u32::from(r.line) < t.counts[0] { Ok(r) } else { Err(OUTSIDE) }
 }
 
 /// "Only IF, IFELSE and RCOMP hold statements."
-fn holds_statements(t: &Tables, node: usize) -> bool {
-    matches!(record(t, node).word, IF | IFELSE | RCOMP)
+fn holds_statements(r: &Record) -> bool {
+    matches!(r.word, IF | IFELSE | RCOMP)
 }
 
-/// "A path is followed number by number, each time to the first node with that holder and index"; "where what was found so far
-/// holds nothing, there is no statement (26)".
+/// "A line index that is not below the count of lines is no line, so there is no statement (26)." "Then the path is followed number
+/// by number, each time to the first node with that holder and index, the first time with that line index too. Each record found
+/// is read before what it holds: 25 if it points outside, else 26 where it holds nothing and a number is left."
 pub fn path(t: &Tables, line: usize, path: &[u16]) -> Result<(usize, u16), Refused> {
     holds(t.stmts.len(), 12, t.counts[1])?;
     let nodes = t.counts[1] as usize;
-    let mut at = None;
+    if line as u128 >= u128::from(t.counts[0]) {
+        return Err(NOWHERE);
+    }
+    let mut at: Option<usize> = None;
     for &number in path {
-        if at.is_some_and(|node| !holds_statements(t, node)) {
+        if at.is_some_and(|node| !holds_statements(&record(t, node))) {
             return Err(NOWHERE);
         }
         let holder = at.map_or(0, |node| node + 1);
@@ -107,21 +116,24 @@ pub fn path(t: &Tables, line: usize, path: &[u16]) -> Result<(usize, u16), Refus
             let here = usize::from(r.holder) == holder && r.index == number;
             here && (holder != 0 || usize::from(r.line) == line)
         };
-        at = Some((0..nodes).find(stands).ok_or(NOWHERE)?);
+        let node = (0..nodes).find(stands).ok_or(NOWHERE)?;
+        read(t, node)?;
+        at = Some(node);
     }
     let node = at.ok_or(NOWHERE)?;
-    Ok((node, word(t, node)?))
+    Ok((node, record(t, node).word))
 }
 
-/// "From the node to its holder, and on until there is none. A holder that is no node is 25; else one that holds no statements
-/// is 26, and so is a seventeenth. The first of these on the way up decides."
+/// "From the node to its holder, and on until there is none. A holder that is no node, or whose record points outside, is 25; else
+/// one that holds no statements is 26, and so is a seventeenth. The first of these on the way up decides."
 fn climb(t: &Tables, node: usize) -> Result<(), Refused> {
     let mut at = node;
     let mut passed = 0;
     while let Some(holder) = usize::from(record(t, at).holder).checked_sub(1) {
         is_node(t, holder).map_err(|_| OUTSIDE)?;
+        let r = read(t, holder)?;
         passed += 1;
-        if passed > IFS || !holds_statements(t, holder) {
+        if passed > IFS || !holds_statements(&r) {
             return Err(NOWHERE);
         }
         at = holder;
@@ -129,13 +141,13 @@ fn climb(t: &Tables, node: usize) -> Result<(), Refused> {
     Ok(())
 }
 
-/// "A node's statement is the node itself, if the path in its record can be read"; its word "is 25 before all of these".
+/// "A node's statement is the node itself, if the path in its record can be read"; its own record "is read first".
 pub fn statement(t: &Tables, node: usize) -> Result<(usize, u16), Refused> {
     is_node(t, node)?;
     holds(t.stmts.len(), 12, t.counts[1])?;
-    let word = word(t, node)?;
+    let r = read(t, node)?;
     climb(t, node)?;
-    Ok((node, word))
+    Ok((node, r.word))
 }
 
 fn is_name(name: &[u8]) -> bool {

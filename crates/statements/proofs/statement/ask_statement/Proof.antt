@@ -24,13 +24,22 @@ returns-2 c =
     let a = c .before .before .before .before .before .args in
     node-rows (a .counts .now) (a .stmts .now) (a .node) _ (c .before .before .count-of .ensures .0) (omega arith) (c .if2 .taken)
 
+element-copy-out-count-of-2 : tie.Need-element-copy-out-count-of-2
+element-copy-out-count-of-2 c = search needs
+
+count-of-requires-2 : tie.Need-count-of-requires-2
+count-of-requires-2 c κs = search needs
+
 record-number-requires : tie.Need-record-number-requires
 record-number-requires c κs = search needs
 
 returns-3 : tie.Need-returns-3
 returns-3 c =
-    let a = c .before .before .before .before .before .before .before .args in
-    node-refused (a .counts .now) (a .stmts .now) (a .node) _ (c .before .before .before .before .count-of .ensures .0) (omega arith) (omega arith) _ (c .before .record-number .ensures) (c .if3 .taken)
+    let start : tie.Start = search in
+    let nodes : tie.After-count-of = search in
+    let lines : tie.After-count-of2 = search in
+    let a = start .args in
+    node-refused (a .counts .now) (a .stmts .now) (a .node) _ (nodes .count-of .ensures .0) (omega arith) (omega arith) _ (lines .count-of2 .ensures .0) _ (c .before .record-number .ensures) (c .if3 .taken)
 
 mul-wide : tie.Need-mul-wide
 mul-wide c = search needs
@@ -49,8 +58,12 @@ wide-requires c κs = search needs
 
 returns-4 : tie.Need-returns-4
 returns-4 c =
-    let a = c .before .before .before .before .before .before .before .before .before .args in
-    node-found (a .counts .now) (a .stmts .now) (a .node) _ (c .before .before .before .before .before .before .count-of .ensures .0) (omega arith) (omega arith) _ (c .before .before .before .record-number .ensures) _ (c .before .before .if3 .left) (c .wide .ensures)
+    let start : tie.Start = search in
+    let nodes : tie.After-count-of = search in
+    let lines : tie.After-count-of2 = search in
+    let at-record : tie.After-record-number = search in
+    let a = start .args in
+    node-found (a .counts .now) (a .stmts .now) (a .node) _ (nodes .count-of .ensures .0) (omega arith) (omega arith) _ (lines .count-of2 .ensures .0) _ (at-record .record-number .ensures) _ (c .before .before .if3 .left) (c .wide .ensures)
 
 pub ask-statement-spec : {M : Type 1} → statement M
 ask-statement-spec =
@@ -61,6 +74,8 @@ ask-statement-spec =
     returns
     mul-if2
     returns-2
+    element-copy-out-count-of-2
+    count-of-requires-2
     record-number-requires
     returns-3
     mul-wide

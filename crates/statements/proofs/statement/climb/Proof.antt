@@ -3,17 +3,17 @@ use Prim.Native.Nat.{_-_}
 use mathlib.Core.Path.{_≡_, refl, sym, ap, _∙_}
 use native.Mathlib.Omega.{arith}
 use borrow.Author.Tests.{not-true, not-false}
-use borrow.Author.Needs.{needs}
 use Rattle.statements.specs.StatementAt.{climb}
-use Rattle.statements.specs.StatementLaws.{climb-end, climb-outside, climb-deep, climb-leaf, climb-on}
+use Rattle.statements.specs.StatementLaws.{climb-end, climb-none, climb-outside, climb-deep, climb-leaf, climb-on}
+use borrow.Author.Needs.{needs}
 use Rattle.statements.proofs.statement.climb.Statement.{statement}
 use Rattle.statements.proofs.statement.climb.Tie as tie
 
 abbrev Inv-loop : tie.InvT-loop
-Inv-loop stmts n holder at₀ left₀ at left = climb stmts n 16 holder ≡ climb stmts n left at
+Inv-loop lines stmts n holder at₀ left₀ at left = climb lines stmts n 16 holder ≡ climb lines stmts n left at
 
 abbrev μ-loop : tie.MeasureT-loop
-μ-loop stmts n holder at₀ left₀ at left = left
+μ-loop lines stmts n holder at₀ left₀ at left = left
 
 loop-holds : tie.Need-loop-holds Inv-loop μ-loop
 loop-holds c = refl
@@ -22,16 +22,30 @@ returns : tie.Need-returns Inv-loop μ-loop
 returns c =
     let a = c .before .before .before .before .args in
     let l = c .before .before .loop in
-    sym (l .inv ∙ climb-outside (a .stmts .now) (a .n) (l .left) (l .at) (c .if1 .taken))
+    sym (l .inv ∙ climb-none (a .lines) (a .stmts .now) (a .n) (l .left) (l .at) (c .if1 .taken))
+
+sub-node : tie.Need-sub-node Inv-loop μ-loop
+sub-node c = search needs
+
+record-outside-requires : tie.Need-record-outside-requires Inv-loop μ-loop
+record-outside-requires c κs = search needs
 
 returns-2 : tie.Need-returns-2 Inv-loop μ-loop
 returns-2 c =
-    let a = c .before .before .before .before .before .args in
-    let l = c .before .before .before .loop in
-    sym (l .inv ∙ climb-deep (a .stmts .now) (a .n) (l .left) (l .at) (c .before .before .loop-test .taken) (omega arith) (c .if2 .taken))
+    let start : tie.Start Inv-loop μ-loop = search in
+    let at-loop : tie.In-loop Inv-loop μ-loop = search in
+    let a = start .args in
+    let l = at-loop .before .loop in
+    sym (l .inv ∙ climb-outside (a .lines) (a .stmts .now) (a .n) (l .left) (l .at) (at-loop .loop-test .taken) (omega arith) (sym (c .before .record-outside .ensures) ∙ c .if2 .taken))
 
-sub-row : tie.Need-sub-row Inv-loop μ-loop
-sub-row c = search needs
+returns-3 : tie.Need-returns-3 Inv-loop μ-loop
+returns-3 c =
+    let start : tie.Start Inv-loop μ-loop = search in
+    let at-loop : tie.In-loop Inv-loop μ-loop = search in
+    let at-record : tie.After-record-outside Inv-loop μ-loop = search in
+    let a = start .args in
+    let l = at-loop .before .loop in
+    sym (l .inv ∙ climb-deep (a .lines) (a .stmts .now) (a .n) (l .left) (l .at) (at-loop .loop-test .taken) (omega arith) (sym (at-record .record-outside .ensures) ∙ c .before .if2 .left) (c .if3 .taken))
 
 mul-row : tie.Need-mul-row Inv-loop μ-loop
 mul-row c = search needs
@@ -48,11 +62,16 @@ shared-slice-read-is-branching c = search needs
 is-branching-requires : tie.Need-is-branching-requires Inv-loop μ-loop
 is-branching-requires c κs = search needs
 
-returns-3 : tie.Need-returns-3 Inv-loop μ-loop
-returns-3 c =
-    let a = c .before .before .before .before .before .before .before .before .args in
-    let l = c .before .before .before .before .before .before .loop in
-    sym (l .inv ∙ climb-leaf (a .stmts .now) (a .n) (l .left) (l .at) (c .before .before .before .before .before .loop-test .taken) (omega arith) (c .before .before .before .if2 .left) (sym (c .before .is-branching .ensures) ∙ not-true _ (c .if3 .taken)))
+returns-4 : tie.Need-returns-4 Inv-loop μ-loop
+returns-4 c =
+    let start : tie.Start Inv-loop μ-loop = search in
+    let at-loop : tie.In-loop Inv-loop μ-loop = search in
+    let at-record : tie.After-record-outside Inv-loop μ-loop = search in
+    let at-read : tie.Else2 Inv-loop μ-loop = search in
+    let at-left : tie.Else3 Inv-loop μ-loop = search in
+    let a = start .args in
+    let l = at-loop .before .loop in
+    sym (l .inv ∙ climb-leaf (a .lines) (a .stmts .now) (a .n) (l .left) (l .at) (at-loop .loop-test .taken) (omega arith) (sym (at-record .record-outside .ensures) ∙ at-read .if2 .left) (at-left .if3 .left) (sym (c .before .is-branching .ensures) ∙ not-true _ (c .if4 .taken)))
 
 add-wide : tie.Need-add-wide Inv-loop μ-loop
 add-wide c = search needs
@@ -74,16 +93,23 @@ loop-less c = search needs
 
 loop-again : tie.Need-loop-again Inv-loop μ-loop
 loop-again c =
-    let a = c .before .before .before .before .before .before .before .before .before .before .args in
-    let l = c .before .before .before .before .before .before .before .before .loop in
-    l .inv ∙ climb-on (a .stmts .now) (a .n) (l .left) (l .at) (c .before .before .before .before .before .before .before .loop-test .taken) (omega arith) (c .before .before .before .before .before .if2 .left) (sym (c .before .before .before .is-branching .ensures) ∙ not-false _ (c .before .before .if3 .left))
-    ∙ ap (climb (a .stmts .now) (a .n) (l .left - 1)) (sym (c .wide .ensures))
+    let start : tie.Start Inv-loop μ-loop = search in
+    let at-loop : tie.In-loop Inv-loop μ-loop = search in
+    let at-record : tie.After-record-outside Inv-loop μ-loop = search in
+    let at-read : tie.Else2 Inv-loop μ-loop = search in
+    let at-left : tie.Else3 Inv-loop μ-loop = search in
+    let at-word : tie.After-is-branching Inv-loop μ-loop = search in
+    let at-holds : tie.Else4 Inv-loop μ-loop = search in
+    let a = start .args in
+    let l = at-loop .before .loop in
+    l .inv ∙ climb-on (a .lines) (a .stmts .now) (a .n) (l .left) (l .at) (at-loop .loop-test .taken) (omega arith) (sym (at-record .record-outside .ensures) ∙ at-read .if2 .left) (at-left .if3 .left) (sym (at-word .is-branching .ensures) ∙ not-false _ (at-holds .if4 .left))
+    ∙ ap (climb (a .lines) (a .stmts .now) (a .n) (l .left - 1)) (sym (c .wide .ensures))
 
-returns-4 : tie.Need-returns-4 Inv-loop μ-loop
-returns-4 c =
+returns-5 : tie.Need-returns-5 Inv-loop μ-loop
+returns-5 c =
     let a = c .before .before .before .args in
     let l = c .before .loop in
-    sym (l .inv ∙ climb-end (a .stmts .now) (a .n) (l .left) (l .at) (c .loop-test .left))
+    sym (l .inv ∙ climb-end (a .lines) (a .stmts .now) (a .n) (l .left) (l .at) (c .loop-test .left))
 
 pub climb-spec : {M : Type 1} → statement M
 climb-spec =
@@ -93,14 +119,16 @@ climb-spec =
     μ-loop
     loop-holds
     returns
+    sub-node
+    record-outside-requires
     returns-2
-    sub-row
+    returns-3
     mul-row
     add-is-branching
     mul-is-branching
     shared-slice-read-is-branching
     is-branching-requires
-    returns-3
+    returns-4
     add-wide
     mul-wide
     shared-slice-read-wide
@@ -108,4 +136,4 @@ climb-spec =
     sub-left
     loop-less
     loop-again
-    returns-4)
+    returns-5)

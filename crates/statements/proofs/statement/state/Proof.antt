@@ -1,7 +1,6 @@
--- `state`: none, a word that is none, or the statement. Assumes nothing.
-use native.Mathlib.Omega.{arith}
+-- `state`: none, or the statement. Assumes nothing.
+use Rattle.statements.specs.StatementLaws.{no-stmt, the-stmt}
 use borrow.Author.Needs.{needs}
-use Rattle.statements.specs.StatementLaws.{no-stmt, no-word, the-stmt}
 use Rattle.statements.proofs.statement.state.Statement.{statement}
 use Rattle.statements.proofs.statement.state.Tie as tie
 
@@ -27,10 +26,10 @@ wide-requires : tie.Need-wide-requires
 wide-requires c κs = search needs
 
 returns-2 : tie.Need-returns-2
-returns-2 c = no-word (c .before .before .before .before .before .args .stmts .now) (c .before .before .before .before .before .args .at) _ (c .before .before .before .if1 .left) (c .before .wide .ensures) (c .if2 .taken)
-
-returns-3 : tie.Need-returns-3
-returns-3 c = the-stmt (c .before .before .before .before .before .args .stmts .now) (c .before .before .before .before .before .args .at) _ (c .before .before .before .if1 .left) (c .before .wide .ensures) (omega arith)
+returns-2 c =
+    let start : tie.Start = search in
+    let at-some : tie.Else1 = search in
+    the-stmt (start .args .stmts .now) (start .args .at) _ (at-some .if1 .left) (c .wide .ensures)
 
 pub state-spec : {M : Type 1} → statement M
 state-spec =
@@ -43,5 +42,4 @@ state-spec =
     mul-wide-2
     shared-slice-read-wide
     wide-requires
-    returns-2
-    returns-3)
+    returns-2)
