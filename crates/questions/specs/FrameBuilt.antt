@@ -12,23 +12,20 @@ use Rattle.listings.specs.Bytes.{same, bytes, pick}
 use Rattle.listings.specs.Listing.{Name, Tier, Simple, goto, gosub, return, run, runto, ongoto, ongosub, for, next, repeat, loop, until, endloop, exit, exitif, doif, else, done, clr, stop, any, if, ifelse, rcomp, Listing, total, count}
 use Rattle.listings.specs.ListingText.{simpleWord, condWord, SimpleOk, InForm}
 use Rattle.listings.specs.Rows.{isName, openingWords}
-use Rattle.listings.specs.Records.{nameKey, argsOf, lineRecs, argRow, argRows, padded}
-use Rattle.reader.specs.ReadBack.{lines-wide}
+use Rattle.listings.specs.Records.{nameKey, argsOf, padded}
 use Rattle.listings.specs.Scan.{same-sym}
-use Rattle.reader.specs.Tables.{padded-length, joined-length}
 use Rattle.listings.specs.WordTable.{words, first, wordIndex}
-use Rattle.listings.specs.ReadingRecords.{lines-length}
 use Rattle.graph.specs.Graph.{Role, returnTargets, stmtRole, simpleRole, roleOf, role, fallOf, fallFrom, wire, continuation, successors}
 use Rattle.graph_laws.specs.GraphLaws.{nodeCount, fall-below}
 use Rattle.graph_laws.specs.NodeLaws.{Below}
 use Rattle.graph.specs.NodeWords.{stmtWord, stmtNumber}
 use Rattle.graph.specs.Nodes.{NodeStmt, simple, cond, Node, nodes, nodesBefore}
 use Rattle.graph.specs.Targets.{onFor, onNext, onSimple}
-use Rattle.wiring.specs.DemandLaws.{graph-held, nodes-total, held-succ, held-continuation}
-use Rattle.wiring.specs.Demands.{Tables, Written, LongEnough}
+use Rattle.wiring.specs.WrittenLaws.{graph-held, listing-held, counts-held, nodes-total, held-succ, held-continuation}
+use Rattle.wiring.specs.Refusals.{LongEnough}
 use Rattle.tables.specs.Columns.{succStart, succCount, callWord, wordOf, fallEntry, succPart}
 use Rattle.passes.specs.GraphHeld.{GraphHeld}
-use Rattle.wiring.specs.GraphTables.{Sizes, answerOf, tableOf, countTable, argTable}
+use Rattle.wiring.specs.GraphTables.{Sizes, Tables, Written}
 use Rattle.passes.specs.HoldsListing.{HoldsListing, holds-listed}
 use Rattle.passes.specs.ListedNodes.{SimpleListed, StmtListed, Listed, key-same}
 use Rattle.passes.specs.OpenerLaws.{some-at}
@@ -36,7 +33,6 @@ use Rattle.passes.specs.GraphReads.{nodes-readable}
 use Rattle.passes.specs.ReturnTargets.{continuationEntry}
 use Rattle.passes.specs.TableReads.{fall-of}
 use Rattle.passes.specs.LateLaws.{number-below}
-use Rattle.wiring.specs.declared.build.Built.the-variants as built
 use Rattle.graph.specs.Questions.{refused, kept, frameSimple, frameBy, frameOf, frameList, ifNode, ifRoom, askFrame}
 use Rattle.frame_lists.specs.FrameAt.{forgetsWord, endsFrame, keepsShared, frameRead, shortTables, partOutside, fallOutside, frameOutside, frameIn, frameAt}
 use Rattle.frame_slices.specs.Told.{FrameTold}
@@ -166,43 +162,10 @@ module _ {L : Listing} {lines n : ℕ} {stmts args falls lists succ : List ℕ} 
 
 module _ (L : Listing) (s : Sizes) (T : Tables) (ok : InForm L) (f : LongEnough s L) (w : Written L s T) where
   held : GraphHeld L (T .lines) (T .stmts) (T .entries) (T .falls) (T .lists) (T .returns) (T .succ) (T .pred) (count (L .lines)) (total (L .lines)) (length (returnTargets (wire L)))
-  unfolding answerOf tableOf
-  held =
-      graph-held L s _ _ _ _ _ _ _ _ _ _ _ built.Graph ok (f .lines) (f .nodes) (f .edges)
-      (record {
-        answer = refl;
-        counts = w .counts;
-        lines = w .lines;
-        stmts = w .stmts;
-        args = w .args;
-        entries = w .entries;
-        falls = w .falls;
-        links = w .links;
-        lists = w .lists;
-        returns = w .returns;
-        succ = w .succ;
-        pred = w .pred;
-      })
-
-  args-length : length (T .args) ≡ s .args
-  unfolding argTable
-  args-length =
-      ap length (w .args) ∙ padded-length (s .args) (argRows (lineRecs (L .lines))) (omega (arith, joined-length argRow 64 (lines-wide (L .lines) (ok .lines)), lines-length (L .lines), f .nodes .in-args))
+  held = graph-held L s T ok f w
 
   holds : HoldsListing L (T .lines) (T .stmts) (T .args) (count (L .lines)) (total (L .lines))
-  unfolding argTable
-  holds =
-      record {
-        in-form = ok;
-        count-is = refl;
-        nodes-are = refl;
-        lines-are = held .lines-are;
-        stmts-are = held .stmts-are;
-        args-are = w .args ∙ ap (λ (m : ℕ). padded m (argRows (lineRecs (L .lines)))) (sym args-length);
-        lines-fit = held .lines-fit;
-        stmts-fit = held .stmts-fit;
-        args-fit = omega (arith, args-length, f .nodes .in-args);
-      }
+  holds = listing-held L s T ok f w
 
   fall-in-nodes : (i : ℕ) → i < total (L .lines) → getD (T .falls) (i * 3) 0 ≤ total (L .lines)
   unfolding fallFrom fallOf
@@ -237,9 +200,11 @@ module _ (L : Listing) (s : Sizes) (T : Tables) (ok : InForm L) (f : LongEnough 
   -- `ask_frame` on these tables
   pub frame-built : (h i : ℕ) (v : Name) (flag : Bool) (room : ℕ)
       → frameAt (getD (T .counts) 0 0) (getD (T .counts) 1 0) (T .stmts) (T .args) (T .falls) (T .lists) (T .succ) h i v flag room ≡ askFrame L h i v flag room
-  unfolding countTable padded
   frame-built h i v flag room =
-      ap (λ (t : List ℕ). frameAt (getD t 0 0) (getD t 1 0) (T .stmts) (T .args) (T .falls) (T .lists) (T .succ) h i v flag room) (w .counts) ∙ frame-is frame-tables h i v flag room
+      let n = counts-held L s T w in
+      ap (λ (k : ℕ). frameAt k (getD (T .counts) 1 0) (T .stmts) (T .args) (T .falls) (T .lists) (T .succ) h i v flag room) (n .lines)
+      ∙ ap (λ (k : ℕ). frameAt (count (L .lines)) k (T .stmts) (T .args) (T .falls) (T .lists) (T .succ) h i v flag room) (n .stmts)
+      ∙ frame-is frame-tables h i v flag room
 
   -- so what `ask_frame` promises is the answer of the listing's graph
   pub frame-told : (h i : ℕ) (v : Name) (flag : Bool) (out out′ : List ℕ) (r : Framed)

@@ -3,7 +3,7 @@
 use Prim.Native.Nat.{ℕ}
 use mathlib.Core.Path.{_≡_}
 use mathlib.Core.Bool.{Bool, false}
-use mathlib.Core.List.{List}
+use mathlib.Core.List.{List, []}
 use mathlib.Core.Logic.{_⊎_}
 use mathlib.Core.Option.{some}
 use lib.ListN.{length, getD, getElem?, take}
@@ -22,7 +22,7 @@ use Rattle.wiring.specs.GraphTables.{Sizes, Tables, BuildWrote, Written, AllZer
 use Rattle.wiring.specs.Refusals.{ListingOf, LongEnough, Refusal}
 use Rattle.wiring.specs.declared.build.Built.{Built as BuiltAnswer}
 use Rattle.wiring.specs.declared.build.Built.the-variants as built
-use Rattle.adjacency.specs.ListsAt.{successorsAt, predecessorsAt, listReply}
+use Rattle.adjacency.specs.ListsAt.{successorsAt, predecessorsAt, listReply, partOf}
 use Rattle.adjacency.specs.EntryAt.{entryAt}
 use Rattle.statements.specs.StatementAt.{nodeStatement, pathStatement}
 use Rattle.frame_lists.specs.FrameAt.{frameAt}
@@ -77,18 +77,26 @@ unfoldable pub numbered : Reply (ℕ × List ℕ) → Reply (ℕ × ℕ)
 numbered (answer d) = answer (d .0, wordIndex (d .1))
 numbered (refused n p) = refused n p
 
+-- the list of an answer; none where it is refused
+unfoldable pub listOf : Reply (List ℕ) → List ℕ
+listOf (answer l) = l
+listOf (refused n p) = []
+
 -- "Questions ask for a node's successors, its statement, the statement at a path, a line's entry (a node or none), or the frame list": on the left what the
 -- routine's own contract reads off the tables, on the right the answer or the refusal that the listing's graph has
 pub record Questions (L : Listing) (T : Tables) : Type 0 where
   pub successors : (i : ℕ) → listReply (successorsAt (T .counts) (T .lists) (length (T .succ)) i) (T .succ) ≡ askSuccessors L i
   pub predecessors : (i : ℕ) → listReply (predecessorsAt (T .counts) (T .lists) (length (T .pred)) i) (T .pred) ≡ askPredecessors L i
+  -- "that part of the caller's table"
+  pub successor-part : (i : ℕ) → partOf (successorsAt (T .counts) (T .lists) (length (T .succ)) i) (T .succ) ≡ listOf (askSuccessors L i)
+  pub predecessor-part : (i : ℕ) → partOf (predecessorsAt (T .counts) (T .lists) (length (T .pred)) i) (T .pred) ≡ listOf (askPredecessors L i)
   pub statement : (i : ℕ) → nodeStatement (T .counts) (T .stmts) i ≡ numbered (askStatement L i)
   pub path : (line : ℕ) (p : List ℕ) → pathStatement (T .counts) (T .stmts) line p ≡ numbered (askPath L line p)
   pub entry : (number : ℕ) → entryAt (T .counts) (T .lines) (T .entries) number ≡ askEntry L number
   -- whatever slice is lent: the answer is that of the graph for its room, "zeroes .. past the used parts .. and so does the frame question its slice", and
   -- "a refused question writes nothing"
   pub frame : (header node : ℕ) (v : Name) (flag : Bool) (out out′ : List ℕ) (r : Framed)
-      → FrameTold (frameAt (getD (T .counts) 1 0) (T .stmts) (T .args) (T .falls) (T .lists) (T .succ) header node v flag (length out)) out out′ r
+      → FrameTold (frameAt (getD (T .counts) 0 0) (getD (T .counts) 1 0) (T .stmts) (T .args) (T .falls) (T .lists) (T .succ) header node v flag (length out)) out out′ r
       → FrameTold (askFrame L header node v flag (length out)) out out′ r
 
 -- ---- the mission

@@ -6,28 +6,26 @@ use mathlib.Core.Logic.{inl, inr}
 use mathlib.Core.Option.{Option, none, some}
 use native.Mathlib.Omega.{arith}
 use borrow.Author.Tests.{lt-ltb, le-ltb}
-use lib.ListN.{length, getD, getElem?, replicate, length-append, length-replicate}
-use Rattle.listings.specs.Listing.{Listing, count}
-use Rattle.listings.specs.WordTable.{wordIndex}
-use Rattle.listings.specs.Records.{lineRecs, recRows, padded}
+use lib.ListN.{length, getD, getElem?}
+use Rattle.listings.specs.Listing.{Listing, total, count}
+use Rattle.listings.specs.ListingText.{InForm}
+use Rattle.listings.specs.Records.{padded}
 use Rattle.graph.specs.Nodes.{Node, nodes, nodesBefore}
 use Rattle.graph_laws.specs.NodeLaws.{length-nodes}
 use Rattle.graph.specs.NodeWords.{stmtNumber}
-use Rattle.graph.specs.Graph.{wire}
+use Rattle.graph.specs.Graph.{wire, returnTargets}
 use Rattle.passes.specs.Compare.{lt-or}
 use Rattle.passes.specs.LineEntries.{at-place}
 use Rattle.tables.specs.Columns.{wordOf}
-use Rattle.wiring.specs.GraphTables.{Sizes, countTable, lineTable, stmtTable}
-use Rattle.wiring.specs.Demands.{Tables, BuildWrote, ListingOf, LongEnough, Written, NodeWritten, Demand2, demands}
-use Rattle.wiring.specs.declared.build.Built.{Built as BuiltAnswer}
-use Rattle.graph.specs.Questions.{Reply, answer, refused, nodeFrom, statementOf, askStatement, foundOr, askPath}
+use Rattle.wiring.specs.GraphTables.{Sizes, Tables, Written}
+use Rattle.wiring.specs.Refusals.{LongEnough}
+use Rattle.wiring.specs.WrittenLaws.{graph-held, counts-held}
+use Rattle.passes.specs.GraphHeld.{GraphHeld}
+use Rattle.passes.specs.GraphReads.{reads}
+use Rattle.graph.specs.Questions.{answer, refused, nodeFrom, statementOf, askStatement, foundOr, askPath}
 use Rattle.statements.specs.StatementAt.{ifRows, stmtAt, pathStatement, noStatement, unlessRefused, nodeStatement}
+use Rattle.questions.specs.Mission.{numbered}
 use Rattle.questions.specs.PathAnswers.{Stands, Sought, found, missing, sought, nodeAt, Recorded, leads-back, stands-there, by-node-at, stated, recorded-by}
-
--- an answer with the opening word as its number in the table of the 28
-unfoldable pub numbered : Reply (ℕ × List ℕ) → Reply (ℕ × ℕ)
-numbered (answer d) = answer (d .0, wordIndex (d .1))
-numbered (refused n p) = refused n p
 
 -- ---- small laws
 
@@ -36,45 +34,35 @@ none-past [] i h = refl
 none-past (a ∷ l) zero h = absurd (omega arith)
 none-past (a ∷ l) (suc i) h = none-past l i (omega arith)
 
-padded-long : (k : ℕ) (l : List ℕ) → k ≤ length (padded k l)
-unfolding padded
-padded-long k l = omega (arith, length-append l (replicate (k - length l) 0), length-replicate {A = ℕ} (k - length l) 0)
-
 -- ---- the answers
 
-module _ (text : List ℕ) (s : Sizes) (T : Tables) (x : BuiltAnswer) (wrote : BuildWrote text s T x) (L : Listing) (h : ListingOf text L) (g : LongEnough s L) where
+module _ (L : Listing) (s : Sizes) (T : Tables) (ok : InForm L) (g : LongEnough s L) (w : Written L s T) where
   abbrev ns : List Node
   ns = nodesBefore none (L .lines)
 
-  written : Written L s T
-  written = demands text s T x wrote .first .accepts L h g .1
+  held : GraphHeld L (T .lines) (T .stmts) (T .entries) (T .falls) (T .lists) (T .returns) (T .succ) (T .pred) (count (L .lines)) (total (L .lines)) (length (returnTargets (wire L)))
+  held = graph-held L s T ok g w
 
-  second : Demand2 L T
-  second = demands text s T x wrote .second L h (demands text s T x wrote .first .accepts L h g .0)
-
-  node-written : (i : ℕ) (d : Node) → getElem? ns i ≡ some d → NodeWritten L T i d
-  unfolding wire nodes
-  node-written i d e = second .node i d e
+  word-is : (i : ℕ) (d : Node) → getElem? ns i ≡ some d → wordOf (T .stmts) i ≡ stmtNumber (d .stmt)
+  unfolding wire nodes wordOf
+  word-is i d e = reads held i d e .word-is
 
   count-is : getD (T .counts) 1 0 ≡ length ns
-  unfolding wire nodes
-  count-is = second .nodes
+  count-is = counts-held L s T w .stmts ∙ sym (length-nodes none (L .lines))
 
   lines-are : getD (T .counts) 0 0 ≡ count (L .lines)
-  unfolding countTable padded
-  lines-are = ap (λ (t : List ℕ). getD t 0 0) (written .counts)
+  lines-are = counts-held L s T w .lines
 
   recorded : Recorded (count (L .lines)) (T .stmts) ns
-  unfolding lineTable stmtTable padded
-  recorded = recorded-by (L .lines) (h .in-form .lines) (T .lines) (T .stmts) _ _ (written .lines) (written .stmts)
+  unfolding padded
+  recorded = recorded-by (L .lines) (ok .lines) (T .lines) (T .stmts) _ _ (held .lines-are) (held .stmts-are)
 
   rows : length ns * 12 ≤ length (T .stmts)
-  unfolding stmtTable
-  rows = omega (arith, g .nodes .in-stmts, length-nodes none (L .lines), ap length (written .stmts), padded-long (s .stmts) (recRows (lineRecs (L .lines))))
+  rows = omega (arith, held .stmts-fit, length-nodes none (L .lines))
 
   stmt-is : (i : ℕ) (d : Node) → getElem? ns i ≡ some d → stmtAt (T .stmts) (suc i) ≡ answer (i, stmtNumber (d .stmt))
   unfolding stmtAt
-  stmt-is i d e = ap (λ (w : ℕ). answer (i, w)) (node-written i d e .word)
+  stmt-is i d e = ap (λ (w : ℕ). answer (i, w)) (word-is i d e)
 
   module _ (li : ℕ) (p : List ℕ) where
     by-path : li < count (L .lines) → pathStatement (T .counts) (T .stmts) li p ≡ stmtAt (T .stmts) (nodeAt (T .stmts) (length ns) li 0 p)
@@ -129,5 +117,5 @@ module _ (text : List ℕ) (s : Sizes) (T : Tables) (x : BuiltAnswer) (wrote : B
           let d = at-place ns i l in
           by-node i l
           ∙ ap (λ (c : ℕ). unlessRefused c (answer (i, wordOf (T .stmts) i))) (stated (count (L .lines)) (T .stmts) ns recorded i (d .0) (d .1))
-          ∙ ap (λ (w : ℕ). answer (i, w)) (node-written i (d .0) (d .1) .word)
+          ∙ ap (λ (w : ℕ). answer (i, w)) (word-is i (d .0) (d .1))
           ∙ ap (λ (o : Option Node). numbered (statementOf i o)) (sym (d .1))
