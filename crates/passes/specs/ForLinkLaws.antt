@@ -134,12 +134,12 @@ module _ (ts ks : List ℕ) (i : ℕ) where
 
 -- ---- the row of a node is 64 entries
 
-abbrev MoveFits : ForMove → Type 0
+abbrev pub MoveFits : ForMove → Type 0
 MoveFits keepFors = Unit {0}
 MoveFits (pushFor v) = Unit {0}
 MoveFits (popFors ss) = length ss ≤ 64
 
-slots-length : (ss : List Slot) (fs : List (Name × ℕ)) → length (slotLinks ss fs) ≡ length ss
+pub slots-length : (ss : List Slot) (fs : List (Name × ℕ)) → length (slotLinks ss fs) ≡ length ss
 unfolding slotLinks
 slots-length [] fs = refl
 slots-length (s ∷ ss) fs = ap suc (slots-length ss ((popOpener s fs) .1))
@@ -246,7 +246,7 @@ pub record RowLinked (t t′ : List ℕ) (k : ℕ) (f : Fact) : Type 0 where
   pub popped : f .popped ≡ pops ((nodeMoves (f .stmt)) .fors) fors
   pub fits : MoveFits ((nodeMoves (f .stmt)) .fors)
 
-abbrev RowsFit : List Node → Type 0
+abbrev pub RowsFit : List Node → Type 0
 RowsFit ns = All (λ (n : Node). MoveFits ((nodeMoves (n .stmt)) .fors)) ns
 
 rows-by : (i : ℕ) {ns : List Node} → RowsFit ns → (st : Openers) (t : List ℕ) → length ns * 64 ≤ length t → (k : ℕ) (f : Fact) → getElem? (facts i ns st) k ≡ some f
@@ -269,7 +269,7 @@ rows-by i (all∷ {a = n} {l = ns} p ps) st t h (suc k) f e =
     let y : drop (k * 64) (drop 64 t) ≡ drop (suc k * 64) t = drop-drop (k * 64) 64 t ∙ ap (λ (v : ℕ). drop v t) w in
     record { fors = r .fors; row = ap (take 64) x ∙ r .row ∙ ap (λ (v : List ℕ). linkedRow ((nodeMoves (f .stmt)) .fors) (r .fors) (take 64 v)) y; popped = r .popped; fits = r .fits }
 
-rows-fit : (ts ks : List ℕ) (ns : List Node) → Listed ts ks ns → RowsFit ns
+pub rows-fit : (ts ks : List ℕ) (ns : List Node) → Listed ts ks ns → RowsFit ns
 rows-fit ts ks ns h = go 0 ns (λ k n e. move-fits ts ks k (n .stmt) (h k n e .stmt) (for-kind (n .stmt)))
   where
     go : (i : ℕ) (ms : List Node) → ((k : ℕ) (n : Node) → getElem? ms k ≡ some n → MoveFits ((nodeMoves (n .stmt)) .fors)) → RowsFit ms

@@ -17,6 +17,7 @@ pub mod MoveLaws
 pub mod FramePass
 pub mod FramePassLaws
 pub mod LinkLaws
+pub mod LinkRows
 pub mod Late
 pub mod FitLaws
 pub mod ChainLaws

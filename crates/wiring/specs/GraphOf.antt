@@ -11,7 +11,7 @@ use Rattle.graph.specs.Graph.{wire}
 use Rattle.graph.specs.Build.{graph, refused}
 use Rattle.passes.specs.LineEntries.{entryRows}
 use Rattle.passes.specs.Falls.{fallRows}
-use Rattle.passes.specs.Prepared.{linkTable}
+use Rattle.passes.specs.LinkRows.{linkRows, prepared-links}
 use Rattle.passes.specs.HoldsListing.{HoldsListing}
 use Rattle.passes.specs.Preparing.{PrepareReady, PreparedTo}
 use Rattle.wiring.specs.Wiring.{WireHeld, WireReady, WiringDone, WiredTo}
@@ -88,7 +88,7 @@ module _ {h : Bool} {c n : ℕ} {counts lines stmts args entries falls links lis
             args = q .args-are ∙ H .args-are ∙ sym (arg-table L (s .args));
             entries = P .entered ∙ ap (λ (z : ℕ). padded z (entryRows (L .lines))) ee ∙ sym (entries-table L (s .entries));
             falls = P .falling ∙ ap (λ (z : ℕ). padded z (fallRows (wire L .entries) (wire L .nodes))) ef ∙ sym (fall-table L (s .falls));
-            links = P .linking ∙ ap (λ (z : ℕ). linkTable z (wire L)) ek ∙ sym (links-table L (s .links));
+            links = prepared-links P ∙ ap (λ (z : ℕ). padded z (linkRows (wire L))) ek ∙ sym (links-table L (s .links));
             lists = q .lists-are ∙ ap (listTable L) ei;
             returns = q .returns-are ∙ ap (returnTable L) er;
             succ = q .succ-are ∙ ap (succTable L) eu;

@@ -16,7 +16,7 @@ use Rattle.passes.specs.LineEntries.{entryRows}
 use Rattle.passes.specs.Falls.{fallRows}
 use Rattle.passes.specs.EdgeTable.{joinedLists, listRows}
 use Rattle.passes.specs.Predecessors.{predsOf}
-use Rattle.passes.specs.Prepared.{linkTable}
+use Rattle.passes.specs.LinkRows.{linkRows}
 use Rattle.passes.specs.Room.{stmtRoom}
 use Rattle.wiring.specs.declared.build.Built.{Built as BuiltAnswer}
 use Rattle.wiring.specs.declared.build.Built.the-variants as answer
@@ -45,8 +45,9 @@ entryTable L k = padded k (entryRows (L .lines))
 pub fallTable : Listing → ℕ → List ℕ
 fallTable L k = padded k (fallRows (wire L .entries) (wire L .nodes))
 
+-- where each argument leads
 pub linksTable : Listing → ℕ → List ℕ
-linksTable L k = linkTable k (wire L)
+linksTable L k = padded k (linkRows (wire L))
 
 -- where each statement's successors and predecessors stand
 pub listTable : Listing → ℕ → List ℕ
@@ -229,7 +230,7 @@ module _ (L : Listing) (k : ℕ) where
   unfolding fallTable
   fall-table = refl
 
-  pub links-table : linksTable L k ≡ linkTable k (wire L)
+  pub links-table : linksTable L k ≡ padded k (linkRows (wire L))
   unfolding linksTable
   links-table = refl
 
