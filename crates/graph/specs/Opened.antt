@@ -1,9 +1,6 @@
 -- All definitions, opened: a table that names `opened` in its `unfolding` line can be computed. Assumes nothing.
 use Prim.Native.Nat.{ℕ}
-use Rattle.listings.specs.Bytes.{bytes, same, decimalIn, decimal}
-use Rattle.listings.specs.Listing.{size, len, total, count}
-use Rattle.listings.specs.Rows.{onFirst, split, all, isWord, areWords, stripClose, formRow, rowOf, openingWords, lookup, mapParse, withParse, isDigit, isCapital, value, noLeadingZero, parseNumber, parseNumbers, nameEnd, isName, parseName, parseSlot, parseSlots, orMalformed, tiers, parseTier, marks, parseMark, bareStmt, single, runStmt, forStmt, nextStmt, ifNoWords, handlerFacts, moduleBy, moduleContent, formContent, wordContent, contentOf}
-use Rattle.listings.specs.Read.{start, goTo, oneMore, orRefused, check, atBegin, ascends, readLine, atModule, readSimple, readCond, numberOf, branched, endStmts, atStmts, nextBranch, condStmt, endCond, readTo, readStmts, atCond, readRow, finish, readRows, read}
+use Rattle.listings.specs.Opened as listings
 use Rattle.graph.specs.Lists.{has, add, addAll, below, keep, each, list, insertBy, insert, ascending}
 use Rattle.graph.specs.Nodes.{branchTarget, allocate, lineEntry, nodesBefore, entriesBefore, nodes, entries, entryOf}
 use Rattle.graph.specs.Targets.{targetEntries, firstEntry, allEntries, branchEdges, onFor, onNext, onSimple, dispatchTarget, dispatchTargets, selectable, orphanTargets, orphanEdges}
@@ -15,5 +12,5 @@ use Rattle.graph.specs.Print.{spaced, joined, nodeRow, nodeRows, entryRo
 use Rattle.graph.specs.Build.{lengths, edgeCount, fitted, builtOf, build, written, limits, flowlist}
 
 unfoldable pub opened : ℕ
-unfolding bytes same decimalIn decimal size len total count onFirst split all isWord areWords stripClose formRow rowOf openingWords lookup mapParse withParse isDigit isCapital value noLeadingZero parseNumber parseNumbers nameEnd isName parseName parseSlot parseSlots orMalformed tiers parseTier marks parseMark bareStmt single runStmt forStmt nextStmt ifNoWords handlerFacts moduleBy moduleContent formContent wordContent contentOf start goTo oneMore orRefused check atBegin ascends readLine atModule readSimple readCond numberOf branched endStmts atStmts nextBranch condStmt endCond readTo readStmts atCond readRow finish readRows read has add addAll below keep each list insertBy insert ascending branchTarget allocate lineEntry nodesBefore entriesBefore nodes entries entryOf targetEntries firstEntry allEntries branchEdges onFor onNext onSimple dispatchTarget dispatchTargets selectable orphanTargets orphanEdges emptyStacks noMoves onFors onLoops onDos movesOf nodeMoves findFor underOr foundOr popFor popped left forsAfter framesAfter stacksAfter frameBody poppedBodies closedBody closerEdges ownSimple own jumpsOr sent fromNode toFall wired orphans edges ends reaches simpleRole stmtRole wire roleOf role fallOf fallFrom base continuationBy continuation calleesBy callees skipStepsBy skipSteps someReaches returnFrom regionReturnEdges returnTargets returnEdges successorsBy successorsIn successors allSuccessors predecessorsIn predecessors toward mayFall closeCall movesBy moves runFrom run spaced joined nodeRow nodeRows entryRow backRow printed printedRefusal lengths edgeCount fitted builtOf build written limits flowlist
+unfolding listings.opened has add addAll below keep each list insertBy insert ascending branchTarget allocate lineEntry nodesBefore entriesBefore nodes entries entryOf targetEntries firstEntry allEntries branchEdges onFor onNext onSimple dispatchTarget dispatchTargets selectable orphanTargets orphanEdges emptyStacks noMoves onFors onLoops onDos movesOf nodeMoves findFor underOr foundOr popFor popped left forsAfter framesAfter stacksAfter frameBody poppedBodies closedBody closerEdges ownSimple own jumpsOr sent fromNode toFall wired orphans edges ends reaches simpleRole stmtRole wire roleOf role fallOf fallFrom base continuationBy continuation calleesBy callees skipStepsBy skipSteps someReaches returnFrom regionReturnEdges returnTargets returnEdges successorsBy successorsIn successors allSuccessors predecessorsIn predecessors toward mayFall closeCall movesBy moves runFrom run spaced joined nodeRow nodeRows entryRow backRow printed printedRefusal lengths edgeCount fitted builtOf build written limits flowlist
 opened = 0

@@ -2,6 +2,8 @@ pub mod Bytes
 pub mod Listing
 pub mod Rows
 pub mod Read
+pub mod Opened
+pub mod Cases
 pub mod ListingText
 pub mod WordTable
 pub mod WordSlots
@@ -10,7 +12,7 @@ pub mod NumberText
 pub mod WordText
 pub mod RowForms
 pub mod RowText
-pub mod Accepted
+pub mod RowsTaken
 pub mod Shown
 pub mod ShownLaws
 pub mod RoundTrip

@@ -8,7 +8,7 @@ use lib.Dec.{ltb, leb}
 use lib.ListN.{length}
 use Rattle.listings.specs.Bytes.{pick}
 use Rattle.listings.specs.Listing.{Simple, CondWord, if, ifelse, rcomp, BranchForm, Stmts, ∅, _▸_, branching, Lines, nolines, line, Listing}
-use Rattle.listings.specs.Rows.{split, rowOf, Parse, malformed, invalid, parsed, Counted, Content, noForm, endRow, stmtsRow, moduleRow, lineRow, toRow, simpleRow, condRow, contentOf}
+use Rattle.listings.specs.Rows.{split, rowOf, Parse, malformed, invalid, parsed, refusalOf, Counted, Content, noForm, endRow, stmtsRow, moduleRow, lineRow, toRow, simpleRow, condRow, contentOf}
 
 -- ---- where a row stands
 
@@ -57,8 +57,8 @@ pub data Outcome (A : Type 0) : Type 0 where
 
 -- 2 and 3 are given before the later numbers
 unfoldable pub orRefused : {A B : Type 0} → Parse A → (A → Outcome B) → Outcome B
-orRefused malformed f = refused 2
-orRefused invalid f = refused 3
+orRefused {A} malformed f = refused (refusalOf {A = A} malformed)
+orRefused {A} invalid f = refused (refusalOf {A = A} invalid)
 orRefused (parsed a) f = f a
 
 -- refused by n unless the test passes

@@ -188,21 +188,17 @@ unfoldable pub countsOf : Listing → List ℕ
 countsOf L = count (L .lines) ∷ total (L .lines) ∷ handlerNumber (L .handlers) ∷ 0 ∷ 0 ∷ []
 
 -- what reading answers, with tables of so many entries: the definition's refusal, or 21, 22 with the counts as places
-pub data ReadAnswer : Type 0 where
-  accepted : Listing → ReadAnswer
-  refused : (number place : ℕ) → ReadAnswer
-
-unfoldable pub fitted : (lines stmts args : ℕ) → Listing → ReadAnswer
+unfoldable pub fitted : (lines stmts args : ℕ) → Listing → Answer
 fitted nl ns na L =
     pick (leb (count (L .lines)) nl)
-    (pick (leb (total (L .lines)) (ns / 12)) (pick (leb (total (L .lines)) (na / 64)) (accepted L) (refused 22 (total (L .lines)))) (refused 22 (total (L .lines))))
-    (refused 21 (count (L .lines)))
+    (pick (leb (total (L .lines)) (ns / 12)) (pick (leb (total (L .lines)) (na / 64)) (listing L) (refusal 22 (total (L .lines)))) (refusal 22 (total (L .lines))))
+    (refusal 21 (count (L .lines)))
 
-unfoldable pub answerOf : (lines stmts args : ℕ) → Answer → ReadAnswer
+unfoldable pub answerOf : (lines stmts args : ℕ) → Answer → Answer
 answerOf nl ns na (listing L) = fitted nl ns na L
-answerOf nl ns na (refusal n p) = refused n p
+answerOf nl ns na (refusal n p) = refusal n p
 
 -- a refused text leaves every entry zero
-unfoldable pub tableOf : (Listing → List ℕ) → ReadAnswer → ℕ → List ℕ
-tableOf f (accepted L) n = padded n (f L)
-tableOf f (refused m p) n = replicate n 0
+unfoldable pub tableOf : (Listing → List ℕ) → Answer → ℕ → List ℕ
+tableOf f (listing L) n = padded n (f L)
+tableOf f (refusal m p) n = replicate n 0

@@ -13,7 +13,7 @@ use Rattle.listings.specs.Read.{Position, begin, inModule, ended, inStmt
 use Rattle.listings.specs.ListingText.{listingRows, textOf, listingText, LinesOk, InForm}
 use Rattle.listings.specs.RowForms.{split-text, text-split}
 use Rattle.listings.specs.RowText.{content-text}
-use Rattle.listings.specs.Accepted.{steps-plain, steps-read, listing-steps}
+use Rattle.listings.specs.RowsTaken.{steps-plain, steps-read, listing-steps}
 use Rattle.listings.specs.Shown.{positionRows, shown, positionSize, openLines, Good, Next}
 use Rattle.listings.specs.ShownLaws.{row-next}
 use Rattle.listings.specs.ShownLaws.{good-start}

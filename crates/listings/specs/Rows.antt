@@ -77,10 +77,16 @@ lookup (d ∷ ds) w = pick (same (d .0) w) (some (d .1)) (lookup ds w)
 
 -- ---- numbers and names
 
--- what was read of a word or of a row's words: no form (refusal 2), a bad number or name (refusal 3), or a value
+-- what was read of a word or of a row's words: no form, a bad number or name, or a value
 pub data Parse (A : Type 0) : Type 0 where
   malformed invalid : Parse A
   parsed : A → Parse A
+
+-- "2 not a form allowed here", "3 number above 65535 or with a leading zero, or a word that is no name where one is due"; 0 for a value
+abbrev pub refusalOf : {A : Type 0} → Parse A → ℕ
+refusalOf malformed = 2
+refusalOf invalid = 3
+refusalOf (parsed a) = 0
 
 unfoldable pub mapParse : {A B : Type 0} → (A → B) → Parse A → Parse B
 mapParse f malformed = malformed

@@ -13,7 +13,7 @@ use Rattle.listings.specs.ListingText.{BranchOk, StmtsOk}
 use Rattle.listings.specs.Records.{Rec, branchNumber, simpleRec, condRec, stmtRecs, recRow, recRows, padded, joined}
 use Rattle.reader.specs.Tables.{drop-zeros}
 use Rattle.listings.specs.ReadingRecords.{stmts-length}
-use Rattle.listings.specs.Accepted.{first-ok}
+use Rattle.listings.specs.RowsTaken.{first-ok}
 use Rattle.listings.specs.RecordLaws.{rec-width}
 use Rattle.listings.specs.RecordLaws as records
 use Rattle.graph_laws.specs.Adding.{nodeNumber}

@@ -5,12 +5,11 @@ use mathlib.Core.Bool.{Bool, true, _&&_}
 use mathlib.Core.List.{List, [], _∷_, _++_}
 use lib.Dec.{T}
 use Rattle.listings.specs.Bytes.{bytes, same}
-use Rattle.listings.specs.Listing.{size, len, total, count}
-use Rattle.listings.specs.Rows.{onFirst, split, all, isWord, areWords, stripClose, formRow, rowOf, openingWords, lookup, mapParse, withParse, isDigit, isCapital, value, noLeadingZero, parseNumber, parseNumbers, nameEnd, isName, parseName, parseSlot, parseSlots, orMalformed, tiers, parseTier, marks, parseMark, bareStmt, single, runStmt, forStmt, nextStmt, ifNoWords, handlerFacts, moduleBy, moduleContent, formContent, wordContent, contentOf}
-use Rattle.listings.specs.Read.{start, goTo, oneMore, orRefused, check, atBegin, ascends, readLine, atModule, readSimple, readCond, numberOf, branched, endStmts, atStmts, nextBranch, condStmt, endCond, readTo, readStmts, atCond, readRow, finish, readRows, read}
+use Rattle.listings.specs.Opened as reading
+use Rattle.listings.specs.Read.{Answer, listing, refusal, read}
 use Rattle.listings.specs.ListingText.{simpleWord, condWord}
 use Rattle.listings.specs.WordTable.{words, first, wordIndex}
-use Rattle.listings.specs.Records.{nameKey, slotKey, argsOf, tierNumber, markNumber, detailOf, branchNumber, branchLine, simpleRec, condRec, stmtRecs, lineRecs, lineNumbers, padded, recRow, joined, argRow, handlerNumber, countsOf, ReadAnswer, accepted, refused, fitted, answerOf, tableOf}
+use Rattle.listings.specs.Records.{nameKey, slotKey, argsOf, tierNumber, markNumber, detailOf, branchNumber, branchLine, simpleRec, condRec, stmtRecs, lineRecs, lineNumbers, padded, recRow, joined, argRow, handlerNumber, countsOf, fitted, answerOf, tableOf}
 use Rattle.reader.specs.Listed.{lineEntries, stmtEntries, argEntries}
 
 -- a text, how many entries its tables have, and what stands in the counts, the line table, the statement table and each row of arguments
@@ -31,9 +30,9 @@ rows [] = []
 rows (l ∷ ls) = padded 64 l ++ rows ls
 
 -- 0 and 0 for an accepted text
-unfoldable told : ReadAnswer → List ℕ
-told (accepted L) = 0 ∷ 0 ∷ []
-told (refused n p) = n ∷ p ∷ []
+unfoldable told : Answer → List ℕ
+told (listing L) = 0 ∷ 0 ∷ []
+told (refusal n p) = n ∷ p ∷ []
 
 unfoldable right : Case → Bool
 right c =
@@ -104,5 +103,5 @@ table =
     ∷ []
 
 holds : T (allRight table)
-unfolding bytes same size len total count onFirst split all isWord areWords stripClose formRow rowOf openingWords lookup mapParse withParse isDigit isCapital value noLeadingZero parseNumber parseNumbers nameEnd isName parseName parseSlot parseSlots orMalformed tiers parseTier marks parseMark bareStmt single runStmt forStmt nextStmt ifNoWords handlerFacts moduleBy moduleContent formContent wordContent contentOf start goTo oneMore orRefused check atBegin ascends readLine atModule readSimple readCond numberOf branched endStmts atStmts nextBranch condStmt endCond readTo readStmts atCond readRow finish readRows read simpleWord condWord words first wordIndex nameKey slotKey argsOf tierNumber markNumber detailOf branchNumber branchLine simpleRec condRec stmtRecs lineRecs lineNumbers padded recRow joined argRow handlerNumber countsOf fitted answerOf tableOf lineEntries stmtEntries argEntries rows told right allRight nested table
+unfolding reading.opened simpleWord condWord words first wordIndex nameKey slotKey argsOf tierNumber markNumber detailOf branchNumber branchLine simpleRec condRec stmtRecs lineRecs lineNumbers padded recRow joined argRow handlerNumber countsOf fitted answerOf tableOf lineEntries stmtEntries argEntries rows told right allRight nested table
 holds = tt

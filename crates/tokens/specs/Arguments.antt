@@ -1,4 +1,4 @@
--- The words after a form's opening word, as the code judges them: the worst of them, and how many. Assumes nothing.
+-- The words after a form's opening word, as the code judges them: the lowest number that refuses one of them, and how many there are. Assumes nothing.
 use Prim.Native.Nat.{ℕ, zero, suc, _+_, _-_, _≤_, _<_}
 use mathlib.Core.Path.{_≡_, refl, sym, ap, _∙_}
 use mathlib.Core.List.{List, [], _∷_}
@@ -14,91 +14,104 @@ use lib.Seq.{drop-cons}
 use borrow.Author.Tests.{ne-eqb, eqb-true, ltb-true, ltb-false, lt-ltb, le-ltb}
 use Rattle.listings.specs.Bytes.{same, pick}
 use Rattle.listings.specs.Listing.{for}
-use Rattle.listings.specs.Rows.{split, onFirst, all, isWord, areWords, Parse, malformed, invalid, parsed, mapParse, withParse, parseNumber, parseNumbers, parseName, parseSlot, parseSlots, parseTier, parseMark, single, forStmt}
+use Rattle.listings.specs.Rows.{split, onFirst, all, isWord, areWords, Parse, malformed, invalid, parsed, refusalOf, mapParse, withParse, parseNumber, parseNumbers, parseName, parseSlot, parseSlots, parseTier, parseMark, single, forStmt}
 use Rattle.listings.specs.Scan.{indexOf, same-sym, split-last, split-more, split-some, rest-all, after, split-alone, split-first}
 use Rattle.tokens.specs.Numbers.{asNumber}
 use Rattle.tokens.specs.declared.numbers.ParsedNumber.{ParsedNumber}
-use Rattle.tokens.specs.declared.numbers.ParsedNumber.the-variants.{Malformed, Invalid, Value}
+use Rattle.tokens.specs.declared.numbers.ParsedNumber.the-variants.{Refused, Value}
 use Rattle.tokens.specs.declared.arguments.ArgCheck.{ArgCheck}
 
--- ---- severity
+-- ---- document 01's numbers
 
--- 0 a value, 1 a bad number or name (refusal 3), 2 no form (refusal 2)
-unfoldable pub severityOf : {A : Type 0} → Parse A → ℕ
-severityOf (parsed a) = 0
-severityOf invalid = 1
-severityOf malformed = 2
-
--- of the code's number
-abbrev pub numberSeverity : ParsedNumber → ℕ
-numberSeverity Malformed = 2
-numberSeverity Invalid = 1
-numberSeverity (Value n) = 0
+-- of the code's answer: 0 for a value
+abbrev pub numberRefusal : ParsedNumber → ℕ
+numberRefusal (Refused k) = k
+numberRefusal (Value n) = 0
 
 -- of a slot, or of a number
-unfoldable pub severityBy : Bool → List ℕ → ℕ
-severityBy true w = severityOf (parseSlot w)
-severityBy false w = severityOf (parseNumber w)
+unfoldable pub refusalBy : Bool → List ℕ → ℕ
+refusalBy true w = refusalOf (parseSlot w)
+refusalBy false w = refusalOf (parseNumber w)
 
-abbrev pub worst : ℕ → ℕ → ℕ
-worst a b = pick (ltb a b) b a
+-- "within it, the lowest number": of two refusals, where 0 is none
+unfoldable pub lowest : ℕ → ℕ → ℕ
+lowest zero b = b
+lowest (suc a) zero = suc a
+lowest (suc a) (suc b) = pick (ltb b a) (suc b) (suc a)
 
-unfoldable pub worstOf : (List ℕ → ℕ) → List (List ℕ) → ℕ
-worstOf f [] = 0
-worstOf f (w ∷ ws) = worst (f w) (worstOf f ws)
+unfoldable pub lowestOf : (List ℕ → ℕ) → List (List ℕ) → ℕ
+lowestOf f [] = 0
+lowestOf f (w ∷ ws) = lowest (f w) (lowestOf f ws)
 
-pub number-severity : (g : Parse ℕ) → numberSeverity (asNumber g) ≡ severityOf g
-unfolding severityOf
-number-severity malformed = refl
-number-severity invalid = refl
-number-severity (parsed n) = refl
+pub number-refusal : (g : Parse ℕ) → numberRefusal (asNumber g) ≡ refusalOf g
+number-refusal malformed = refl
+number-refusal invalid = refl
+number-refusal (parsed n) = refl
 
--- "the lowest number" of two is the worst of two
-pub severity-with : {A B C : Type 0} (f : A → B → C) (a : Parse A) (b : Parse B) → severityOf (withParse f a b) ≡ worst (severityOf a) (severityOf b)
-unfolding withParse severityOf
-severity-with f malformed malformed = refl
-severity-with f malformed invalid = refl
-severity-with f malformed (parsed b) = refl
-severity-with f invalid malformed = refl
-severity-with f invalid invalid = refl
-severity-with f invalid (parsed b) = refl
-severity-with f (parsed a) malformed = refl
-severity-with f (parsed a) invalid = refl
-severity-with f (parsed a) (parsed b) = refl
+-- two words are refused by the lower number
+pub refusal-with : {A B C : Type 0} (f : A → B → C) (a : Parse A) (b : Parse B) → refusalOf (withParse f a b) ≡ lowest (refusalOf a) (refusalOf b)
+unfolding withParse lowest
+refusal-with f malformed malformed = refl
+refusal-with f malformed invalid = refl
+refusal-with f malformed (parsed b) = refl
+refusal-with f invalid malformed = refl
+refusal-with f invalid invalid = refl
+refusal-with f invalid (parsed b) = refl
+refusal-with f (parsed a) malformed = refl
+refusal-with f (parsed a) invalid = refl
+refusal-with f (parsed a) (parsed b) = refl
 
-pub numbers-severity : (ws : List (List ℕ)) → severityOf (parseNumbers ws) ≡ worstOf (severityBy false) ws
-unfolding parseNumbers worstOf severityBy severityOf
-numbers-severity [] = refl
-numbers-severity (w ∷ ws) = severity-with (λ n ns. n ∷ ns) (parseNumber w) (parseNumbers ws) ∙ ap (worst (severityOf (parseNumber w))) (numbers-severity ws)
+pub numbers-refusal : (ws : List (List ℕ)) → refusalOf (parseNumbers ws) ≡ lowestOf (refusalBy false) ws
+unfolding parseNumbers lowestOf refusalBy
+numbers-refusal [] = refl
+numbers-refusal (w ∷ ws) = refusal-with (λ n ns. n ∷ ns) (parseNumber w) (parseNumbers ws) ∙ ap (lowest (refusalOf (parseNumber w))) (numbers-refusal ws)
 
-pub slots-severity : (ws : List (List ℕ)) → severityOf (parseSlots ws) ≡ worstOf (severityBy true) ws
-unfolding parseSlots worstOf severityBy severityOf
-slots-severity [] = refl
-slots-severity (w ∷ ws) = severity-with (λ s ss. s ∷ ss) (parseSlot w) (parseSlots ws) ∙ ap (worst (severityOf (parseSlot w))) (slots-severity ws)
+pub slots-refusal : (ws : List (List ℕ)) → refusalOf (parseSlots ws) ≡ lowestOf (refusalBy true) ws
+unfolding parseSlots lowestOf refusalBy
+slots-refusal [] = refl
+slots-refusal (w ∷ ws) = refusal-with (λ s ss. s ∷ ss) (parseSlot w) (parseSlots ws) ∙ ap (lowest (refusalOf (parseSlot w))) (slots-refusal ws)
 
-pub worst-zero : (g : ℕ) → worst 0 g ≡ g
-worst-zero zero = refl
-worst-zero (suc g) = rw (lt-ltb 0 (suc g) (omega arith))
+pub lowest-none : (g : ℕ) → lowest 0 g ≡ g
+unfolding lowest
+lowest-none g = refl
 
-pub worst-of-zero : (a : ℕ) → worst a 0 ≡ a
-worst-of-zero a = rw (le-ltb a 0 (omega arith))
+pub lowest-of-none : (a : ℕ) → lowest a 0 ≡ a
+unfolding lowest
+lowest-of-none zero = refl
+lowest-of-none (suc a) = refl
 
-worst-assoc : (a b c : ℕ) → worst (worst a b) c ≡ worst a (worst b c)
-worst-assoc a b c = go (ltb a b) (ltb b c) (ltb a c) refl refl refl
+pub lowest-second : (a b : ℕ) → 0 < b → b < a → lowest a b ≡ b
+unfolding lowest
+lowest-second zero b h l = absurd (omega arith)
+lowest-second (suc a) zero h l = absurd (omega arith)
+lowest-second (suc a) (suc b) h l = rw (lt-ltb b a (omega arith))
+
+pub lowest-first : (a b : ℕ) → 0 < a → a ≤ b → lowest a b ≡ a
+unfolding lowest
+lowest-first zero b h l = absurd (omega arith)
+lowest-first (suc a) zero h l = absurd (omega arith)
+lowest-first (suc a) (suc b) h l = rw (le-ltb b a (omega arith))
+
+lowest-assoc : (a b c : ℕ) → lowest (lowest a b) c ≡ lowest a (lowest b c)
+unfolding lowest
+lowest-assoc zero b c = refl
+lowest-assoc (suc a) zero c = refl
+lowest-assoc (suc a) (suc b) zero = lowest-of-none (lowest (suc a) (suc b))
+lowest-assoc (suc a) (suc b) (suc c) = go (ltb b a) (ltb c b) refl refl
   where
-    go : (x y z : Bool) → ltb a b ≡ x → ltb b c ≡ y → ltb a c ≡ z → pick (ltb (pick x b a) c) c (pick x b a) ≡ pick (ltb a (pick y c b)) (pick y c b) a
-    go true true z p q r = rw (q, lt-ltb a c (omega (arith, ltb-true a b p, ltb-true b c q)))
-    go true false z p q r = rw (q, p)
-    go false true z p q r = refl
-    go false false z p q r = rw (p, le-ltb a c (omega (arith, ltb-false a b p, ltb-false b c q)))
+    go : (x y : Bool) → ltb b a ≡ x → ltb c b ≡ y → lowest (pick x (suc b) (suc a)) (suc c) ≡ lowest (suc a) (pick y (suc c) (suc b))
+    go true true p q = rw (q, lt-ltb c a (omega (arith, ltb-true b a p, ltb-true c b q)))
+    go true false p q = rw (q, p)
+    go false true p q = refl
+    go false false p q = rw (p, le-ltb c a (omega (arith, ltb-false b a p, ltb-false c b q)))
 
-pub worst-last : (f : List ℕ → ℕ) (g : ℕ) (w : List ℕ) → worst g (worstOf f (w ∷ [])) ≡ worst g (f w)
-unfolding worstOf
-worst-last f g w = ap (worst g) (worst-of-zero (f w))
+pub lowest-last : (f : List ℕ → ℕ) (g : ℕ) (w : List ℕ) → lowest g (lowestOf f (w ∷ [])) ≡ lowest g (f w)
+unfolding lowestOf
+lowest-last f g w = ap (lowest g) (lowest-of-none (f w))
 
-pub worst-next : (f : List ℕ → ℕ) (g : ℕ) (w : List ℕ) (ws : List (List ℕ)) → worst (worst g (f w)) (worstOf f ws) ≡ worst g (worstOf f (w ∷ ws))
-unfolding worstOf
-worst-next f g w ws = worst-assoc g (f w) (worstOf f ws)
+pub lowest-next : (f : List ℕ → ℕ) (g : ℕ) (w : List ℕ) (ws : List (List ℕ)) → lowest (lowest g (f w)) (lowestOf f ws) ≡ lowest g (lowestOf f (w ∷ ws))
+unfolding lowestOf
+lowest-next f g w ws = lowest-assoc g (f w) (lowestOf f ws)
 
 -- ---- words
 
@@ -175,11 +188,11 @@ pub slot-star : (w : List ℕ) → same (42 ∷ []) w ≡ true → parseSlot w �
 unfolding parseSlot
 slot-star w h = rw (same-sym w (42 ∷ []) ∙ h)
 
-pub slot-name : (w : List ℕ) → same (42 ∷ []) w ≡ false → severityOf (parseSlot w) ≡ severityOf (parseName w)
-unfolding parseSlot mapParse severityOf
+pub slot-name : (w : List ℕ) → same (42 ∷ []) w ≡ false → refusalOf (parseSlot w) ≡ refusalOf (parseName w)
+unfolding parseSlot mapParse
 slot-name w h = rw (same-sym w (42 ∷ []) ∙ h) (go (parseName w))
   where
-    go : (g : Parse (List ℕ)) → severityOf (mapParse some g) ≡ severityOf g
+    go : (g : Parse (List ℕ)) → refusalOf (mapParse some g) ≡ refusalOf g
     go malformed = refl
     go invalid = refl
     go (parsed a) = refl
@@ -187,25 +200,25 @@ slot-name w h = rw (same-sym w (42 ∷ []) ∙ h) (go (parseName w))
 -- ---- the words of a closed form
 
 unfoldable pub argCheck : ℕ → ℕ → ArgCheck
-argCheck g n = record { severity = g; count = n }
+argCheck g n = record { refusal = g; count = n }
 
 pub check-is : {g h n m : ℕ} → g ≡ h → n ≡ m → argCheck g n ≡ argCheck h m
 check-is p q = cc
 
 unfoldable pub checkFor : List (List ℕ) → ArgCheck
-checkFor ws = argCheck (severityOf (forStmt ws)) 0
+checkFor ws = argCheck (refusalOf (forStmt ws)) 0
 
 unfoldable pub checkNext : List (List ℕ) → ArgCheck
 checkNext [] = argCheck 2 0
-checkNext (w ∷ ws) = argCheck (worst (severityOf (parseMark w)) (worstOf (severityBy true) ws)) (length ws)
+checkNext (w ∷ ws) = argCheck (lowest (refusalOf (parseMark w)) (lowestOf (refusalBy true) ws)) (length ws)
 
 -- by the kind of the opening word
 unfoldable pub checkKind : ℕ → List (List ℕ) → ArgCheck
 unfolding argCheck
 checkKind g ws =
-    pick (eqb g 6) (argCheck (severityOf (single ws)) 0)
-    (pick (eqb g 8) (argCheck (severityOf (single ws)) 0)
-    (pick (eqb g 7) (argCheck (worstOf (severityBy false) ws) (length ws))
+    pick (eqb g 6) (argCheck (refusalOf (single ws)) 0)
+    (pick (eqb g 8) (argCheck (refusalOf (single ws)) 0)
+    (pick (eqb g 7) (argCheck (lowestOf (refusalBy false) ws) (length ws))
     (pick (eqb g 9) (checkFor ws)
     (pick (eqb g 10) (checkNext ws)
     (argCheck 2 0)))))
@@ -213,17 +226,17 @@ checkKind g ws =
 -- ---- a name and a tier
 
 for-one : (w : List ℕ) → checkFor (w ∷ []) ≡ argCheck 2 0
-unfolding checkFor forStmt severityOf
+unfolding checkFor forStmt
 for-one w = refl
 
 for-many : (w v : List ℕ) (ws : List (List ℕ)) → 0 < length ws → checkFor (w ∷ v ∷ ws) ≡ argCheck 2 0
-unfolding checkFor forStmt severityOf
+unfolding checkFor forStmt
 for-many w v [] h = absurd (not-suc-le-zero h)
 for-many w v (u ∷ ws) h = refl
 
-for-two : (w v : List ℕ) → checkFor (w ∷ v ∷ []) ≡ argCheck (worst (severityOf (parseName w)) (severityOf (parseTier v))) 0
+for-two : (w v : List ℕ) → checkFor (w ∷ v ∷ []) ≡ argCheck (lowest (refusalOf (parseName w)) (refusalOf (parseTier v))) 0
 unfolding checkFor forStmt
-for-two w v = ap (λ (g : ℕ). argCheck g 0) (severity-with (λ n t. (for n t, 0)) (parseName w) (parseTier v))
+for-two w v = ap (λ (g : ℕ). argCheck g 0) (refusal-with (λ n t. (for n t, 0)) (parseName w) (parseTier v))
 
 pub for-alone : (s : List ℕ) (e : ℕ) → e ≡ indexOf 32 s → e ≡ length s → checkFor (split 32 s) ≡ argCheck 2 0
 for-alone s e f h = ap checkFor (split-alone 32 s e f h) ∙ for-one (take (e - 0) (drop 0 s))
@@ -238,7 +251,7 @@ module _ (s : List ℕ) (e d : ℕ) (found : e ≡ indexOf 32 s) (more : e < len
       ap checkFor (split-first 32 s e found more ∙ ap (λ (z : List (List ℕ)). take (e - 0) (drop 0 s) ∷ z) (split-first 32 t d found₂ (omega (arith, long))))
       ∙ for-many (take (e - 0) (drop 0 s)) (take (d - 0) (drop 0 t)) (split 32 (after t d)) (split-some 32 (after t d))
 
-  pub for-right : d ≡ length s - (e + 1) → checkFor (split 32 s) ≡ argCheck (worst (severityOf (parseName (take (e - 0) (drop 0 s)))) (severityOf (parseTier (after s e)))) 0
+  pub for-right : d ≡ length s - (e + 1) → checkFor (split 32 s) ≡ argCheck (lowest (refusalOf (parseName (take (e - 0) (drop 0 s)))) (refusalOf (parseTier (after s e)))) 0
   for-right h =
       let t = after s e in
       ap checkFor (split-first 32 s e found more ∙ ap (λ (z : List (List ℕ)). take (e - 0) (drop 0 s) ∷ z) (split-last 32 t (sym found₂ ∙ h ∙ sym long)))
@@ -247,11 +260,11 @@ module _ (s : List ℕ) (e d : ℕ) (found : e ≡ indexOf 32 s) (more : e < len
 -- ---- a mark and slots
 
 module _ (s : List ℕ) (e : ℕ) (found : e ≡ indexOf 32 s) where
-  pub next-alone : e ≡ length s → checkNext (split 32 s) ≡ argCheck (severityOf (parseMark (take (e - 0) (drop 0 s)))) 0
-  unfolding checkNext worstOf
-  next-alone h = ap checkNext (split-alone 32 s e found h) ∙ ap (λ (g : ℕ). argCheck g 0) (worst-of-zero (severityOf (parseMark (take (e - 0) (drop 0 s)))))
+  pub next-alone : e ≡ length s → checkNext (split 32 s) ≡ argCheck (refusalOf (parseMark (take (e - 0) (drop 0 s)))) 0
+  unfolding checkNext lowestOf
+  next-alone h = ap checkNext (split-alone 32 s e found h) ∙ ap (λ (g : ℕ). argCheck g 0) (lowest-of-none (refusalOf (parseMark (take (e - 0) (drop 0 s)))))
 
   pub next-slots : e < length s
-      → checkNext (split 32 s) ≡ argCheck (worst (severityOf (parseMark (take (e - 0) (drop 0 s)))) (worstOf (severityBy true) (split 32 (after s e)))) (length (split 32 (after s e)))
+      → checkNext (split 32 s) ≡ argCheck (lowest (refusalOf (parseMark (take (e - 0) (drop 0 s)))) (lowestOf (refusalBy true) (split 32 (after s e)))) (length (split 32 (after s e)))
   unfolding checkNext
   next-slots h = ap checkNext (split-first 32 s e found h)

@@ -12,18 +12,19 @@ use lib.ListN.{length, getD, drop, length-drop}
 use lib.Seq.{drop-cons}
 use borrow.Author.Tests.{eqb-true, eqb-false, leb-true, le-leb}
 use Rattle.listings.specs.Bytes.{same, pick}
-use Rattle.listings.specs.Rows.{Parse, malformed, invalid, parsed, all, isDigit, isCapital, nameEnd, isName, parseName}
+use Rattle.listings.specs.Listing.{Name}
+use Rattle.listings.specs.Rows.{Parse, malformed, invalid, parsed, refusalOf, all, isDigit, isCapital, nameEnd, isName, parseName}
 use Rattle.listings.specs.NumberText.{not-both, both-true, either-true, digit-range}
 use Rattle.listings.specs.Scan.{all-at}
 use Rattle.tokens.specs.declared.names.NameKey.{NameKey}
-use Rattle.tokens.specs.declared.names.NameKey.the-variants.{NoName, Key}
+use Rattle.tokens.specs.declared.names.NameKey.the-variants.{Refused, Key}
 use Rattle.listings.specs.WordText.{capital-range, same-nil}
 use Rattle.listings.specs.Records.{nameKey}
 
--- the code's answer for what was read
-abbrev pub asKey : Parse (List ℕ) → NameKey
-asKey malformed = NoName
-asKey invalid = NoName
+-- the code's answer for what was read: a name's key, or document 01's number
+abbrev pub asKey : Parse Name → NameKey
+asKey malformed = Refused (refusalOf {A = Name} malformed)
+asKey invalid = Refused (refusalOf {A = Name} invalid)
 asKey (parsed w) = Key (nameKey w)
 
 pub name-invalid : (w : List ℕ) → isName w ≡ false → parseName w ≡ invalid

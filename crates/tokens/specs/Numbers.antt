@@ -9,14 +9,14 @@ use lib.ListN.{length, getD, drop}
 use lib.Seq.{drop-cons}
 use borrow.Author.Tests.{leb-false, le-leb, lt-leb}
 use Rattle.listings.specs.Bytes.{pick}
-use Rattle.listings.specs.Rows.{Parse, malformed, invalid, parsed, all, isDigit, noLeadingZero, value, parseNumber}
+use Rattle.listings.specs.Rows.{Parse, malformed, invalid, parsed, refusalOf, all, isDigit, noLeadingZero, value, parseNumber}
 use Rattle.tokens.specs.declared.numbers.ParsedNumber.{ParsedNumber}
-use Rattle.tokens.specs.declared.numbers.ParsedNumber.the-variants.{Malformed, Invalid, Value}
+use Rattle.tokens.specs.declared.numbers.ParsedNumber.the-variants.{Refused, Value}
 
--- the code's answer for what was read
+-- the code's answer for what was read: a value, or document 01's number
 abbrev pub asNumber : Parse ℕ → ParsedNumber
-asNumber malformed = Malformed
-asNumber invalid = Invalid
+asNumber malformed = Refused (refusalOf {A = ℕ} malformed)
+asNumber invalid = Refused (refusalOf {A = ℕ} invalid)
 asNumber (parsed n) = Value n
 
 -- the value of digits, or 65536 for any above 65535

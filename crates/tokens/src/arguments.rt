@@ -1,4 +1,4 @@
-// The words after a form's opening word: the worst that is wrong with them, and how many there are.
+// The words after a form's opening word: the lowest number that refuses one of them, and how many there are.
 use super::names::is_name;
 use super::numbers::ParsedNumber;
 use super::numbers::number;
@@ -11,13 +11,13 @@ use super::words::NUMBERS;
 use super::words::RUN;
 ghost use mathlib.Core.Path.{_≡_};
 ghost use lib.ListN.{length};
-ghost use Rattle.listings.specs.Rows.{areWords, split, parseName, parseTier, parseMark, single};
+ghost use Rattle.listings.specs.Rows.{areWords, split, refusalOf, parseName, parseTier, parseMark, single};
 ghost use Rattle.tokens.specs.Numbers.{asNumber};
-ghost use Rattle.tokens.specs.Arguments.{severityOf, severityBy, numberSeverity, worst, worstOf, argCheck, checkFor, checkNext, checkKind};
+ghost use Rattle.tokens.specs.Arguments.{refusalBy, numberRefusal, lowest, lowestOf, argCheck, checkFor, checkNext, checkKind};
 
-// severity: 0 nothing is wrong, 1 a bad number or name (refusal 3), 2 no form (refusal 2).
+// refusal: document 01's number, 2 or 3, or 0 where nothing is wrong.
 pub struct ArgCheck {
-    pub severity: u8,
+    pub refusal: u8,
     pub count: usize,
 }
 
@@ -49,8 +49,8 @@ pub fn are_words(s: &[u8]) -> bool
     !fresh
 }
 
-fn tier_severity(w: &[u8]) -> u8
-    ensures { λ r. ⌜ r ≡ severityOf (parseTier (now (w .entry))) ⌝ }
+fn tier_refusal(w: &[u8]) -> u8
+    ensures { λ r. ⌜ r ≡ refusalOf (parseTier (now (w .entry))) ⌝ }
 {
     if equal(b"static", w) {
         return 0;
@@ -64,8 +64,8 @@ fn tier_severity(w: &[u8]) -> u8
     2
 }
 
-fn mark_severity(w: &[u8]) -> u8
-    ensures { λ r. ⌜ r ≡ severityOf (parseMark (now (w .entry))) ⌝ }
+fn mark_refusal(w: &[u8]) -> u8
+    ensures { λ r. ⌜ r ≡ refusalOf (parseMark (now (w .entry))) ⌝ }
 {
     if equal(b"plain", w) {
         return 0;
@@ -76,51 +76,56 @@ fn mark_severity(w: &[u8]) -> u8
     2
 }
 
-fn name_severity(w: &[u8]) -> u8
-    ensures { λ r. ⌜ r ≡ severityOf (parseName (now (w .entry))) ⌝ }
+fn name_refusal(w: &[u8]) -> u8
+    ensures { λ r. ⌜ r ≡ refusalOf (parseName (now (w .entry))) ⌝ }
 {
     if is_name(w) {
         return 0;
     }
-    1
+    3
 }
 
-fn number_severity(n: ParsedNumber) -> u8
-    ensures { λ r. ⌜ r ≡ numberSeverity n ⌝ }
+fn number_refusal(n: ParsedNumber) -> u8
+    ensures { λ r. ⌜ r ≡ numberRefusal n ⌝ }
 {
     match n {
-        ParsedNumber::Malformed => 2,
-        ParsedNumber::Invalid => 1,
+        ParsedNumber::Refused(k) => k,
         ParsedNumber::Value(_) => 0,
     }
 }
 
 // Of a slot, or of a number.
-fn argument_severity(slots: bool, w: &[u8]) -> u8
-    ensures { λ r. ⌜ r ≡ severityBy slots (now (w .entry)) ⌝ }
+fn argument_refusal(slots: bool, w: &[u8]) -> u8
+    ensures { λ r. ⌜ r ≡ refusalBy slots (now (w .entry)) ⌝ }
 {
     if slots {
         if equal(b"*", w) {
             return 0;
         }
-        return name_severity(w);
+        return name_refusal(w);
     }
-    number_severity(number(w))
+    number_refusal(number(w))
 }
 
-// "within it, the lowest number": refusal 2 goes before 3.
-fn worse(a: u8, b: u8) -> u8
-    ensures { λ r. ⌜ r ≡ worst a b ⌝ }
+// "within it, the lowest number": of two refusals, where 0 is none.
+pub fn lower(a: u8, b: u8) -> u8
+    ensures { λ r. ⌜ r ≡ lowest a b ⌝ }
 {
-    if a < b {
+    if a == 0 {
+        return b;
+    }
+    if b == 0 {
+        return a;
+    }
+    if b < a {
         return b;
     }
     a
 }
 
-// All words are judged, those past the 64th too: a later word may be worse.
+// All words are judged, those past the 64th too: a later word may have a lower number.
 pub fn check_all(s: &[u8], slots: bool) -> ArgCheck
-    ensures { λ r. ⌜ r ≡ argCheck (worstOf (severityBy slots) (split 32 (now (s .entry)))) (length (split 32 (now (s .entry)))) ⌝ }
+    ensures { λ r. ⌜ r ≡ argCheck (lowestOf (refusalBy slots) (split 32 (now (s .entry)))) (length (split 32 (now (s .entry)))) ⌝ }
 {
     let mut at: usize = 0;
     let mut n: usize = 0;
@@ -128,11 +133,11 @@ pub fn check_all(s: &[u8], slots: bool) -> ArgCheck
     loop {
         let e = find(&s[at..], 32);
         let to = at + e;
-        g = worse(g, argument_severity(slots, &s[at..to]));
+        g = lower(g, argument_refusal(slots, &s[at..to]));
         n += 1;
         if to == s.len() {
             return ArgCheck {
-                severity: g,
+                refusal: g,
                 count: n,
             };
         }
@@ -145,7 +150,7 @@ pub fn single_number(s: &[u8]) -> ParsedNumber
     ensures { λ r. ⌜ r ≡ asNumber (single (split 32 (now (s .entry)))) ⌝ }
 {
     if find(s, 32) < s.len() {
-        return ParsedNumber::Malformed;
+        return ParsedNumber::Refused(2);
     }
     number(s)
 }
@@ -157,19 +162,19 @@ fn check_for(s: &[u8]) -> ArgCheck
     let e = find(s, 32);
     if e == s.len() {
         return ArgCheck {
-            severity: 2,
+            refusal: 2,
             count: 0,
         };
     }
     let from = e + 1;
     if find(&s[from..], 32) < s.len() - from {
         return ArgCheck {
-            severity: 2,
+            refusal: 2,
             count: 0,
         };
     }
     ArgCheck {
-        severity: worse(name_severity(&s[0..e]), tier_severity(&s[from..])),
+        refusal: lower(name_refusal(&s[0..e]), tier_refusal(&s[from..])),
         count: 0,
     }
 }
@@ -179,17 +184,17 @@ fn check_next(s: &[u8]) -> ArgCheck
     ensures { λ r. ⌜ r ≡ checkNext (split 32 (now (s .entry))) ⌝ }
 {
     let e = find(s, 32);
-    let m = mark_severity(&s[0..e]);
+    let m = mark_refusal(&s[0..e]);
     if e == s.len() {
         return ArgCheck {
-            severity: m,
+            refusal: m,
             count: 0,
         };
     }
     let from = e + 1;
     let t = check_all(&s[from..], true);
     ArgCheck {
-        severity: worse(m, t.severity),
+        refusal: lower(m, t.refusal),
         count: t.count,
     }
 }
@@ -200,13 +205,13 @@ pub fn check_kind(kind: u8, s: &[u8]) -> ArgCheck
 {
     if kind == NUMBER {
         return ArgCheck {
-            severity: number_severity(single_number(s)),
+            refusal: number_refusal(single_number(s)),
             count: 0,
         };
     }
     if kind == RUN {
         return ArgCheck {
-            severity: number_severity(single_number(s)),
+            refusal: number_refusal(single_number(s)),
             count: 0,
         };
     }
@@ -220,7 +225,7 @@ pub fn check_kind(kind: u8, s: &[u8]) -> ArgCheck
         return check_next(s);
     }
     ArgCheck {
-        severity: 2,
+        refusal: 2,
         count: 0,
     }
 }

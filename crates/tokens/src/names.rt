@@ -11,8 +11,9 @@ ghost use Rattle.listings.specs.Bytes.{same};
 ghost use Rattle.listings.specs.Rows.{isDigit, isCapital, isName, parseName};
 ghost use Rattle.tokens.specs.Names.{asKey};
 
+// A name's key, or document 01's number: 3 for a word that is no name.
 pub enum NameKey {
-    NoName,
+    Refused(u8),
     Key(u64),
 }
 
@@ -77,7 +78,7 @@ pub fn key_of(w: &[u8]) -> NameKey
     ensures { λ r. ⌜ r ≡ asKey (parseName (now (w .entry))) ⌝ }
 {
     if !is_name(w) {
-        return NameKey::NoName;
+        return NameKey::Refused(3);
     }
     let mut a: u64 = 0;
     let mut i: usize = w.len();

@@ -5,20 +5,19 @@ ghost use Prim.Native.Nat.{_≤_};
 ghost use Rattle.listings.specs.Rows.{all, isDigit, noLeadingZero, parseNumber};
 ghost use Rattle.tokens.specs.Numbers.{cappedValue, asNumber};
 
-// Malformed: not all digits. Invalid: a leading zero, or above 65535.
+// A value, or document 01's number: 2 for a word not all digits, 3 for a leading zero or a number above 65535.
 pub enum ParsedNumber {
-    Malformed,
-    Invalid,
+    Refused(u8),
     Value(u16),
 }
 
-pub fn wide(x: u8) -> u64
+pub(crate) fn wide(x: u8) -> u64
     ensures { λ r. ⌜ r ≡ x ⌝ }
 {
     x as u64
 }
 
-pub fn is_digit(b: u8) -> bool
+pub(crate) fn is_digit(b: u8) -> bool
     ensures { λ r. ⌜ r ≡ isDigit b ⌝ }
 {
     48 <= b && b <= 57
@@ -68,14 +67,14 @@ pub fn number(w: &[u8]) -> ParsedNumber
     ensures { λ r. ⌜ r ≡ asNumber (parseNumber (now (w .entry))) ⌝ }
 {
     if !all_digits(w) {
-        return ParsedNumber::Malformed;
+        return ParsedNumber::Refused(2);
     }
     if !no_leading_zero(w) {
-        return ParsedNumber::Invalid;
+        return ParsedNumber::Refused(3);
     }
     let n = value_of(w);
     if 65535 < n {
-        return ParsedNumber::Invalid;
+        return ParsedNumber::Refused(3);
     }
     ParsedNumber::Value(n as u16)
 }

@@ -1,4 +1,4 @@
--- `check_all`: severity and count of the pieces before `at`, to be joined with those left. Assumes nothing.
+-- `check_all`: refusal and count of the pieces before `at`, to be joined with those left. Assumes nothing.
 use borrow.Author.Needs.{needs}
 use native.Mathlib.Omega.{arith}
 use mathlib.Core.Path.{_∙_, _≡_, ap, sym}
@@ -7,21 +7,21 @@ use Prim.Native.Nat.{_+_, _-_, _≤_, suc, ℕ}
 use lib.ListN.{drop, length}
 use Rattle.listings.specs.Rows.{split}
 use Rattle.listings.specs.Scan.{next-last, next-more, pieceAt}
-use Rattle.tokens.specs.Arguments.{argCheck, check-is, severityBy, worst, worst-last, worst-next, worst-zero, worstOf}
+use Rattle.tokens.specs.Arguments.{argCheck, check-is, refusalBy, lowest, lowest-last, lowest-next, lowest-none, lowestOf}
 use Rattle.tokens.proofs.arguments.check_all.Statement.{statement}
 use Rattle.tokens.proofs.arguments.check_all.Tie as tie
 
 abbrev Inv-loop : tie.InvT-loop
 Inv-loop s slots at₀ n₀ g₀ at n g =
     (at ≤ length s) × (n ≤ at)
-    × (worst g (worstOf (severityBy slots) (split 32 (drop at s))) ≡ worstOf (severityBy slots) (split 32 s))
+    × (lowest g (lowestOf (refusalBy slots) (split 32 (drop at s))) ≡ lowestOf (refusalBy slots) (split 32 s))
     × (n + length (split 32 (drop at s)) ≡ length (split 32 s))
 
 abbrev μ-loop : tie.MeasureT-loop
 μ-loop s slots at₀ n₀ g₀ at n g = suc (length s) - at
 
 loop-holds : tie.Need-loop-holds Inv-loop μ-loop
-loop-holds c = (omega arith, omega arith, worst-zero _, omega arith)
+loop-holds c = (omega arith, omega arith, lowest-none _, omega arith)
 
 sub-find : tie.Need-sub-find Inv-loop μ-loop
 sub-find c = search needs
@@ -38,20 +38,20 @@ find-requires c κs = search needs
 add-to : tie.Need-add-to Inv-loop μ-loop
 add-to c = search needs
 
-sub-argument-severity : tie.Need-sub-argument-severity Inv-loop μ-loop
-sub-argument-severity c = search needs
+sub-argument-refusal : tie.Need-sub-argument-refusal Inv-loop μ-loop
+sub-argument-refusal c = search needs
 
-part-argument-severity-start : tie.Need-part-argument-severity-start Inv-loop μ-loop
-part-argument-severity-start c = search needs
+part-argument-refusal-start : tie.Need-part-argument-refusal-start Inv-loop μ-loop
+part-argument-refusal-start c = search needs
 
-part-argument-severity-end : tie.Need-part-argument-severity-end Inv-loop μ-loop
-part-argument-severity-end c = search needs
+part-argument-refusal-end : tie.Need-part-argument-refusal-end Inv-loop μ-loop
+part-argument-refusal-end c = search needs
 
-argument-severity-requires : tie.Need-argument-severity-requires Inv-loop μ-loop
-argument-severity-requires c κs = search needs
+argument-refusal-requires : tie.Need-argument-refusal-requires Inv-loop μ-loop
+argument-refusal-requires c κs = search needs
 
-worse-requires : tie.Need-worse-requires Inv-loop μ-loop
-worse-requires c κs = search needs
+lower-requires : tie.Need-lower-requires Inv-loop μ-loop
+lower-requires c κs = search needs
 
 add-n : tie.Need-add-n Inv-loop μ-loop
 add-n c = search needs
@@ -67,11 +67,11 @@ returns c =
     let at = l .at in
     let e = at-find .find .result in
     let w = pieceAt s at e in
-    let f = severityBy (at-start .args .slots) in
-    let x : c .before .worse .result ≡ worst (l .g) (f w) = c .before .worse .ensures ∙ ap (worst (l .g)) (c .before .before .argument-severity .ensures) in
+    let f = refusalBy (at-start .args .slots) in
+    let x : c .before .lower .result ≡ lowest (l .g) (f w) = c .before .lower .ensures ∙ ap (lowest (l .g)) (c .before .before .argument-refusal .ensures) in
     let p = next-last 32 s at e (omega arith) (at-find .find .ensures .0) (c .if1 .taken) in
-    let g : c .before .worse .result ≡ worstOf f (split 32 s) =
-    x ∙ sym (worst-last f (l .g) w) ∙ ap (λ (z : List (List ℕ)). worst (l .g) (worstOf f z)) (sym p) ∙ l .inv .2 in
+    let g : c .before .lower .result ≡ lowestOf f (split 32 s) =
+    x ∙ sym (lowest-last f (l .g) w) ∙ ap (λ (z : List (List ℕ)). lowest (l .g) (lowestOf f z)) (sym p) ∙ l .inv .2 in
     let n : l .n + 1 ≡ length (split 32 s) = omega (arith, ap length p, l .inv .3) in
     check-is g n
 
@@ -91,13 +91,13 @@ loop-again c =
     let at = l .at in
     let e = at-find .find .result in
     let w = pieceAt s at e in
-    let f = severityBy (at-start .args .slots) in
-    let x : c .before .worse .result ≡ worst (l .g) (f w) = c .before .worse .ensures ∙ ap (worst (l .g)) (c .before .before .argument-severity .ensures) in
+    let f = refusalBy (at-start .args .slots) in
+    let x : c .before .lower .result ≡ lowest (l .g) (f w) = c .before .lower .ensures ∙ ap (lowest (l .g)) (c .before .before .argument-refusal .ensures) in
     let p = next-more 32 s at e (omega arith) (at-find .find .ensures .0) (c .if1 .left) (at-find .find .ensures .1) in
     let ws = split 32 (drop (at + e + 1) s) in (
       omega arith,
       omega arith,
-      ap (λ (z : ℕ). worst z (worstOf f ws)) x ∙ worst-next f (l .g) w ws ∙ ap (λ (z : List (List ℕ)). worst (l .g) (worstOf f z)) (sym (p .1)) ∙ l .inv .2,
+      ap (λ (z : ℕ). lowest z (lowestOf f ws)) x ∙ lowest-next f (l .g) w ws ∙ ap (λ (z : List (List ℕ)). lowest (l .g) (lowestOf f z)) (sym (p .1)) ∙ l .inv .2,
       omega (arith, ap length (p .1), l .inv .3),
     )
 
@@ -113,11 +113,11 @@ check-all-spec =
     part-find-end
     find-requires
     add-to
-    sub-argument-severity
-    part-argument-severity-start
-    part-argument-severity-end
-    argument-severity-requires
-    worse-requires
+    sub-argument-refusal
+    part-argument-refusal-start
+    part-argument-refusal-end
+    argument-refusal-requires
+    lower-requires
     add-n
     returns
     add-at

@@ -3,33 +3,33 @@ use borrow.Author.Needs.{needs}
 use mathlib.Core.Path.{_∙_, ap, refl}
 use borrow.Author.Tests.{ne-eqb}
 use Rattle.listings.specs.Rows.{single, split}
-use Rattle.tokens.specs.Arguments.{argCheck, check-is, checkKind, number-severity, numberSeverity}
+use Rattle.tokens.specs.Arguments.{argCheck, check-is, checkKind, number-refusal, numberRefusal}
 use Rattle.tokens.proofs.arguments.check_kind.Statement.{statement}
 use Rattle.tokens.proofs.arguments.check_kind.Tie as tie
 
 single-number-requires : tie.Need-single-number-requires
 single-number-requires c κs = search needs
 
-number-severity-requires : tie.Need-number-severity-requires
-number-severity-requires c κs = search needs
+number-refusal-requires : tie.Need-number-refusal-requires
+number-refusal-requires c κs = search needs
 
 returns : tie.Need-returns
 unfolding checkKind argCheck
 returns c =
     let at-start = c .before .before .before .before in
-    rw (c .before .before .if1 .taken) (check-is (c .number-severity .ensures ∙ ap numberSeverity (c .before .single-number .ensures) ∙ number-severity (single (split 32 (at-start .args .s .now)))) refl)
+    rw (c .before .before .if1 .taken) (check-is (c .number-refusal .ensures ∙ ap numberRefusal (c .before .single-number .ensures) ∙ number-refusal (single (split 32 (at-start .args .s .now)))) refl)
 
 single-number-requires-2 : tie.Need-single-number-requires-2
 single-number-requires-2 c κs = search needs
 
-number-severity-requires-2 : tie.Need-number-severity-requires-2
-number-severity-requires-2 c κs = search needs
+number-refusal-requires-2 : tie.Need-number-refusal-requires-2
+number-refusal-requires-2 c κs = search needs
 
 returns-2 : tie.Need-returns-2
 unfolding checkKind argCheck
 returns-2 c =
     let at-start = c .before .before .before .before .before in
-    rw (c .before .before .if2 .taken) (check-is (c .number-severity2 .ensures ∙ ap numberSeverity (c .before .single-number2 .ensures) ∙ number-severity (single (split 32 (at-start .args .s .now)))) refl)
+    rw (c .before .before .if2 .taken) (check-is (c .number-refusal2 .ensures ∙ ap numberRefusal (c .before .single-number2 .ensures) ∙ number-refusal (single (split 32 (at-start .args .s .now)))) refl)
 
 check-all-requires : tie.Need-check-all-requires
 check-all-requires c κs = search needs
@@ -64,10 +64,10 @@ check-kind-spec =
     tie.close
     (tie.spec
     single-number-requires
-    number-severity-requires
+    number-refusal-requires
     returns
     single-number-requires-2
-    number-severity-requires-2
+    number-refusal-requires-2
     returns-2
     check-all-requires
     returns-3
