@@ -10,7 +10,7 @@ use lib.Seq.{length-take-le, drop-at}
 use Rattle.listings.specs.Bytes.{pick}
 use Rattle.listings.specs.Listing.{Listing, total, count}
 use Rattle.listings.specs.Read.{Answer, listing, refusal, read}
-use Rattle.listings.specs.Records.{ReadAnswer, accepted, refused, fitted, answerOf, tableOf, countsOf, padded, lineRecs, argRow}
+use Rattle.listings.specs.Records.{fitted, answerOf, tableOf, countsOf, padded, lineRecs, argRow}
 use Rattle.listings.specs.ReadingRecords.{numbers-count, lines-length}
 use Rattle.listings.specs.RecordLaws.{recs-length}
 use Rattle.reader.specs.Tables.{joined-length}
@@ -18,26 +18,27 @@ use Rattle.reader.specs.ReadBack.{lines-wide}
 use Rattle.listings.specs.ListingText.{InForm}
 use Rattle.listings.specs.RoundTrip.{accepted-in-form}
 use borrow.Author.Tests.{leb-true}
-use Rattle.reader.specs.Listed.{listedOf, lineEntries, stmtEntries, argEntries, Written}
+use Rattle.reader.specs.Answer.{listedOf}
+use Rattle.reader.specs.Listed.{lineEntries, stmtEntries, argEntries, Written}
 use Rattle.reader.specs.declared.listing.Listed.{Listed}
 use Rattle.tables.specs.Stores.{clearedBehind, cleared-length}
 
 -- ---- a wider table
 
-pub table-wider : (f : Listing → List ℕ) (b : ReadAnswer) (k : ℕ) (t : List ℕ) → k ≤ length t → ((L : Listing) → b ≡ accepted L → length (f L) ≤ k)
+pub table-wider : (f : Listing → List ℕ) (b : Answer) (k : ℕ) (t : List ℕ) → k ≤ length t → ((L : Listing) → b ≡ listing L → length (f L) ≤ k)
     → tableOf f b k ++ drop k (clearedBehind k t) ≡ tableOf f b (length t)
 unfolding tableOf clearedBehind padded
-table-wider f (accepted L) k t h g =
+table-wider f (listing L) k t h g =
     let z = drop-at (take k t) (replicate (length t - k) 0) k (length-take-le k t h) in
     let e : (k - length (f L)) + (length t - k) ≡ length t - length (f L) = omega (arith, g L refl) in
     rw (z, append-assoc, replicate-append-replicate, e)
-table-wider f (refused n p) k t h g =
+table-wider f (refusal n p) k t h g =
     let z = drop-at (take k t) (replicate (length t - k) 0) k (length-take-le k t h) in
     let e : k + (length t - k) ≡ length t = omega arith in
     rw (z, replicate-append-replicate, e)
 
 -- what the reader answers where all tables hold kl lines and kn statements
-abbrev pub readBy : ℕ → ℕ → List ℕ → ReadAnswer
+abbrev pub readBy : ℕ → ℕ → List ℕ → Answer
 readBy kl kn text = answerOf kl (kn * 12) (kn * 64) (read text)
 
 -- the answer and every entry, of tables with nl, ns and na entries
@@ -50,12 +51,12 @@ pub record FittingRead (text : List ℕ) (kl kn nl ns na : ℕ) (c l t a : List 
 
 -- ---- what was accepted fits
 
-fits-counts : (kl kn : ℕ) (L M : Listing) → fitted kl (kn * 12) (kn * 64) L ≡ accepted M → (L ≡ M) × (count (M .lines) ≤ kl) × (total (M .lines) ≤ kn)
+fits-counts : (kl kn : ℕ) (L M : Listing) → fitted kl (kn * 12) (kn * 64) L ≡ listing M → (L ≡ M) × (count (M .lines) ≤ kl) × (total (M .lines) ≤ kn)
 unfolding fitted
 fits-counts kl kn L M e = go (leb (count (L .lines)) kl) (leb (total (L .lines)) (kn * 12 / 12)) (leb (total (L .lines)) (kn * 64 / 64)) refl refl e
   where
     go : (x y z : Bool) → leb (count (L .lines)) kl ≡ x → leb (total (L .lines)) (kn * 12 / 12) ≡ y
-        → pick x (pick y (pick z (accepted L) (refused 22 (total (L .lines)))) (refused 22 (total (L .lines)))) (refused 21 (count (L .lines))) ≡ accepted M → (L ≡ M) × (count (M .lines) ≤ kl) × (total (M .lines) ≤ kn)
+        → pick x (pick y (pick z (listing L) (refusal 22 (total (L .lines)))) (refusal 22 (total (L .lines)))) (refusal 21 (count (L .lines))) ≡ listing M → (L ≡ M) × (count (M .lines) ≤ kl) × (total (M .lines) ≤ kn)
     go true true true a b q =
         let z : L ≡ M = cc in
         let u = leb-true (count (L .lines)) kl a in
@@ -74,11 +75,11 @@ pub record Fits (text : List ℕ) (kl kn : ℕ) (L : Listing) : Type 0 where
   pub stmt-entries : length (stmtEntries L) ≡ total (L .lines) * 12
   pub arg-entries : length (argEntries L) ≡ total (L .lines) * 64
 
-pub read-fits : (text : List ℕ) (kl kn : ℕ) (L : Listing) → readBy kl kn text ≡ accepted L → Fits text kl kn L
+pub read-fits : (text : List ℕ) (kl kn : ℕ) (L : Listing) → readBy kl kn text ≡ listing L → Fits text kl kn L
 unfolding answerOf lineEntries stmtEntries argEntries
 read-fits text kl kn L e = go (read text) refl e
   where
-    go : (b : Answer) → read text ≡ b → answerOf kl (kn * 12) (kn * 64) b ≡ accepted L → Fits text kl kn L
+    go : (b : Answer) → read text ≡ b → answerOf kl (kn * 12) (kn * 64) b ≡ listing L → Fits text kl kn L
     go (listing M) r q =
         let f = fits-counts kl kn M L q in
         let m : read text ≡ listing L = r ∙ ap listing (f .0) in

@@ -15,7 +15,7 @@ use Rattle.listings.specs.WordTable.{forms, wordIndex, kindAt, kind-none}
 use Rattle.listings.specs.WordSlots.{candidateOf, own-candidate}
 use Rattle.listings.specs.Scan.{indexOf, after}
 use Rattle.tokens.specs.Arguments.{argCheck, checkKind}
-use Rattle.reader.specs.CodedRows.{asLine, asTo, asRow, simpleBy, argsRow, bareRow, form-false, form-one, form-more, row-empty, row-end, row-bad}
+use Rattle.reader.specs.CodedRows.{asLine, asTo, noRow, asRow, simpleBy, argsRow, bareRow, form-false, form-one, form-more, row-empty, row-end, row-bad}
 use Rattle.reader.specs.Machine.{mayBranch, oneMore, stepSimple, stepRow}
 use Rattle.tokens.specs.declared.arguments.ArgCheck.{ArgCheck}
 use Rattle.reader.specs.declared.machine.State.{State}
@@ -25,49 +25,40 @@ use Rattle.reader.specs.declared.rows.Row.the-variants as row
 
 -- a form, with no bad number or name
 abbrev pub WellFormed : Row → Type 0
-WellFormed row.NoForm = ⊥
+WellFormed (row.Refused n p) = ⊥
 WellFormed row.End = Unit {0}
 WellFormed row.Stmts = Unit {0}
 WellFormed (row.Module h) = Unit {0}
-WellFormed row.InvalidLine = ⊥
 WellFormed (row.Line n) = Unit {0}
-WellFormed row.InvalidTo = ⊥
 WellFormed (row.To n) = Unit {0}
-WellFormed row.InvalidSimple = ⊥
 WellFormed (row.Simple k n) = Unit {0}
 WellFormed (row.Cond k) = Unit {0}
 
 -- a statement without how many numbers or slots it lists
 abbrev pub uncounted : Row → Row
-uncounted row.NoForm = row.NoForm
+uncounted (row.Refused n p) = row.Refused n p
 uncounted row.End = row.End
 uncounted row.Stmts = row.Stmts
 uncounted (row.Module h) = row.Module h
-uncounted row.InvalidLine = row.InvalidLine
 uncounted (row.Line n) = row.Line n
-uncounted row.InvalidTo = row.InvalidTo
 uncounted (row.To n) = row.To n
-uncounted row.InvalidSimple = row.InvalidSimple
 uncounted (row.Simple k n) = row.Simple k 0
 uncounted (row.Cond k) = row.Cond k
 
 -- ---- what is taken is in form, and is taken without its count
 
-not-taken : (a b : Bool) (v : State) → pick a (pick b (Refused 3) (Refused 2)) (Refused 2) ≡ Taken v → ⊥
-not-taken true true v e = let z : _≡_ {A = ℕ} 0 1 = cc in omega arith
-not-taken true false v e = let z : _≡_ {A = ℕ} 0 1 = cc in omega arith
-not-taken false b v e = let z : _≡_ {A = ℕ} 0 1 = cc in omega arith
+not-taken : (a b : Bool) (n : ℕ) (v : State) → pick a (pick b (Refused n) (Refused 2)) (Refused 2) ≡ Taken v → ⊥
+not-taken true true n v e = let z : _≡_ {A = ℕ} 0 1 = cc in omega arith
+not-taken true false n v e = let z : _≡_ {A = ℕ} 0 1 = cc in omega arith
+not-taken false b n v e = let z : _≡_ {A = ℕ} 0 1 = cc in omega arith
 
 pub taken-formed : (s v : State) (d : Row) → stepRow s d ≡ Taken v → WellFormed d
-taken-formed s v row.NoForm e = let z : _≡_ {A = ℕ} 0 1 = cc in absurd (omega arith)
+taken-formed s v (row.Refused n p) e = not-taken (eqb (s .position) p) (mayBranch (s .word) (s .branches)) n v e
 taken-formed s v row.End e = tt
 taken-formed s v row.Stmts e = tt
 taken-formed s v (row.Module h) e = tt
-taken-formed s v row.InvalidLine e = not-taken (eqb (s .position) 1) true v e
 taken-formed s v (row.Line n) e = tt
-taken-formed s v row.InvalidTo e = not-taken (eqb (s .position) 4) (mayBranch (s .word) (s .branches)) v e
 taken-formed s v (row.To n) e = tt
-taken-formed s v row.InvalidSimple e = not-taken (eqb (s .position) 3) true v e
 taken-formed s v (row.Simple k n) e = tt
 taken-formed s v (row.Cond k) e = tt
 
@@ -84,15 +75,12 @@ simple-uncounted s v n = go (eqb (s .position) 3) (ltb (s .stmts) 4096) (leb (s 
     go true true true false e = let z : _≡_ {A = ℕ} 0 1 = cc in absurd (omega arith)
 
 pub taken-uncounted : (s v : State) (d : Row) → stepRow s d ≡ Taken v → stepRow s (uncounted d) ≡ Taken v
-taken-uncounted s v row.NoForm e = e
+taken-uncounted s v (row.Refused n p) e = e
 taken-uncounted s v row.End e = e
 taken-uncounted s v row.Stmts e = e
 taken-uncounted s v (row.Module h) e = e
-taken-uncounted s v row.InvalidLine e = e
 taken-uncounted s v (row.Line n) e = e
-taken-uncounted s v row.InvalidTo e = e
 taken-uncounted s v (row.To n) e = e
-taken-uncounted s v row.InvalidSimple e = e
 taken-uncounted s v (row.Simple k n) e = simple-uncounted s v n e
 taken-uncounted s v (row.Cond k) e = e
 
@@ -128,7 +116,7 @@ open-line g k ws h f =
     let q = ne-eqb g 0 h in
     rw q (go (eqb g 1) (rw q at f))
   where
-    go : (b : Bool) → WellFormed (pick b (asLine (single ws)) row.NoForm) → asLine (single ws) ≡ uncounted (pick b (asLine (single ws)) row.NoForm)
+    go : (b : Bool) → WellFormed (pick b (asLine (single ws)) noRow) → asLine (single ws) ≡ uncounted (pick b (asLine (single ws)) noRow)
     go true f = line-same (single ws)
     go false f = absurd f
 
@@ -137,12 +125,11 @@ unfolding argsRow
 closed-to g k ws h = rw h (to-same (single ws))
 
 simple-formed : (k : ℕ) (t : ArgCheck) → WellFormed (simpleBy k t) → row.Simple k 0 ≡ uncounted (simpleBy k t)
-simple-formed k t = go (eqb (t .severity) 0) (eqb (t .severity) 1)
+simple-formed k t = go (eqb (t .refusal) 0)
   where
-    go : (a b : Bool) → WellFormed (pick a (row.Simple k (t .count)) (pick b row.InvalidSimple row.NoForm)) → row.Simple k 0 ≡ uncounted (pick a (row.Simple k (t .count)) (pick b row.InvalidSimple row.NoForm))
-    go true b h = refl
-    go false true h = absurd h
-    go false false h = absurd h
+    go : (a : Bool) → WellFormed (pick a (row.Simple k (t .count)) (row.Refused (t .refusal) 3)) → row.Simple k 0 ≡ uncounted (pick a (row.Simple k (t .count)) (row.Refused (t .refusal) 3))
+    go true h = refl
+    go false h = absurd h
 
 pub closed-simple : (g k : ℕ) (ws : List (List ℕ)) → (g ≡ 2 → ⊥) → WellFormed (argsRow g k true ws) → row.Simple k 0 ≡ uncounted (argsRow g k true ws)
 unfolding argsRow
@@ -154,14 +141,14 @@ pub bare-same : (g k : ℕ) (c : Bool) → bareRow g k c ≡ uncounted (bareRow 
 unfolding bareRow
 bare-same g k true = go (eqb g 5) (eqb g 7) (eqb g 8)
   where
-    go : (a b c : Bool) → pick a (row.Simple k 0) (pick b (row.Simple k 0) (pick c (row.Simple k 0) row.NoForm)) ≡ uncounted (pick a (row.Simple k 0) (pick b (row.Simple k 0) (pick c (row.Simple k 0) row.NoForm)))
+    go : (a b c : Bool) → pick a (row.Simple k 0) (pick b (row.Simple k 0) (pick c (row.Simple k 0) noRow)) ≡ uncounted (pick a (row.Simple k 0) (pick b (row.Simple k 0) (pick c (row.Simple k 0) noRow)))
     go true b c = refl
     go false true c = refl
     go false false true = refl
     go false false false = refl
 bare-same g k false = go (eqb g 3) (eqb g 4)
   where
-    go : (a b : Bool) → pick a row.Stmts (pick b (row.Cond (k - 2)) row.NoForm) ≡ uncounted (pick a row.Stmts (pick b (row.Cond (k - 2)) row.NoForm))
+    go : (a b : Bool) → pick a row.Stmts (pick b (row.Cond (k - 2)) noRow) ≡ uncounted (pick a row.Stmts (pick b (row.Cond (k - 2)) noRow))
     go true b = refl
     go false true = refl
     go false false = refl

@@ -12,13 +12,13 @@ use lib.Seq.{take-all}
 use borrow.Author.Tests.{eq-eqb, ne-eqb, eqb-true, eqb-false}
 use Rattle.listings.specs.Bytes.{bytes, same, pick}
 use Rattle.listings.specs.Listing.{Simple, goto, gosub, return, run, runto, ongoto, ongosub, for, next, repeat, loop, until, endloop, exit, exitif, doif, else, done, clr, stop, any, CondWord, if, ifelse, rcomp}
-use Rattle.listings.specs.Rows.{split, areWords, stripClose, Row as FormRow, close, bad, form, formRow, rowOf, Form, moduleForm, lineForm, toForm, stmtsForm, runForm, forForm, nextForm, condForm, bareForm, numberForm, numbersForm, openingWords, lookup, Parse, malformed, invalid, parsed, mapParse, withParse, parseNumbers, parseName, parseSlots, parseTier, parseMark, Counted, Content, noForm, endRow, stmtsRow, moduleRow, lineRow, toRow, simpleRow, condRow, bareStmt, single, runStmt, forStmt, nextStmt, ifNoWords, handlerFacts, moduleBy, moduleContent, formContent, wordContent, contentOf}
+use Rattle.listings.specs.Rows.{split, areWords, stripClose, Row as FormRow, close, bad, form, formRow, rowOf, Form, moduleForm, lineForm, toForm, stmtsForm, runForm, forForm, nextForm, condForm, bareForm, numberForm, numbersForm, openingWords, lookup, Parse, malformed, invalid, parsed, refusalOf, mapParse, withParse, parseNumbers, parseName, parseSlots, parseTier, parseMark, Counted, Content, noForm, endRow, stmtsRow, moduleRow, lineRow, toRow, simpleRow, condRow, bareStmt, single, runStmt, forStmt, nextStmt, ifNoWords, handlerFacts, moduleBy, moduleContent, formContent, wordContent, contentOf}
 use Rattle.listings.specs.WordTable.{forms, wordIndex, kind, kindOf, kindAt, content-at}
 use Rattle.listings.specs.Scan.{indexOf, split-last, split-some, after, split-alone, split-first}
 use Rattle.tokens.specs.Numbers.{asNumber}
-use Rattle.tokens.specs.Arguments.{severityOf, worst, argCheck, checkFor, checkNext, checkKind, severity-with, numbers-severity, slots-severity}
+use Rattle.tokens.specs.Arguments.{lowest, argCheck, checkFor, checkNext, checkKind, refusal-with, numbers-refusal, slots-refusal}
 use Rattle.tokens.specs.declared.numbers.ParsedNumber.{ParsedNumber}
-use Rattle.tokens.specs.declared.numbers.ParsedNumber.the-variants.{Malformed, Invalid, Value}
+use Rattle.tokens.specs.declared.numbers.ParsedNumber.the-variants.{Refused, Value}
 use Rattle.tokens.specs.declared.arguments.ArgCheck.{ArgCheck}
 use Rattle.reader.specs.declared.rows.Row.{Row}
 use Rattle.reader.specs.declared.rows.Row.the-variants as row
@@ -55,23 +55,31 @@ condNumber if = 0
 condNumber ifelse = 1
 condNumber rcomp = 2
 
+-- "2 not a form", wherever it stands
+abbrev pub noRow : Row
+noRow = row.Refused 2 3
+
+-- refused by document 01's number n where such a row is due
+abbrev pub refusedRow : ℕ → ℕ → Row
+refusedRow n due = pick (eqb n 2) noRow (row.Refused n due)
+
 abbrev pub asLine : Parse ℕ → Row
-asLine malformed = row.NoForm
-asLine invalid = row.InvalidLine
+asLine malformed = refusedRow (refusalOf {A = ℕ} malformed) 1
+asLine invalid = refusedRow (refusalOf {A = ℕ} invalid) 1
 asLine (parsed n) = row.Line n
 
 abbrev pub asTo : Parse ℕ → Row
-asTo malformed = row.NoForm
-asTo invalid = row.InvalidTo
+asTo malformed = refusedRow (refusalOf {A = ℕ} malformed) 4
+asTo invalid = refusedRow (refusalOf {A = ℕ} invalid) 4
 asTo (parsed n) = row.To n
 
 abbrev pub asSimple : Parse Counted → Row
-asSimple malformed = row.NoForm
-asSimple invalid = row.InvalidSimple
+asSimple malformed = refusedRow (refusalOf {A = Counted} malformed) 3
+asSimple invalid = refusedRow (refusalOf {A = Counted} invalid) 3
 asSimple (parsed d) = row.Simple (wordNumber (d .0)) (d .1)
 
 abbrev pub asRow : Content → Row
-asRow noForm = row.NoForm
+asRow noForm = noRow
 asRow endRow = row.End
 asRow stmtsRow = row.Stmts
 asRow (moduleRow h) = row.Module h
@@ -83,13 +91,11 @@ asRow (condRow k) = row.Cond (condNumber k)
 -- ---- by the code's number, and by the check of the words
 
 abbrev pub toByNumber : ParsedNumber → Row
-toByNumber Malformed = row.NoForm
-toByNumber Invalid = row.InvalidTo
+toByNumber (Refused n) = refusedRow n 4
 toByNumber (Value n) = row.To n
 
 abbrev pub lineByNumber : ParsedNumber → Row
-lineByNumber Malformed = row.NoForm
-lineByNumber Invalid = row.InvalidLine
+lineByNumber (Refused n) = refusedRow n 1
 lineByNumber (Value n) = row.Line n
 
 pub to-by-number : (g : Parse ℕ) → toByNumber (asNumber g) ≡ asTo g
@@ -103,19 +109,19 @@ line-by-number invalid = refl
 line-by-number (parsed n) = refl
 
 abbrev pub simpleBy : ℕ → ArgCheck → Row
-simpleBy k t = pick (eqb (t .severity) 0) (row.Simple k (t .count)) (pick (eqb (t .severity) 1) row.InvalidSimple row.NoForm)
+simpleBy k t = pick (eqb (t .refusal) 0) (row.Simple k (t .count)) (row.Refused (t .refusal) 3)
 
 -- ---- by the kind g and the number k of the opening word
 
 -- a form with words after the opening one
 unfoldable pub argsRow : ℕ → ℕ → Bool → List (List ℕ) → Row
 argsRow g k true ws = pick (eqb g 2) (asTo (single ws)) (simpleBy k (checkKind g ws))
-argsRow g k false ws = pick (eqb g 0) (asRow (moduleContent ws)) (pick (eqb g 1) (asLine (single ws)) row.NoForm)
+argsRow g k false ws = pick (eqb g 0) (asRow (moduleContent ws)) (pick (eqb g 1) (asLine (single ws)) noRow)
 
 -- a form of the opening word alone
 unfoldable pub bareRow : ℕ → ℕ → Bool → Row
-bareRow g k true = pick (eqb g 5) (row.Simple k 0) (pick (eqb g 7) (row.Simple k 0) (pick (eqb g 8) (row.Simple k 0) row.NoForm))
-bareRow g k false = pick (eqb g 3) row.Stmts (pick (eqb g 4) (row.Cond (k - 2)) row.NoForm)
+bareRow g k true = pick (eqb g 5) (row.Simple k 0) (pick (eqb g 7) (row.Simple k 0) (pick (eqb g 8) (row.Simple k 0) noRow))
+bareRow g k false = pick (eqb g 3) row.Stmts (pick (eqb g 4) (row.Cond (k - 2)) noRow)
 
 -- what the number of an opening word says of its form
 Numbered : ℕ → Form → Type 0
@@ -156,15 +162,15 @@ numbered-at k h e = let n : 0 + k ≡ k = omega arith in subst (λ (m : ℕ). Nu
 
 -- ---- a form's words
 
-simple-map : {A : Type 0} (f : A → Simple) (k n : ℕ) → ((a : A) → wordNumber (f a) ≡ k) → (g : Parse A) → asSimple (mapParse (λ a. (f a, n)) g) ≡ simpleBy k (argCheck (severityOf g) n)
-unfolding mapParse severityOf argCheck
+simple-map : {A : Type 0} (f : A → Simple) (k n : ℕ) → ((a : A) → wordNumber (f a) ≡ k) → (g : Parse A) → asSimple (mapParse (λ a. (f a, n)) g) ≡ simpleBy k (argCheck (refusalOf g) n)
+unfolding mapParse argCheck
 simple-map f k n h malformed = refl
 simple-map f k n h invalid = refl
 simple-map f k n h (parsed a) = ap (λ (z : ℕ). row.Simple z n) (h a)
 
 simple-with : {A B : Type 0} (f : A → B → Simple) (k n : ℕ) → ((a : A) (b : B) → wordNumber (f a b) ≡ k) → (g : Parse A) (d : Parse B)
-    → asSimple (withParse (λ a b. (f a b, n)) g d) ≡ simpleBy k (argCheck (worst (severityOf g) (severityOf d)) n)
-unfolding withParse severityOf argCheck
+    → asSimple (withParse (λ a b. (f a b, n)) g d) ≡ simpleBy k (argCheck (lowest (refusalOf g) (refusalOf d)) n)
+unfolding withParse argCheck lowest
 simple-with f k n h malformed malformed = refl
 simple-with f k n h malformed invalid = refl
 simple-with f k n h malformed (parsed b) = refl
@@ -176,18 +182,18 @@ simple-with f k n h (parsed a) invalid = refl
 simple-with f k n h (parsed a) (parsed b) = ap (λ (z : ℕ). row.Simple z n) (h a b)
 
 for-row : (k : ℕ) → k ≡ 13 → (ws : List (List ℕ)) → asSimple (forStmt ws) ≡ simpleBy k (checkFor ws)
-unfolding forStmt checkFor argCheck severityOf wordNumber
+unfolding forStmt checkFor argCheck wordNumber
 for-row k h [] = refl
 for-row k h (w ∷ []) = refl
 for-row k h (w ∷ v ∷ []) =
-    simple-with for k 0 (λ n t. sym h) (parseName w) (parseTier v) ∙ ap (λ (g : ℕ). simpleBy k (argCheck g 0)) (sym (severity-with (λ n t. (for n t, 0)) (parseName w) (parseTier v)))
+    simple-with for k 0 (λ n t. sym h) (parseName w) (parseTier v) ∙ ap (λ (g : ℕ). simpleBy k (argCheck g 0)) (sym (refusal-with (λ n t. (for n t, 0)) (parseName w) (parseTier v)))
 for-row k h (w ∷ v ∷ u ∷ ws) = refl
 
 next-row : (k : ℕ) → k ≡ 14 → (ws : List (List ℕ)) → asSimple (nextStmt ws) ≡ simpleBy k (checkNext ws)
-unfolding nextStmt checkNext argCheck severityOf wordNumber
+unfolding nextStmt checkNext argCheck wordNumber
 next-row k h [] = refl
 next-row k h (w ∷ ws) =
-    simple-with next k (length ws) (λ m ss. sym h) (parseMark w) (parseSlots ws) ∙ ap (λ (g : ℕ). simpleBy k (argCheck (worst (severityOf (parseMark w)) g) (length ws))) (slots-severity ws)
+    simple-with next k (length ws) (λ m ss. sym h) (parseMark w) (parseSlots ws) ∙ ap (λ (g : ℕ). simpleBy k (argCheck (lowest (refusalOf (parseMark w)) g) (length ws))) (slots-refusal ws)
 
 form-args : (h : Form) (k : ℕ) → Numbered k h → (c : Bool) (w : List ℕ) (ws : List (List ℕ)) → asRow (formContent h c (w ∷ ws)) ≡ argsRow (kind h) k c (w ∷ ws)
 unfolding Numbered formContent argsRow kind checkKind ifNoWords bareStmt runStmt wordNumber argCheck
@@ -206,7 +212,7 @@ form-args (bareForm o) k r false w ws = refl
 form-args (numberForm f) k r true w ws = simple-map f k 0 r (single (w ∷ ws))
 form-args (numberForm f) k r false w ws = refl
 form-args (numbersForm f) k r true w ws =
-    simple-map f k (length (w ∷ ws)) r (parseNumbers (w ∷ ws)) ∙ ap (λ (g : ℕ). simpleBy k (argCheck g (length (w ∷ ws)))) (numbers-severity (w ∷ ws))
+    simple-map f k (length (w ∷ ws)) r (parseNumbers (w ∷ ws)) ∙ ap (λ (g : ℕ). simpleBy k (argCheck g (length (w ∷ ws)))) (numbers-refusal (w ∷ ws))
 form-args (numbersForm f) k r false w ws = refl
 form-args runForm k r true w ws = simple-map runto k 0 (λ n. sym r) (single (w ∷ ws))
 form-args runForm k r false w ws = refl
@@ -244,7 +250,7 @@ args-at : (k : ℕ) (c : Bool) (w : List ℕ) (ws : List (List ℕ)) → asRow (
 unfolding kindAt argsRow checkKind argCheck wordContent kindOf
 args-at k c w ws = go (getElem? forms k) refl
   where
-    none-args : (c : Bool) → row.NoForm ≡ argsRow 11 k c (w ∷ ws)
+    none-args : (c : Bool) → noRow ≡ argsRow 11 k c (w ∷ ws)
     none-args true = refl
     none-args false = refl
 
@@ -256,7 +262,7 @@ bare-at : (k : ℕ) (c : Bool) → asRow (wordContent (getElem? forms k) c []) �
 unfolding kindAt bareRow wordContent kindOf
 bare-at k c = go (getElem? forms k) refl
   where
-    none-bare : (c : Bool) → row.NoForm ≡ bareRow 11 k c
+    none-bare : (c : Bool) → noRow ≡ bareRow 11 k c
     none-bare true = refl
     none-bare false = refl
 

@@ -62,54 +62,42 @@ abbrev pub insideWalk : State → Walk
 insideWalk s = record { holder = s .stmts + 1; index = 0 }
 
 abbrev pub stmtTable : List ℕ → State → Walk → List ℕ → Row → List ℕ
-stmtTable t s w l row.NoForm = t
+stmtTable t s w l (row.Refused m p) = t
 stmtTable t s w l row.End = endTable t s w
 stmtTable t s w l row.Stmts = t
 stmtTable t s w l (row.Module h) = t
-stmtTable t s w l row.InvalidLine = t
 stmtTable t s w l (row.Line n) = t
-stmtTable t s w l row.InvalidTo = t
 stmtTable t s w l (row.To n) = branchStmts t (w .holder - 1) (eqb (s .branches) 1) 2 n (s .stmts)
-stmtTable t s w l row.InvalidSimple = t
 stmtTable t s w l (row.Simple k n) = addSimple t s w l k
 stmtTable t s w l (row.Cond k) = addCond t s w k
 
 abbrev pub argTable : List ℕ → State → List ℕ → Row → List ℕ
-argTable a s l row.NoForm = a
+argTable a s l (row.Refused m p) = a
 argTable a s l row.End = a
 argTable a s l row.Stmts = a
 argTable a s l (row.Module h) = a
-argTable a s l row.InvalidLine = a
 argTable a s l (row.Line n) = a
-argTable a s l row.InvalidTo = a
 argTable a s l (row.To n) = a
-argTable a s l row.InvalidSimple = a
 argTable a s l (row.Simple k n) = addEntries a (s .stmts) (entriesIn l)
 argTable a s l (row.Cond k) = a
 
 abbrev pub lineTable : List ℕ → State → Row → List ℕ
-lineTable t s row.NoForm = t
+lineTable t s (row.Refused m p) = t
 lineTable t s row.End = t
 lineTable t s row.Stmts = t
 lineTable t s (row.Module h) = t
-lineTable t s row.InvalidLine = t
 lineTable t s (row.Line n) = set t (s .lines) n
-lineTable t s row.InvalidTo = t
 lineTable t s (row.To n) = t
-lineTable t s row.InvalidSimple = t
 lineTable t s (row.Simple k n) = t
 lineTable t s (row.Cond k) = t
 
 abbrev pub walkBy : List ℕ → State → Walk → Row → Walk
-walkBy t s w row.NoForm = w
+walkBy t s w (row.Refused m p) = w
 walkBy t s w row.End = endWalk t s w
 walkBy t s w row.Stmts = w
 walkBy t s w (row.Module h) = outsideWalk
-walkBy t s w row.InvalidLine = w
 walkBy t s w (row.Line n) = outsideWalk
-walkBy t s w row.InvalidTo = w
 walkBy t s w (row.To n) = w
-walkBy t s w row.InvalidSimple = w
 walkBy t s w (row.Simple k n) = addedWalk w
 walkBy t s w (row.Cond k) = insideWalk s
 
@@ -162,15 +150,12 @@ pub record RowReady (l a : List ℕ) (n k : ℕ) : Type 0 where
   pub short : length (entriesIn l) ≤ 64
 
 abbrev pub Ready : List ℕ → List ℕ → List ℕ → State → Walk → List ℕ → Row → Type 0
-Ready n t a s w l row.NoForm = Unit {0}
+Ready n t a s w l (row.Refused m p) = Unit {0}
 Ready n t a s w l row.End = EndReady t s w
 Ready n t a s w l row.Stmts = Unit {0}
 Ready n t a s w l (row.Module h) = Unit {0}
-Ready n t a s w l row.InvalidLine = Unit {0}
 Ready n t a s w l (row.Line m) = s .lines < length n
-Ready n t a s w l row.InvalidTo = Unit {0}
 Ready n t a s w l (row.To m) = ToReady t s w
-Ready n t a s w l row.InvalidSimple = Unit {0}
 Ready n t a s w l (row.Simple k m) = AddReady t s w k × RowReady l a (s .stmts) k
 Ready n t a s w l (row.Cond k) = AddReady t s w (k + 2)
 
@@ -188,27 +173,21 @@ wrote-as {n} {t} {a} {s} {w} {l} {d} {e} {n′} {t′} {a′} {r} p = subst (λ 
 
 module _ (n t a : List ℕ) (s : State) (w : Walk) (l : List ℕ) where
   pub ready-uncounted : (d : Row) → Ready n t a s w l d → Ready n t a s w l (uncounted d)
-  ready-uncounted row.NoForm h = h
+  ready-uncounted (row.Refused m p) h = h
   ready-uncounted row.End h = h
   ready-uncounted row.Stmts h = h
   ready-uncounted (row.Module b) h = h
-  ready-uncounted row.InvalidLine h = h
   ready-uncounted (row.Line m) h = h
-  ready-uncounted row.InvalidTo h = h
   ready-uncounted (row.To m) h = h
-  ready-uncounted row.InvalidSimple h = h
   ready-uncounted (row.Simple k m) h = h
   ready-uncounted (row.Cond k) h = h
 
   pub wrote-counted : (d : Row) (n′ t′ a′ : List ℕ) (r : Walk) → Wrote n t a s w l (uncounted d) n′ t′ a′ r → Wrote n t a s w l d n′ t′ a′ r
-  wrote-counted row.NoForm n′ t′ a′ r h = h
+  wrote-counted (row.Refused m p) n′ t′ a′ r h = h
   wrote-counted row.End n′ t′ a′ r h = h
   wrote-counted row.Stmts n′ t′ a′ r h = h
   wrote-counted (row.Module b) n′ t′ a′ r h = h
-  wrote-counted row.InvalidLine n′ t′ a′ r h = h
   wrote-counted (row.Line m) n′ t′ a′ r h = h
-  wrote-counted row.InvalidTo n′ t′ a′ r h = h
   wrote-counted (row.To m) n′ t′ a′ r h = h
-  wrote-counted row.InvalidSimple n′ t′ a′ r h = h
   wrote-counted (row.Simple k m) n′ t′ a′ r h = record { walk = h .walk; lines = h .lines; stmts = h .stmts; args = h .args }
   wrote-counted (row.Cond k) n′ t′ a′ r h = h

@@ -1,4 +1,4 @@
--- The verdict on a text, and the loop over its rows. Assumes nothing.
+-- What is answered for a text, and the loop over its rows. Assumes nothing.
 use Prim.Native.Nat.{ℕ, suc, _+_, _-_, _≤_, _<_}
 use mathlib.Core.Path.{_≡_, refl, sym, ap, _∙_, subst}
 use mathlib.Core.List.{List, [], _∷_}
@@ -17,24 +17,20 @@ use Rattle.listings.specs.RowText.{content-text}
 use Rattle.listings.specs.Shown.{openLines, positionSize, OpenOk, PositionOk, Good, Next}
 use Rattle.listings.specs.ShownLaws.{row-next}
 use Rattle.listings.specs.Scan.{indexOf, split-some, pieceAt, next-last, next-more}
+use Rattle.reader.specs.Answer.{listedOf}
 use Rattle.reader.specs.CodedRows.{asRow}
 use Rattle.reader.specs.Machine.{openConds, positionCode, stateAt, asState, asStep, stepRow}
 use Rattle.reader.specs.MachineLaws.{step-law, Bounded, state-bounded}
 use Rattle.reader.specs.declared.machine.State.{State}
 use Rattle.reader.specs.declared.machine.Step.{Step}
 use Rattle.reader.specs.declared.machine.Step.the-variants.{Taken, Refused}
-use Rattle.reader.specs.declared.judge.Verdict.{Verdict}
-use Rattle.reader.specs.declared.judge.Verdict.the-variants as verdict
+use Rattle.reader.specs.declared.listing.Listed.{Listed}
+use Rattle.reader.specs.declared.listing.Listed.the-variants as listed
 use Rattle.listings.specs.ShownLaws.{good-start}
 
--- the verdict for the definition's answer: of a listing its handlers, lines and statements
-unfoldable pub verdictOf : Answer → Verdict
-verdictOf (listing L) = verdict.Accepted (L .handlers) (count (L .lines)) (total (L .lines))
-verdictOf (refusal n i) = verdict.Refused n i
-
 -- the text ends in row i, after e bytes of it
-abbrev pub finishState : State → ℕ → ℕ → Verdict
-finishState s i e = pick (eqb (s .position) 2) (pick (eqb e 0) (verdict.Accepted (s .handlers) (s .lines) (s .stmts)) (verdict.Refused 2 i)) (verdict.Refused 2 i)
+abbrev pub finishState : State → ℕ → ℕ → Listed
+finishState s i e = pick (eqb (s .position) 2) (pick (eqb e 0) (listed.Accepted (s .handlers) (s .lines) (s .stmts)) (listed.Refused 2 i)) (listed.Refused 2 i)
 
 -- ---- the length of the text
 
@@ -63,15 +59,15 @@ unfolding readRows
 rows-last r i w = refl
 
 -- an outcome, by the machine's step
-was-refused : (o : Outcome Reading) (n : ℕ) → asStep o ≡ Refused n → o ≡ refused n
+step-refused : (o : Outcome Reading) (n : ℕ) → asStep o ≡ Refused n → o ≡ refused n
 unfolding asStep
-was-refused (taken r) n e = absurd (let z : _≡_ {A = ℕ} 0 1 = cc in omega arith)
-was-refused (refused m) n e = let z : m ≡ n = cc in ap refused z
+step-refused (taken r) n e = absurd (let z : _≡_ {A = ℕ} 0 1 = cc in omega arith)
+step-refused (refused m) n e = let z : m ≡ n = cc in ap refused z
 
-was-taken : (o : Outcome Reading) (s : State) → asStep o ≡ Taken s → (q : Reading) × (o ≡ taken q) × (s ≡ asState q)
+step-taken : (o : Outcome Reading) (s : State) → asStep o ≡ Taken s → (q : Reading) × (o ≡ taken q) × (s ≡ asState q)
 unfolding asStep
-was-taken (taken r) s e = (r, refl, let z : s ≡ asState r = cc in z)
-was-taken (refused m) s e = absurd (let z : _≡_ {A = ℕ} 0 1 = cc in omega arith)
+step-taken (taken r) s e = (r, refl, let z : s ≡ asState r = cc in z)
+step-taken (refused m) s e = absurd (let z : _≡_ {A = ℕ} 0 1 = cc in omega arith)
 
 -- ---- what holds from row to row
 
@@ -92,8 +88,8 @@ good-depth r ended g = omega arith
 good-depth r (inStmts s fs) g = open-depth fs (g .place .1)
 good-depth r (inCond s k bs fs) g = omega (arith, g .place .3)
 
-finish-by : (r : Reading) (i : ℕ) (p : Position) (w : List ℕ) → Good r p → finishState (stateAt r p) i (length w) ≡ verdictOf (finish r i p w)
-unfolding finish verdictOf stateAt positionCode openLines positionSize
+finish-by : (r : Reading) (i : ℕ) (p : Position) (w : List ℕ) → Good r p → finishState (stateAt r p) i (length w) ≡ listedOf (finish r i p w)
+unfolding finish listedOf stateAt positionCode openLines positionSize
 finish-by r i begin w g = refl
 finish-by r i inModule w g = refl
 finish-by r i (inStmts s fs) w g = refl
@@ -122,7 +118,7 @@ follows-bounded f = subst Bounded (sym (f .state)) (state-bounded (f .reading) (
 module _ (text : List ℕ) (s : State) (i at e : ℕ) (short : length text ≤ 65536) (f : Follows text s i at) (fits : at ≤ length text)
     (found : e ≡ indexOf 10 (take (length text - at) (drop at text))) where
   -- the text ends in this row
-  pub follows-last : at + e ≡ length text → finishState s i e ≡ verdictOf (read text)
+  pub follows-last : at + e ≡ length text → finishState s i e ≡ listedOf (read text)
   unfolding asState
   follows-last h =
       let r = f .reading in
@@ -130,7 +126,7 @@ module _ (text : List ℕ) (s : State) (i at e : ℕ) (short : length text ≤ 6
       let n : length w ≡ e = length-take (at + e - at) (drop at text) ∙ omega (arith, length-drop at text) in
       let p : readRows r i (split 10 (drop at text)) ≡ finish r i (r .position) w = ap (readRows r i) (next-last 10 text at e fits found h) ∙ rows-last r i w in
       ap (λ (z : State). finishState z i e) (f .state) ∙ ap (finishState (asState r) i) (sym n) ∙ finish-by r i (r .position) w (f .good)
-      ∙ ap verdictOf (sym p ∙ f .rest ∙ sym (read-short text short))
+      ∙ ap listedOf (sym p ∙ f .rest ∙ sym (read-short text short))
 
   -- a row ended by byte 10, and the step x that it makes
   module _ (more : at + e ≡ length text → ⊥) (le : e ≤ length (take (length text - at) (drop at text))) (x : Step) (steps : x ≡ stepRow s (asRow (contentOf (rowOf (pieceAt text at e))))) where
@@ -140,20 +136,20 @@ module _ (text : List ℕ) (s : State) (i at e : ℕ) (short : length text ≤ 6
     outcome : x ≡ asStep (readRow (f .reading) (f .reading .position) (contentOf (rowOf (pieceAt text at e))))
     outcome = steps ∙ ap (λ (z : State). stepRow z (asRow (contentOf (rowOf (pieceAt text at e))))) (f .state) ∙ step-law (f .reading) (contentOf (rowOf (pieceAt text at e)))
 
-    pub follows-refused : (n : ℕ) → x ≡ Refused n → verdict.Refused n i ≡ verdictOf (read text)
-    unfolding verdictOf
+    pub follows-refused : (n : ℕ) → x ≡ Refused n → listed.Refused n i ≡ listedOf (read text)
+    unfolding listedOf
     follows-refused n h =
         let r = f .reading in
         let vs = split 10 (drop (at + e + 1) text) in
-        let q = was-refused (readRow r (r .position) (contentOf (rowOf (pieceAt text at e)))) n (sym outcome ∙ h) in
+        let q = step-refused (readRow r (r .position) (contentOf (rowOf (pieceAt text at e)))) n (sym outcome ∙ h) in
         let p = rows-refused r i (pieceAt text at e) vs n (split-some 10 (drop (at + e + 1) text)) q in
-        ap verdictOf (sym (ap (readRows r i) pieces ∙ p) ∙ f .rest ∙ sym (read-short text short))
+        ap listedOf (sym (ap (readRows r i) pieces ∙ p) ∙ f .rest ∙ sym (read-short text short))
 
     pub follows-taken : (t : State) → x ≡ Taken t → Follows text t (i + 1) (at + e + 1)
     follows-taken t h =
         let r = f .reading in
         let vs = split 10 (drop (at + e + 1) text) in
-        let q = was-taken (readRow r (r .position) (contentOf (rowOf (pieceAt text at e)))) t (sym outcome ∙ h) in
+        let q = step-taken (readRow r (r .position) (contentOf (rowOf (pieceAt text at e)))) t (sym outcome ∙ h) in
         let p = rows-taken r (q .0) i (pieceAt text at e) vs (split-some 10 (drop (at + e + 1) text)) (q .1) in
         record {
           reading = q .0;

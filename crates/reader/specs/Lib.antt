@@ -1,3 +1,4 @@
+pub mod Answer
 pub mod Tables
 pub mod Operands
 pub mod CodedRows

@@ -10,20 +10,14 @@ use borrow.Author.Tests.{le-leb, lt-leb, ltb-true, ltb-false}
 use Rattle.listings.specs.Listing.{Listing, total, count}
 use Rattle.listings.specs.Read.{Answer, listing, refusal, read}
 use Rattle.listings.specs.RoundTrip.{accepted-in-form}
-use Rattle.reader.specs.Judge.{verdictOf, read-long}
-use Rattle.listings.specs.Records.{lineRecs, lineNumbers, recRows, argRows, handlerNumber, countsOf, padded, ReadAnswer, accepted, refused, fitted, answerOf, tableOf}
+use Rattle.reader.specs.Answer.{listedOf, was-accepted, was-refused}
+use Rattle.reader.specs.Judge.{read-long}
+use Rattle.listings.specs.Records.{lineRecs, lineNumbers, recRows, argRows, handlerNumber, countsOf, padded, fitted, answerOf, tableOf}
 use Rattle.reader.specs.FillLoop.{Zeroed, Filled}
 use Rattle.reader.specs.declared.listing.Listed.{Listed}
 use Rattle.reader.specs.declared.listing.Listed.the-variants as listed
-use Rattle.reader.specs.declared.judge.Verdict.{Verdict}
-use Rattle.reader.specs.declared.judge.Verdict.the-variants as verdict
 
 -- ---- the contract
-
--- document 01's number and place for each refusal, the handlers and the counts of a listing
-unfoldable pub listedOf : ReadAnswer → Listed
-listedOf (accepted L) = listed.Accepted (L .handlers) (count (L .lines)) (total (L .lines))
-listedOf (refused n p) = listed.Refused n p
 
 -- the used part of each table
 unfoldable pub lineEntries : Listing → List ℕ
@@ -68,16 +62,16 @@ module _ (text counts lines stmts args : List ℕ) (h : Bool) (nl ns : ℕ) (j :
   judged-small = let f = accepted-in-form text (j .tree) (j .reads) .0 in (omega (arith, f .lineCount, j .lineCount), omega (arith, f .stmtCount, j .stmtCount))
 
   -- a table is too short
-  refuses : (n p : ℕ) → fitted (length lines) (length stmts) (length args) (j .tree) ≡ refused n p → Written text (length lines) (length stmts) (length args) counts lines stmts args (listed.Refused n p)
+  refuses : (n p : ℕ) → fitted (length lines) (length stmts) (length args) (j .tree) ≡ refusal n p → Written text (length lines) (length stmts) (length args) counts lines stmts args (listed.Refused n p)
   unfolding answerOf tableOf listedOf
   refuses n p e =
-      let a : answerOf (length lines) (length stmts) (length args) (read text) ≡ refused n p = ap (answerOf (length lines) (length stmts) (length args)) (j .reads) ∙ e in
+      let a : answerOf (length lines) (length stmts) (length args) (read text) ≡ refusal n p = ap (answerOf (length lines) (length stmts) (length args)) (j .reads) ∙ e in
       record {
         answer = sym (ap listedOf a);
-        counts = j .zeroCounts ∙ sym (ap (λ (z : ReadAnswer). tableOf countsOf z 5) a);
-        lines = j .zeroLines ∙ sym (ap (λ (z : ReadAnswer). tableOf lineEntries z (length lines)) a);
-        stmts = j .zeroStmts ∙ sym (ap (λ (z : ReadAnswer). tableOf stmtEntries z (length stmts)) a);
-        args = j .zeroArgs ∙ sym (ap (λ (z : ReadAnswer). tableOf argEntries z (length args)) a);
+        counts = j .zeroCounts ∙ sym (ap (λ (z : Answer). tableOf countsOf z 5) a);
+        lines = j .zeroLines ∙ sym (ap (λ (z : Answer). tableOf lineEntries z (length lines)) a);
+        stmts = j .zeroStmts ∙ sym (ap (λ (z : Answer). tableOf stmtEntries z (length stmts)) a);
+        args = j .zeroArgs ∙ sym (ap (λ (z : Answer). tableOf argEntries z (length args)) a);
       }
 
   pub short-lines : length lines < nl → Written text (length lines) (length stmts) (length args) counts lines stmts args (listed.Refused 21 nl)
@@ -123,7 +117,7 @@ module _ (text counts lines stmts args : List ℕ) (h : Bool) (nl ns : ℕ) (j :
           args = j .zeroArgs;
         }
 
-    fits : answerOf (length lines) (length stmts) (length args) (read text) ≡ accepted (j .tree)
+    fits : answerOf (length lines) (length stmts) (length args) (read text) ≡ listing (j .tree)
     unfolding answerOf fitted
     fits =
         let k = count (j .tree .lines) in
@@ -140,10 +134,10 @@ module _ (text counts lines stmts args : List ℕ) (h : Bool) (nl ns : ℕ) (j :
         let g = f (j .tree) (j .reads) in
         record {
           answer = answers (j .handlers) (j .lineCount) (j .stmtCount) ∙ sym (ap listedOf fits);
-          counts = i ∙ counted x y z (j .tree) (p ∙ j .lineCount) (q ∙ j .stmtCount) (s ∙ ap handlerNumber (j .handlers)) ∙ sym (ap (λ (o : ReadAnswer). tableOf countsOf o 5) fits);
-          lines = g .lines ∙ sym (ap (λ (o : ReadAnswer). tableOf lineEntries o (length lines)) fits);
-          stmts = g .stmts ∙ sym (ap (λ (o : ReadAnswer). tableOf stmtEntries o (length stmts)) fits);
-          args = g .args ∙ sym (ap (λ (o : ReadAnswer). tableOf argEntries o (length args)) fits);
+          counts = i ∙ counted x y z (j .tree) (p ∙ j .lineCount) (q ∙ j .stmtCount) (s ∙ ap handlerNumber (j .handlers)) ∙ sym (ap (λ (o : Answer). tableOf countsOf o 5) fits);
+          lines = g .lines ∙ sym (ap (λ (o : Answer). tableOf lineEntries o (length lines)) fits);
+          stmts = g .stmts ∙ sym (ap (λ (o : Answer). tableOf stmtEntries o (length stmts)) fits);
+          args = g .args ∙ sym (ap (λ (o : Answer). tableOf argEntries o (length args)) fits);
         }
       where
         answers : {v u : Bool} {a b c d : ℕ} → v ≡ u → a ≡ b → c ≡ d → listed.Accepted v a c ≡ listed.Accepted u b d
@@ -152,42 +146,30 @@ module _ (text counts lines stmts args : List ℕ) (h : Bool) (nl ns : ℕ) (j :
         counted : (x y z : ℕ) (L : Listing) → x ≡ count (L .lines) → y ≡ total (L .lines) → z ≡ handlerNumber (L .handlers) → x ∷ y ∷ z ∷ 0 ∷ 0 ∷ [] ≡ padded 5 (countsOf L)
         counted x y z L p q s = cc
 
--- ---- by the verdict
-
-pub answer-refused : (a : Answer) (n i : ℕ) → verdictOf a ≡ verdict.Refused n i → a ≡ refusal n i
-unfolding verdictOf
-answer-refused (listing L) n i e = absurd (let z : _≡_ {A = ℕ} 0 1 = cc in omega arith)
-answer-refused (refusal m j) n i e = let p : m ≡ n = cc in let q : j ≡ i = cc in cc
-
-pub answer-listing : (a : Answer) (h : Bool) (l s : ℕ) → verdictOf a ≡ verdict.Accepted h l s → (L : Listing) × (a ≡ listing L) × (h ≡ L .handlers) × (l ≡ count (L .lines)) × (s ≡ total (L .lines))
-unfolding verdictOf
-answer-listing (listing L) h l s e = (L, refl, let p : h ≡ L .handlers = cc in p, let p : l ≡ count (L .lines) = cc in p, let p : s ≡ total (L .lines) = cc in p)
-answer-listing (refusal m j) h l s e = absurd (let z : _≡_ {A = ℕ} 0 1 = cc in omega arith)
-
 -- ---- zeroed tables of nl, ns and na entries
 
-module _ (text c n t a : List ℕ) (nl ns na : ℕ) (zc : c ≡ 0 ∷ 0 ∷ 0 ∷ 0 ∷ 0 ∷ []) (zn : n ≡ replicate nl 0) (zt : t ≡ replicate ns 0) (za : a ≡ replicate na 0) (v : Verdict) (is : v ≡ verdictOf (read text)) where
+module _ (text c n t a : List ℕ) (nl ns na : ℕ) (zc : c ≡ 0 ∷ 0 ∷ 0 ∷ 0 ∷ 0 ∷ []) (zn : n ≡ replicate nl 0) (zt : t ≡ replicate ns 0) (za : a ≡ replicate na 0) (v : Listed) (is : v ≡ listedOf (read text)) where
   long : (m : ℕ) (l : List ℕ) → l ≡ replicate m 0 → length l ≡ m
   long m l e = ap length e ∙ length-replicate m 0
 
   zeros : (m : ℕ) (l : List ℕ) → l ≡ replicate m 0 → l ≡ replicate (length l) 0
   zeros m l e = e ∙ ap (λ (k : ℕ). replicate k 0) (sym (long m l e))
 
-  pub zeroed-judged : (h : Bool) (l s : ℕ) → v ≡ verdict.Accepted h l s → Judged text c n t a h l s
+  pub zeroed-judged : (h : Bool) (l s : ℕ) → v ≡ listed.Accepted h l s → Judged text c n t a h l s
   zeroed-judged h l s e =
-      let q = answer-listing (read text) h l s (sym is ∙ e) in
+      let q = was-accepted (read text) h l s (sym e ∙ is) in
       record { tree = q .0; reads = q .1; handlers = q .2; lineCount = q .3; stmtCount = q .4; zeroCounts = zc; zeroLines = zeros nl n zn; zeroStmts = zeros ns t zt; zeroArgs = zeros na a za }
 
-  pub zeroed-refused : (m p : ℕ) → v ≡ verdict.Refused m p → Written text nl ns na c n t a (listed.Refused m p)
+  pub zeroed-refused : (m p : ℕ) → v ≡ listed.Refused m p → Written text nl ns na c n t a (listed.Refused m p)
   unfolding answerOf tableOf listedOf
   zeroed-refused m p e =
-      let q : answerOf nl ns na (read text) ≡ refused m p = ap (answerOf nl ns na) (answer-refused (read text) m p (sym is ∙ e)) in
+      let q : answerOf nl ns na (read text) ≡ refusal m p = ap (answerOf nl ns na) (was-refused (read text) m p (sym e ∙ is)) in
       record {
         answer = sym (ap listedOf q);
-        counts = zc ∙ sym (ap (λ (z : ReadAnswer). tableOf countsOf z 5) q);
-        lines = zn ∙ sym (ap (λ (z : ReadAnswer). tableOf lineEntries z nl) q);
-        stmts = zt ∙ sym (ap (λ (z : ReadAnswer). tableOf stmtEntries z ns) q);
-        args = za ∙ sym (ap (λ (z : ReadAnswer). tableOf argEntries z na) q);
+        counts = zc ∙ sym (ap (λ (z : Answer). tableOf countsOf z 5) q);
+        lines = zn ∙ sym (ap (λ (z : Answer). tableOf lineEntries z nl) q);
+        stmts = zt ∙ sym (ap (λ (z : Answer). tableOf stmtEntries z ns) q);
+        args = za ∙ sym (ap (λ (z : Answer). tableOf argEntries z na) q);
       }
 
   -- by the lengths of the zeroed tables

@@ -164,12 +164,9 @@ stepTo s =
     (Refused 2))
     (Refused 2)
 
--- a bad number or name is 3 where such a row is due, else 2
-abbrev pub stepBadTo : State → Step
-stepBadTo s = pick (eqb (s .position) 4) (pick (mayBranch (s .word) (s .branches)) (Refused 3) (Refused 2)) (Refused 2)
-
-abbrev pub invalidAt : State → ℕ → Step
-invalidAt s p = pick (eqb (s .position) p) (Refused 3) (Refused 2)
+-- "2 not a form allowed here": a number or name is judged only where its row is due, that of a branch only where one may follow; outside of branches word and branches are 0
+abbrev pub stepRefused : State → ℕ → ℕ → Step
+stepRefused s n p = pick (eqb (s .position) p) (pick (mayBranch (s .word) (s .branches)) (Refused n) (Refused 2)) (Refused 2)
 
 -- `)` after statements: a line ends, or the innermost IF goes on
 abbrev pub endOfStmts : State → Step
@@ -190,14 +187,11 @@ stepEnd s =
     (Refused 2)))
 
 abbrev pub stepRow : State → Row → Step
-stepRow s row.NoForm = Refused 2
+stepRow s (row.Refused n p) = stepRefused s n p
 stepRow s row.End = stepEnd s
 stepRow s row.Stmts = stepStmts s
 stepRow s (row.Module h) = stepModule s h
-stepRow s row.InvalidLine = invalidAt s 1
 stepRow s (row.Line n) = stepLine s n
-stepRow s row.InvalidTo = stepBadTo s
 stepRow s (row.To n) = stepTo s
-stepRow s row.InvalidSimple = invalidAt s 3
 stepRow s (row.Simple w n) = stepSimple s n
 stepRow s (row.Cond k) = stepCond s k

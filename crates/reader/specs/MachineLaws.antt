@@ -14,7 +14,7 @@ use Rattle.listings.specs.Listing.{CondWord, if, ifelse, rcomp, BranchForm, Stm
 use Rattle.listings.specs.Rows.{malformed, invalid, parsed, Counted, Content, noForm, endRow, stmtsRow, moduleRow, lineRow, toRow, simpleRow, condRow}
 use Rattle.listings.specs.Read.{OpenCond, Branches, noBranch, oneBranch, twoBranches, Position, begin, inModule, ended, inStmts, inCond, Reading, goTo, oneMore, Outcome, taken, orRefused, check, atBegin, ascends, readLine, atModule, readSimple, readCond, branched, endStmts, atStmts, NextBranch, noMore, mayFollow, nextBranch, condStmt, endCond, readTo, readStmts, atCond, readRow}
 use Rattle.reader.specs.CodedRows.{condNumber, asRow}
-use Rattle.reader.specs.Machine.{lastCode, firstCode, condCode, packed, branchCount, positionCode, openConds, wordCode, branchCode, stateAt, asState, asStep, stepLine, stepSimple, stepCond, stepStmts, stepTo, stepBadTo, endOfStmts, stepEnd, stepRow}
+use Rattle.reader.specs.Machine.{lastCode, firstCode, condCode, packed, branchCount, positionCode, openConds, wordCode, branchCode, stateAt, asState, asStep, stepLine, stepSimple, stepCond, stepStmts, stepTo, stepRefused, endOfStmts, stepEnd, stepRow}
 use Rattle.reader.specs.declared.machine.State.{State}
 use Rattle.reader.specs.declared.machine.Step.{Step}
 use Rattle.reader.specs.declared.machine.Step.the-variants.{Taken, Refused}
@@ -196,7 +196,7 @@ to-law r s if (twoBranches a b) fs n = refl
 to-law r s ifelse (twoBranches a b) fs n = refl
 to-law r s rcomp (twoBranches a b) fs n = refl
 
-bad-to-law : (r : Reading) (s : Stmts) (k : CondWord) (bs : Branches) (fs : List OpenCond) → stepBadTo (stateAt r (inCond s k bs fs)) ≡ asStep (readTo r s k fs (nextBranch k bs) invalid)
+bad-to-law : (r : Reading) (s : Stmts) (k : CondWord) (bs : Branches) (fs : List OpenCond) → stepRefused (stateAt r (inCond s k bs fs)) 3 4 ≡ asStep (readTo r s k fs (nextBranch k bs) invalid)
 unfolding stateAt positionCode openConds wordCode branchCode packed lastCode asStep asState readTo orRefused nextBranch branchCount condNumber
 bad-to-law r s if noBranch fs = refl
 bad-to-law r s ifelse noBranch fs = refl

@@ -26,9 +26,9 @@ use Rattle.tokens.specs.Names.{asKey}
 use Rattle.listings.specs.Records.{nameKey, slotKey, argsOf, tierNumber, markNumber, detailOf}
 use Rattle.reader.specs.declared.operands.Given.{Given}
 use Rattle.tokens.specs.declared.numbers.ParsedNumber.{ParsedNumber}
-use Rattle.tokens.specs.declared.numbers.ParsedNumber.the-variants.{Malformed, Invalid, Value}
+use Rattle.tokens.specs.declared.numbers.ParsedNumber.the-variants as number
 use Rattle.tokens.specs.declared.names.NameKey.{NameKey}
-use Rattle.tokens.specs.declared.names.NameKey.the-variants.{NoName, Key}
+use Rattle.tokens.specs.declared.names.NameKey.the-variants as key
 
 -- ---- one word
 
@@ -90,13 +90,12 @@ pub record Put (es : List ℕ) (d : ℕ) (t t′ : List ℕ) (r : Given) : Type 
 -- ---- laws for the code
 
 abbrev pub numberAnswer : ParsedNumber → ℕ
-numberAnswer Malformed = 0
-numberAnswer Invalid = 0
-numberAnswer (Value n) = n
+numberAnswer (number.Refused k) = 0
+numberAnswer (number.Value n) = n
 
 abbrev pub keyAnswer : NameKey → ℕ
-keyAnswer NoName = 0
-keyAnswer (Key k) = k
+keyAnswer (key.Refused n) = 0
+keyAnswer (key.Key k) = k
 
 pub number-answer : (p : Parse ℕ) → numberAnswer (asNumber p) ≡ numberEntry p
 unfolding numberEntry

@@ -1,19 +1,13 @@
--- Reading back what was read: the answer's listing, and the width of the rows of arguments. Assumes nothing.
-use mathlib.Core.Path.{_≡_, refl}
-use mathlib.Core.Bool.{Bool}
+-- The width of the rows of arguments. Assumes nothing.
 use mathlib.Core.List.{[], _∷_}
 use Prim.Native.Nat.{ℕ, suc, _+_, _-_}
 use native.Mathlib.Omega.{arith}
-use Rattle.listings.specs.Listing.{Lines, nolines, line, Listing, Stmts, ∅, _▸_, branching, size, len, total, count}
+use Rattle.listings.specs.Listing.{Lines, nolines, line, Stmts, ∅, _▸_, branching, size, len, total, count}
 use Rattle.listings.specs.ListingText.{StmtsOk, LinesOk}
 use Rattle.listings.specs.Every.{all[], all∷, all-append}
-use Rattle.listings.specs.Records.{simpleRec, condRec, stmtRecs, lineRecs, argRow, ReadAnswer, accepted, refused}
+use Rattle.listings.specs.Records.{simpleRec, condRec, stmtRecs, lineRecs, argRow}
 use Rattle.reader.specs.Operands.{args-short}
 use Rattle.reader.specs.Tables.{Wide, padded-length}
-use Rattle.reader.specs.Listed.{listedOf}
-use Rattle.reader.specs.declared.listing.Listed.the-variants as listed
-
--- ---- the rows of arguments
 
 stmts-wide : (d li h k i : ℕ) (s : Stmts) → StmtsOk d s → Wide argRow 64 (stmtRecs li h k i s)
 unfolding StmtsOk stmtRecs argRow simpleRec condRec
@@ -29,15 +23,3 @@ pub lines-wide : (ls : Lines) → LinesOk ls → Wide argRow 64 (lineRecs ls)
 unfolding LinesOk lineRecs
 lines-wide nolines ok = all[]
 lines-wide (line ls n s) ok = all-append (lines-wide ls (ok .0)) (stmts-wide 0 (count ls) 0 0 (total ls) s (ok .3))
-
--- ---- the answer
-
-pub was-accepted : (b : ReadAnswer) (h : Bool) (n m : ℕ) → listed.Accepted h n m ≡ listedOf b → (L : Listing) × (b ≡ accepted L) × (h ≡ L .handlers) × (n ≡ count (L .lines)) × (m ≡ total (L .lines))
-unfolding listedOf
-was-accepted (accepted L) h n m e = (L, refl, let p : h ≡ L .handlers = cc in p, let p : n ≡ count (L .lines) = cc in p, let p : m ≡ total (L .lines) = cc in p)
-was-accepted (refused k p) h n m e = absurd (let z : _≡_ {A = ℕ} 0 1 = cc in omega arith)
-
-pub was-refused : (b : ReadAnswer) (n p : ℕ) → listed.Refused n p ≡ listedOf b → b ≡ refused n p
-unfolding listedOf
-was-refused (accepted L) n p e = absurd (let z : _≡_ {A = ℕ} 0 1 = cc in omega arith)
-was-refused (refused k i) n p e = let x : k ≡ n = cc in let y : i ≡ p = cc in cc

@@ -1,12 +1,12 @@
 // Writes the records of a text that is accepted: row by row, into zeroed tables that can hold them.
-use super::machine::IN_COND;
-use super::machine::IN_STMTS;
 use super::machine::State;
 use super::machine::Step;
 use super::machine::start_state;
 use super::machine::step_row;
 use super::operands::Given;
 use super::operands::put_operands;
+use super::rows::IN_COND;
+use super::rows::IN_STMTS;
 use super::rows::Row;
 use super::rows::accepted_row;
 use super::tables::ARG_ENTRIES;
@@ -204,18 +204,15 @@ fn write_row(
     ensures { λ r. ⌜ Wrote (now (lines .entry)) (now (stmts .entry)) (now (args .entry)) s w (now (text .entry)) row (now (lines .exit)) (now (stmts .exit)) (now (args .exit)) r ⌝ }
 {
     match row {
-        Row::NoForm => w,
+        Row::Refused { number: _, due: _ } => w,
         Row::End => end_row(stmts, s, w),
         Row::Stmts => w,
         Row::Module(_) => Walk {
             holder: 0,
             index: 0,
         },
-        Row::InvalidLine => w,
         Row::Line(n) => add_line(lines, s.lines, n),
-        Row::InvalidTo => w,
         Row::To(n) => to_row(stmts, s, w, n),
-        Row::InvalidSimple => w,
         Row::Simple { word, count: _ } => add_simple(text, stmts, args, s, w, word),
         Row::Cond(k) => add_cond(stmts, s, w, k),
     }

@@ -1,6 +1,5 @@
 // Reads a listing: judges the whole text, then, where the tables can hold it, writes its records.
 use super::fill::fill;
-use super::judge::Verdict;
 use super::judge::judge;
 use super::tables::ARG_ENTRIES;
 use super::tables::STMT_ENTRIES;
@@ -91,8 +90,8 @@ pub fn read_listing(
     zero16(stmts);
     zero64(args);
     match judge(text) {
-        Verdict::Refused { number, place } => Listed::Refused { number, place },
-        Verdict::Accepted {
+        Listed::Refused { number, place } => Listed::Refused { number, place },
+        Listed::Accepted {
             handlers,
             lines: nl,
             stmts: ns,

@@ -1,20 +1,14 @@
 // The row machine: where reading stands, and what each row does to it.
+use super::rows::BEGIN;
+use super::rows::ENDED;
+use super::rows::IN_COND;
+use super::rows::IN_MODULE;
+use super::rows::IN_STMTS;
 use super::rows::Row;
 ghost use mathlib.Core.Path.{_≡_};
 ghost use Prim.Native.Nat.{_≤_, _<_};
 ghost use Rattle.listings.specs.Read.{start};
-ghost use Rattle.reader.specs.Machine.{asState, outside, moved, oneMore, stepModule, stepLine, stepSimple, stepCond, mayBranch, isComplete, stepStmts, stepTo, stepBadTo, invalidAt, endOfStmts, stepEnd, stepRow};
-
-// Where the next row stands.
-pub(crate) const BEGIN: u8 = 0;
-
-pub(crate) const IN_MODULE: u8 = 1;
-
-pub(crate) const ENDED: u8 = 2;
-
-pub(crate) const IN_STMTS: u8 = 3;
-
-pub(crate) const IN_COND: u8 = 4;
+ghost use Rattle.reader.specs.Machine.{asState, outside, moved, oneMore, stepModule, stepLine, stepSimple, stepCond, mayBranch, isComplete, stepStmts, stepTo, stepRefused, endOfStmts, stepEnd, stepRow};
 
 const MAX_LINES: usize = 1024;
 
@@ -264,25 +258,15 @@ fn step_to(s: State) -> Step
     Step::Refused(2)
 }
 
-// `(to N)` with a bad number: 3 only where a branch may stand.
-fn step_bad_to(s: State) -> Step
-    ensures { λ r. ⌜ r ≡ stepBadTo s ⌝ }
+// A row that is refused by this number where it is due, and there only where a branch may follow. Outside of branches both counts are 0, and one may.
+fn step_refused(s: State, number: u8, due: u8) -> Step
+    ensures { λ r. ⌜ r ≡ stepRefused s number due ⌝ }
 {
-    if s.position == IN_COND {
+    if s.position == due {
         if may_branch(s.word, s.branches) {
-            return Step::Refused(3);
+            return Step::Refused(number);
         }
         return Step::Refused(2);
-    }
-    Step::Refused(2)
-}
-
-// A row with a bad number or name: 3 only where such a row is due.
-fn invalid_at(s: State, position: u8) -> Step
-    ensures { λ r. ⌜ r ≡ invalidAt s position ⌝ }
-{
-    if s.position == position {
-        return Step::Refused(3);
     }
     Step::Refused(2)
 }
@@ -332,15 +316,12 @@ pub(crate) fn step_row(s: State, row: Row) -> Step
     ensures { λ r. ⌜ r ≡ stepRow s row ⌝ }
 {
     match row {
-        Row::NoForm => Step::Refused(2),
+        Row::Refused { number, due } => step_refused(s, number, due),
         Row::End => step_end(s),
         Row::Stmts => step_stmts(s),
         Row::Module(h) => step_module(s, h),
-        Row::InvalidLine => invalid_at(s, IN_MODULE),
         Row::Line(n) => step_line(s, n),
-        Row::InvalidTo => step_bad_to(s),
         Row::To(_) => step_to(s),
-        Row::InvalidSimple => invalid_at(s, IN_STMTS),
         Row::Simple { word: _, count } => step_simple(s, count),
         Row::Cond(k) => step_cond(s, k),
     }

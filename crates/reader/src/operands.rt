@@ -18,9 +18,9 @@ use tokens::words::NEXT;
 use tokens::words::kind_of;
 
 // How many arguments a statement has, and FOR's tier or NEXT's mark.
-pub struct Given {
-    pub count: usize,
-    pub detail: u16,
+pub(crate) struct Given {
+    pub(crate) count: usize,
+    pub(crate) detail: u16,
 }
 
 fn wide(x: u16) -> u64
@@ -33,8 +33,7 @@ fn number_answer(p: ParsedNumber) -> u64
     ensures { λ r. ⌜ r ≡ numberAnswer p ⌝ }
 {
     match p {
-        ParsedNumber::Malformed => 0,
-        ParsedNumber::Invalid => 0,
+        ParsedNumber::Refused(_) => 0,
         ParsedNumber::Value(v) => wide(v),
     }
 }
@@ -44,7 +43,7 @@ fn key_answer(k: NameKey) -> u64
     ensures { λ r. ⌜ r ≡ keyAnswer k ⌝ }
 {
     match k {
-        NameKey::NoName => 0,
+        NameKey::Refused(_) => 0,
         NameKey::Key(v) => v,
     }
 }

@@ -21,21 +21,29 @@ ghost use mathlib.Core.Path.{_≡_};
 ghost use Prim.Native.Nat.{_-_, _<_};
 ghost use Rattle.listings.specs.Rows.{split, moduleContent, formRow, rowOf, contentOf};
 ghost use Rattle.listings.specs.WordTable.{kindAt};
-ghost use Rattle.reader.specs.CodedRows.{asRow, simpleBy, toByNumber, lineByNumber, argsRow, bareRow, wordsEnd};
+ghost use Rattle.reader.specs.CodedRows.{asRow, refusedRow, simpleBy, toByNumber, lineByNumber, argsRow, bareRow, wordsEnd};
 ghost use Rattle.reader.specs.AcceptedRows.{WellFormed, uncounted};
 
-// NoForm is refused by 2 wherever it stands, the invalid ones by 3 where such a row is due.
+// Where a row stands.
+pub(crate) const BEGIN: u8 = 0;
+
+pub(crate) const IN_MODULE: u8 = 1;
+
+pub(crate) const ENDED: u8 = 2;
+
+pub(crate) const IN_STMTS: u8 = 3;
+
+pub(crate) const IN_COND: u8 = 4;
+
+// Refused: document 01's number where such a row is due, elsewhere 2. What is no form is 2 wherever it stands; its due is IN_STMTS.
 // word: the number of the opening word; count: how many numbers or slots. Cond: 0 IF, 1 IFELSE, 2 RCOMP.
-pub enum Row {
-    NoForm,
+pub(crate) enum Row {
+    Refused { number: u8, due: u8 },
     End,
     Stmts,
     Module(bool),
-    InvalidLine,
     Line(u16),
-    InvalidTo,
     To(u16),
-    InvalidSimple,
     Simple { word: usize, count: usize },
     Cond(usize),
 }
@@ -43,24 +51,36 @@ pub enum Row {
 fn simple_row(k: usize, t: ArgCheck) -> Row
     ensures { λ r. ⌜ r ≡ simpleBy k t ⌝ }
 {
-    if t.severity == 0 {
+    if t.refusal == 0 {
         return Row::Simple {
             word: k,
             count: t.count,
         };
     }
-    if t.severity == 1 {
-        return Row::InvalidSimple;
+    Row::Refused {
+        number: t.refusal,
+        due: IN_STMTS,
     }
-    Row::NoForm
+}
+
+// A row with a number that is refused.
+fn refused_row(number: u8, due: u8) -> Row
+    ensures { λ r. ⌜ r ≡ refusedRow number due ⌝ }
+{
+    if number == 2 {
+        return Row::Refused {
+            number: 2,
+            due: IN_STMTS,
+        };
+    }
+    Row::Refused { number, due }
 }
 
 fn to_row(n: ParsedNumber) -> Row
     ensures { λ r. ⌜ r ≡ toByNumber n ⌝ }
 {
     match n {
-        ParsedNumber::Malformed => Row::NoForm,
-        ParsedNumber::Invalid => Row::InvalidTo,
+        ParsedNumber::Refused(k) => refused_row(k, IN_COND),
         ParsedNumber::Value(v) => Row::To(v),
     }
 }
@@ -69,8 +89,7 @@ fn line_row(n: ParsedNumber) -> Row
     ensures { λ r. ⌜ r ≡ lineByNumber n ⌝ }
 {
     match n {
-        ParsedNumber::Malformed => Row::NoForm,
-        ParsedNumber::Invalid => Row::InvalidLine,
+        ParsedNumber::Refused(k) => refused_row(k, IN_MODULE),
         ParsedNumber::Value(v) => Row::Line(v),
     }
 }
@@ -80,7 +99,10 @@ fn module_row(s: &[u8]) -> Row
     ensures { λ r. ⌜ r ≡ asRow (moduleContent (split 32 (now (s .entry)))) ⌝ }
 {
     if find(s, 32) < s.len() {
-        return Row::NoForm;
+        return Row::Refused {
+            number: 2,
+            due: IN_STMTS,
+        };
     }
     if equal(b"0", s) {
         return Row::Module(false);
@@ -88,7 +110,10 @@ fn module_row(s: &[u8]) -> Row
     if equal(b"1", s) {
         return Row::Module(true);
     }
-    Row::NoForm
+    Row::Refused {
+        number: 2,
+        due: IN_STMTS,
+    }
 }
 
 // A form with words after its opening word.
@@ -108,7 +133,10 @@ fn args_row(k: usize, closed: bool, s: &[u8]) -> Row
     if kind == LINE {
         return line_row(single_number(s));
     }
-    Row::NoForm
+    Row::Refused {
+        number: 2,
+        due: IN_STMTS,
+    }
 }
 
 // IF, IFELSE and RCOMP are the opening words 2 to 4.
@@ -136,7 +164,10 @@ fn bare_row(k: usize, closed: bool) -> Row
         if kind == RUN {
             return Row::Simple { word: k, count: 0 };
         }
-        return Row::NoForm;
+        return Row::Refused {
+            number: 2,
+            due: IN_STMTS,
+        };
     }
     if kind == STMTS {
         return Row::Stmts;
@@ -144,7 +175,10 @@ fn bare_row(k: usize, closed: bool) -> Row
     if kind == COND {
         return cond_row(k);
     }
-    Row::NoForm
+    Row::Refused {
+        number: 2,
+        due: IN_STMTS,
+    }
 }
 
 // What stands between the brackets; closed: the row had its closing one.
@@ -152,7 +186,10 @@ fn form_row(s: &[u8], closed: bool) -> Row
     ensures { λ r. ⌜ r ≡ asRow (contentOf (formRow closed (split 32 (now (s .entry))))) ⌝ }
 {
     if !are_words(s) {
-        return Row::NoForm;
+        return Row::Refused {
+            number: 2,
+            due: IN_STMTS,
+        };
     }
     let e = find(s, 32);
     let k = word_of(&s[0..e]);
@@ -174,18 +211,25 @@ fn words_end(n: usize, closed: bool) -> usize
     n
 }
 
-pub fn row_of(s: &[u8]) -> Row
+// What a row says.
+pub(crate) fn row_of(s: &[u8]) -> Row
     ensures { λ r. ⌜ r ≡ asRow (contentOf (rowOf (now (s .entry)))) ⌝ }
 {
     let n = s.len();
     if n == 0 {
-        return Row::NoForm;
+        return Row::Refused {
+            number: 2,
+            due: IN_STMTS,
+        };
     }
     if s[0] != 40 {
         if equal(s, b")") {
             return Row::End;
         }
-        return Row::NoForm;
+        return Row::Refused {
+            number: 2,
+            due: IN_STMTS,
+        };
     }
     let last = n - 1;
     let closed = s[last] == 41;

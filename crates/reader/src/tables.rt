@@ -36,16 +36,17 @@ pub const COUNT: usize = 10;
 pub const DETAIL: usize = 11;
 
 // What is known of a statement when its row is read; the entries between end and count are its branches, not read yet.
-pub struct Entry {
-    pub word: u16,
-    pub line: u16,
-    pub holder: u16,
-    pub index: u16,
-    pub end: u16,
-    pub count: u16,
-    pub detail: u16,
+pub(crate) struct Entry {
+    pub(crate) word: u16,
+    pub(crate) line: u16,
+    pub(crate) holder: u16,
+    pub(crate) index: u16,
+    pub(crate) end: u16,
+    pub(crate) count: u16,
+    pub(crate) detail: u16,
 }
 
+// Every entry 0.
 pub fn zero16(t: &mut [u16])
     ensures { λ _. ⌜ now (t .exit) ≡ replicate (length (now (t .entry))) 0 ⌝ }
 {
@@ -56,6 +57,7 @@ pub fn zero16(t: &mut [u16])
     }
 }
 
+// The same of an argument table.
 pub fn zero64(t: &mut [u64])
     ensures { λ _. ⌜ now (t .exit) ≡ replicate (length (now (t .entry))) 0 ⌝ }
 {
@@ -67,7 +69,7 @@ pub fn zero64(t: &mut [u64])
 }
 
 // The used counts; those of the edges and of the return targets are not the reader's.
-pub fn put_counts(counts: &mut [u32; 5], lines: u32, stmts: u32, handlers: u32)
+pub(crate) fn put_counts(counts: &mut [u32; 5], lines: u32, stmts: u32, handlers: u32)
     ensures { λ _. ⌜ now (counts .exit) ≡ lines ∷ stmts ∷ handlers ∷ 0 ∷ 0 ∷ [] ⌝ }
 {
     *counts = [lines, stmts, handlers, 0, 0];

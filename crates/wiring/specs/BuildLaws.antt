@@ -10,11 +10,11 @@ use lib.ListN.{length, replicate, length-replicate}
 use Rattle.listings.specs.Bytes.{pick}
 use Rattle.listings.specs.Listing.{Listing, total, count}
 use Rattle.listings.specs.Read.{Answer, listing, refusal, read}
-use Rattle.listings.specs.Records.{ReadAnswer, accepted, lineNumbers, lineRecs, recRows, argRows, padded, countsOf, refused as notRead, fitted as readFitted, answerOf as readAnswer, tableOf as readTable}
+use Rattle.listings.specs.Records.{lineNumbers, lineRecs, recRows, argRows, padded, countsOf, fitted as readFitted, answerOf as readAnswer, tableOf as readTable}
 use Rattle.reader.specs.Tables.{padded-length}
 use Rattle.reader.specs.Listed.{lineEntries, stmtEntries, argEntries}
 use Rattle.reader.specs.declared.listing.Listed.{Listed}
-use Rattle.reader.specs.ReadBack.{was-accepted, was-refused}
+use Rattle.reader.specs.Answer.{was-accepted, was-refused}
 use Rattle.reader.specs.declared.listing.Listed.the-variants as listed
 use Rattle.graph.specs.Build.{Capacity, Built, graph, refused, edgeCount, fitted, builtOf, build}
 use Rattle.passes.specs.HoldsListing.{HoldsListing}
@@ -26,9 +26,9 @@ use Rattle.wiring.specs.declared.build.Built.the-variants as answer
 
 -- ---- the definition's answer, by the reader's
 
-abbrev pub afterReading : ℕ → ReadAnswer → Built
-afterReading k (accepted L) = edgesFitted k L
-afterReading k (notRead n p) = refused n p
+abbrev pub afterReading : ℕ → Answer → Built
+afterReading k (listing L) = edgesFitted k L
+afterReading k (refusal n p) = refused n p
 
 pub build-read : (c : Capacity) (text : List ℕ) → build c text ≡ afterReading (c .edges) (readBy (c .lines) (c .nodes) text)
 unfolding build builtOf readAnswer fitted readFitted edgesFitted
@@ -36,7 +36,7 @@ build-read c text = go (read text)
   where
     by : (L : Listing) (x y : Bool)
         → pick x (pick y (pick (leb (edgeCount L) (c .edges) && leb (edgeCount L) 32768) (graph L) (refused 23 (edgeCount L))) (refused 22 (total (L .lines)))) (refused 21 (count (L .lines)))
-        ≡ afterReading (c .edges) (pick x (pick y (pick y (accepted L) (notRead 22 (total (L .lines)))) (notRead 22 (total (L .lines)))) (notRead 21 (count (L .lines))))
+        ≡ afterReading (c .edges) (pick x (pick y (pick y (listing L) (refusal 22 (total (L .lines)))) (refusal 22 (total (L .lines)))) (refusal 21 (count (L .lines))))
     by L true true = refl
     by L true false = refl
     by L false y = refl
@@ -105,7 +105,7 @@ module _ (text lines stmts args entries falls links lists returns succ pred : Li
   abbrev N : ℕ
   N = stmtRoom (length stmts) (length args) (length falls) (length links) (length lists) (length returns)
 
-  by-reading : (b : ReadAnswer) → readBy K N text ≡ b → build (capacity S) text ≡ afterReading (min (length succ) (length pred)) b
+  by-reading : (b : Answer) → readBy K N text ≡ b → build (capacity S) text ≡ afterReading (min (length succ) (length pred)) b
   by-reading b e = ap (λ (c : Capacity). build c text) (capacity-is S) ∙ build-read _ text ∙ ap (afterReading (min (length succ) (length pred))) e
 
   pub rooms-fit : (K ≤ length lines) × (N * 12 ≤ length stmts) × (N * 64 ≤ length args)
@@ -120,12 +120,12 @@ module _ (text lines stmts args entries falls links lists returns succ pred : Li
     unfolding readTable
     build-refused n at w =
         let q = was-refused (readBy K N text) n at (w .answer) in
-        let b : build (capacity S) text ≡ refused n at = by-reading (notRead n at) q in
+        let b : build (capacity S) text ≡ refused n at = by-reading (refusal n at) q in
         rw b (refusal-writes n at S (tablesOf c l t a e f k i r u p) (record {
-          counts = w .counts ∙ ap (λ (z : ReadAnswer). readTable countsOf z 5) q;
-          lines = w .lines ∙ ap (λ (z : ReadAnswer). readTable lineEntries z (length lines)) q;
-          stmts = w .stmts ∙ ap (λ (z : ReadAnswer). readTable stmtEntries z (length stmts)) q;
-          args = w .args ∙ ap (λ (z : ReadAnswer). readTable argEntries z (length args)) q;
+          counts = w .counts ∙ ap (λ (z : Answer). readTable countsOf z 5) q;
+          lines = w .lines ∙ ap (λ (z : Answer). readTable lineEntries z (length lines)) q;
+          stmts = w .stmts ∙ ap (λ (z : Answer). readTable stmtEntries z (length stmts)) q;
+          args = w .args ∙ ap (λ (z : Answer). readTable argEntries z (length args)) q;
           entries = ze;
           falls = zf;
           links = zk;
@@ -136,25 +136,25 @@ module _ (text lines stmts args entries falls links lists returns succ pred : Li
         }))
 
     module _ (h : Bool) (x n : ℕ) (w : FittingRead text K N (length lines) (length stmts) (length args) c l t a (listed.Accepted h x n)) (L₀ : Listing)
-        (found : (readBy K N text ≡ accepted L₀) × (h ≡ L₀ .handlers) × (x ≡ count (L₀ .lines)) × (n ≡ total (L₀ .lines))) where
+        (found : (readBy K N text ≡ listing L₀) × (h ≡ L₀ .handlers) × (x ≡ count (L₀ .lines)) × (n ≡ total (L₀ .lines))) where
       fits : Fits text K N L₀
       fits = read-fits text K N L₀ (found .0)
 
       l-is : l ≡ padded (length lines) (lineNumbers (L₀ .lines))
       unfolding readTable lineEntries
-      l-is = w .lines ∙ ap (λ (z : ReadAnswer). readTable lineEntries z (length lines)) (found .0)
+      l-is = w .lines ∙ ap (λ (z : Answer). readTable lineEntries z (length lines)) (found .0)
 
       t-is : t ≡ padded (length stmts) (recRows (lineRecs (L₀ .lines)))
       unfolding readTable stmtEntries
-      t-is = w .stmts ∙ ap (λ (z : ReadAnswer). readTable stmtEntries z (length stmts)) (found .0)
+      t-is = w .stmts ∙ ap (λ (z : Answer). readTable stmtEntries z (length stmts)) (found .0)
 
       a-is : a ≡ padded (length args) (argRows (lineRecs (L₀ .lines)))
       unfolding readTable argEntries
-      a-is = w .args ∙ ap (λ (z : ReadAnswer). readTable argEntries z (length args)) (found .0)
+      a-is = w .args ∙ ap (λ (z : Answer). readTable argEntries z (length args)) (found .0)
 
       c-is : c ≡ padded 5 (countsOf L₀)
       unfolding readTable
-      c-is = w .counts ∙ ap (λ (z : ReadAnswer). readTable countsOf z 5) (found .0)
+      c-is = w .counts ∙ ap (λ (z : Answer). readTable countsOf z 5) (found .0)
 
       room : StmtsFit N (length stmts) (length args) (length falls) (length links) (length lists) (length returns)
       room = room-fits N (length stmts) (length args) (length falls) (length links) (length lists) (length returns) (omega arith)
@@ -226,7 +226,7 @@ module _ (text lines stmts args entries falls links lists returns succ pred : Li
       made : (c′ l′ t′ a′ e′ f′ k′ i′ r′ u′ p′ : List ℕ) (y : BuiltAnswer) → GraphMade h x n l t a (sizesOf l t a e f k i r u p) c′ l′ t′ a′ e′ f′ k′ i′ r′ u′ p′ y
           → Answered (build (capacity S) text) S c′ l′ t′ a′ e′ f′ k′ i′ r′ u′ p′ y
       made c′ l′ t′ a′ e′ f′ k′ i′ r′ u′ p′ y g =
-          let b : build (capacity S) text ≡ edgesFitted (min (length succ) (length pred)) L₀ = by-reading (accepted L₀) (found .0) in
+          let b : build (capacity S) text ≡ edgesFitted (min (length succ) (length pred)) L₀ = by-reading (listing L₀) (found .0) in
           rw b (subst (λ (s : Sizes). Answered (edgesFitted (min (s .succ) (s .pred)) L₀) s c′ l′ t′ a′ e′ f′ k′ i′ r′ u′ p′ y) same-sizes (g L₀ holds (found .1)))
 
     module _ (h : Bool) (x n : ℕ) (w : FittingRead text K N (length lines) (length stmts) (length args) c l t a (listed.Accepted h x n)) where

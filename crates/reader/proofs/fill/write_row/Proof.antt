@@ -13,7 +13,7 @@ enum-told-2 c = search needs
 
 end-row-requires : tie.Need-end-row-requires
 end-row-requires c κs =
-    let a = c .before .before .before .before .before .before .before in
+    let a : tie.Start = search in
     subst (Ready (a .args .lines .now) (a .args .stmts .now) (a .args .args .now) (a .args .s) (a .args .w) (a .args .text .now)) (c .before .enum-told2 .given .1) (a .pre)
 
 enum-told-3 : tie.Need-enum-told-3
@@ -22,37 +22,28 @@ enum-told-3 c = search needs
 enum-told-4 : tie.Need-enum-told-4
 enum-told-4 c = search needs
 
-enum-told-5 : tie.Need-enum-told-5
-enum-told-5 c = search needs
-
 enum-known-row : tie.Need-enum-known-row
 enum-known-row c = search needs
 
 add-line-requires : tie.Need-add-line-requires
 add-line-requires c κs =
-    let a = c .before .before .before .before .before .before .before .before in
+    let a : tie.Start = search in
     subst (Ready (a .args .lines .now) (a .args .stmts .now) (a .args .args .now) (a .args .s) (a .args .w) (a .args .text .now)) (c .before .before .row .given .1) (a .pre)
-
-enum-told-6 : tie.Need-enum-told-6
-enum-told-6 c = search needs
 
 enum-known-row-2 : tie.Need-enum-known-row-2
 enum-known-row-2 c = search needs
 
 to-row-requires : tie.Need-to-row-requires
 to-row-requires c κs =
-    let a = c .before .before .before .before .before .before .before .before in
+    let a : tie.Start = search in
     subst (Ready (a .args .lines .now) (a .args .stmts .now) (a .args .args .now) (a .args .s) (a .args .w) (a .args .text .now)) (c .before .before .row2 .given .1) (a .pre)
-
-enum-told-7 : tie.Need-enum-told-7
-enum-told-7 c = search needs
 
 enum-known-row-3 : tie.Need-enum-known-row-3
 enum-known-row-3 c = search needs
 
 add-simple-requires : tie.Need-add-simple-requires
 add-simple-requires c κs =
-    let a = c .before .before .before .before .before .before .before .before .before in
+    let a : tie.Start = search in
     subst (Ready (a .args .lines .now) (a .args .stmts .now) (a .args .args .now) (a .args .s) (a .args .w) (a .args .text .now)) (c .before .before .before .row3 .given .1) (a .pre)
 
 enum-known-row-4 : tie.Need-enum-known-row-4
@@ -60,7 +51,7 @@ enum-known-row-4 c = search needs
 
 add-cond-requires : tie.Need-add-cond-requires
 add-cond-requires c κs =
-    let a = c .before .before .before .before .before .before .before .before in
+    let a : tie.Start = search in
     subst (Ready (a .args .lines .now) (a .args .stmts .now) (a .args .args .now) (a .args .s) (a .args .w) (a .args .text .now)) (c .before .before .row4 .given .1) (a .pre)
 
 returns : tie.Need-returns
@@ -78,26 +69,17 @@ returns-3 c = wrote-as (c .enum-told3 .given .1) (record { walk = refl; lines = 
 returns-4 : tie.Need-returns-4
 returns-4 c = wrote-as (c .enum-told4 .given .1) (record { walk = refl; lines = refl; stmts = refl; args = refl })
 
-returns-5 : tie.Need-returns-5
-returns-5 c = wrote-as (c .enum-told5 .given .1) (record { walk = refl; lines = refl; stmts = refl; args = refl })
-
 same-length-2 : tie.Need-same-length-2
 same-length-2 c = search needs
 
-returns-6 : tie.Need-returns-6
-returns-6 c = let p = c .before .before .add-line .ensures in wrote-as (c .before .before .before .before .before .row .given .1) (record { walk = p .0; lines = p .1; stmts = refl; args = refl })
-
-returns-7 : tie.Need-returns-7
-returns-7 c = wrote-as (c .enum-told6 .given .1) (record { walk = refl; lines = refl; stmts = refl; args = refl })
+returns-5 : tie.Need-returns-5
+returns-5 c = let p = c .before .before .add-line .ensures in wrote-as (c .before .before .before .before .before .row .given .1) (record { walk = p .0; lines = p .1; stmts = refl; args = refl })
 
 same-length-3 : tie.Need-same-length-3
 same-length-3 c = search needs
 
-returns-8 : tie.Need-returns-8
-returns-8 c = let p = c .before .before .to-row .ensures in wrote-as (c .before .before .before .before .before .row2 .given .1) (record { walk = p .0; lines = refl; stmts = p .1; args = refl })
-
-returns-9 : tie.Need-returns-9
-returns-9 c = wrote-as (c .enum-told7 .given .1) (record { walk = refl; lines = refl; stmts = refl; args = refl })
+returns-6 : tie.Need-returns-6
+returns-6 c = let p = c .before .before .to-row .ensures in wrote-as (c .before .before .before .before .before .row2 .given .1) (record { walk = p .0; lines = refl; stmts = p .1; args = refl })
 
 same-length-4 : tie.Need-same-length-4
 same-length-4 c = search needs
@@ -105,14 +87,14 @@ same-length-4 c = search needs
 same-length-5 : tie.Need-same-length-5
 same-length-5 c = search needs
 
-returns-10 : tie.Need-returns-10
-returns-10 c = let p = c .before .before .before .before .add-simple .ensures in wrote-as (c .before .before .before .before .before .before .before .before .row3 .given .1) (record { walk = p .walk; lines = refl; stmts = p .stmts; args = p .args })
+returns-7 : tie.Need-returns-7
+returns-7 c = let p = c .before .before .before .before .add-simple .ensures in wrote-as (c .before .before .before .before .before .before .before .before .row3 .given .1) (record { walk = p .walk; lines = refl; stmts = p .stmts; args = p .args })
 
 same-length-6 : tie.Need-same-length-6
 same-length-6 c = search needs
 
-returns-11 : tie.Need-returns-11
-returns-11 c = let p = c .before .before .add-cond .ensures in wrote-as (c .before .before .before .before .before .row4 .given .1) (record { walk = p .0; lines = refl; stmts = p .1; args = refl })
+returns-8 : tie.Need-returns-8
+returns-8 c = let p = c .before .before .add-cond .ensures in wrote-as (c .before .before .before .before .before .row4 .given .1) (record { walk = p .0; lines = refl; stmts = p .1; args = refl })
 
 pub write-row-spec : {M : Type 1} → statement M
 write-row-spec =
@@ -123,13 +105,10 @@ write-row-spec =
     end-row-requires
     enum-told-3
     enum-told-4
-    enum-told-5
     enum-known-row
     add-line-requires
-    enum-told-6
     enum-known-row-2
     to-row-requires
-    enum-told-7
     enum-known-row-3
     add-simple-requires
     enum-known-row-4
@@ -139,15 +118,12 @@ write-row-spec =
     returns-2
     returns-3
     returns-4
-    returns-5
     same-length-2
-    returns-6
-    returns-7
+    returns-5
     same-length-3
-    returns-8
-    returns-9
+    returns-6
     same-length-4
     same-length-5
-    returns-10
+    returns-7
     same-length-6
-    returns-11)
+    returns-8)

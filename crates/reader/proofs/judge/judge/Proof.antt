@@ -5,7 +5,8 @@ use mathlib.Core.Path.{_∙_, ap, sym}
 use Prim.Native.Nat.{_-_, _≤_, suc}
 use lib.ListN.{length}
 use Rattle.reader.specs.Machine.{stepRow}
-use Rattle.reader.specs.Judge.{Follows, follows-bounded, follows-last, follows-refused, follows-start, follows-taken, read-long, verdictOf}
+use Rattle.reader.specs.Answer.{listedOf}
+use Rattle.reader.specs.Judge.{Follows, follows-bounded, follows-last, follows-refused, follows-start, follows-taken, read-long}
 use Rattle.reader.proofs.judge.judge.Statement.{statement}
 use Rattle.reader.proofs.judge.judge.Tie as tie
 
@@ -16,8 +17,8 @@ abbrev μ-loop : tie.MeasureT-loop
 μ-loop text s₀ at₀ i₀ s at i = suc (length text) - at
 
 returns : tie.Need-returns Inv-loop μ-loop
-unfolding verdictOf
-returns c = ap verdictOf (sym (read-long (c .before .before .args .text .now) (omega arith)))
+unfolding listedOf
+returns c = ap listedOf (sym (read-long (c .before .before .args .text .now) (omega arith)))
 
 start-state-requires : tie.Need-start-state-requires Inv-loop μ-loop
 start-state-requires c κs = search needs

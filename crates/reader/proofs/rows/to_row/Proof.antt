@@ -1,27 +1,25 @@
 -- `to_row`: by the number that was read. Assumes nothing.
 use borrow.Author.Needs.{needs}
-use mathlib.Core.Path.{ap, sym}
+use mathlib.Core.Path.{_∙_, ap, sym}
 use Rattle.reader.specs.CodedRows.{toByNumber}
 use Rattle.reader.proofs.rows.to_row.Statement.{statement}
 use Rattle.reader.proofs.rows.to_row.Tie as tie
 
-enum-told : tie.Need-enum-told
-enum-told c = search needs
-
-enum-told-2 : tie.Need-enum-told-2
-enum-told-2 c = search needs
-
 enum-known-n : tie.Need-enum-known-n
 enum-known-n c = search needs
 
+refused-row-requires : tie.Need-refused-row-requires
+refused-row-requires c κs = search needs
+
+enum-known-n-2 : tie.Need-enum-known-n-2
+enum-known-n-2 c = search needs
+
 returns : tie.Need-returns
-returns c = search needs
+returns c = c .refused-row .ensures ∙ sym (ap toByNumber (c .before .before .n .given .1))
 
 returns-2 : tie.Need-returns-2
-returns-2 c = search needs
-
-returns-3 : tie.Need-returns-3
-returns-3 c = sym (ap toByNumber (c .before .n .given .1))
+returns-2 c = sym (ap toByNumber (c .before .n2 .given .1))
 
 pub to-row-spec : {M : Type 1} → statement M
-to-row-spec = tie.close (tie.spec enum-told enum-told-2 enum-known-n returns returns-2 returns-3)
+to-row-spec =
+    tie.close (tie.spec enum-known-n refused-row-requires enum-known-n-2 returns returns-2)
