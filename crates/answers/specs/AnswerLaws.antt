@@ -12,11 +12,11 @@ use borrow.Author.Tests.{eq-eqb, ne-eqb, lt-ltb, le-ltb, le-leb, lt-leb}
 use Rattle.listings.specs.Bytes.{bytes, pick}
 use Rattle.listings.specs.Listing.{Name}
 use Rattle.listings.specs.Records.{padded}
-use Rattle.listings.specs.Rows.{split, rowOf, Parse, malformed, invalid, parsed, mapParse, withParse, parseNumber, parseNumbers, orMalformed, lookup, handlerFacts, single}
+use Rattle.listings.specs.Rows.{split, rowOf, Parse, malformed, invalid, parsed, refusalOf, mapParse, withParse, parseNumber, parseNumbers, orMalformed, lookup, handlerFacts, single}
 use Rattle.listings.specs.Read.{taken, orRefused, check}
 use Rattle.listings.specs.Scan.{split-some}
 use Rattle.tokens.specs.Numbers.{asNumber}
-use Rattle.tokens.specs.Arguments.{severityOf, severityBy, worst, worstOf, argCheck, severity-with, numbers-severity}
+use Rattle.tokens.specs.Arguments.{refusalBy, lowest, lowestOf, argCheck, refusal-with, numbers-refusal}
 use Rattle.reader.specs.Operands.{numberEntry, entryBy}
 use Rattle.tokens.specs.declared.numbers.ParsedNumber.{ParsedNumber}
 use Rattle.tokens.specs.declared.numbers.ParsedNumber.the-variants as number
@@ -87,23 +87,10 @@ module _ (c t a f i u : List ℕ) (h n : ℕ) (v : Name) (g : Bool) (o o′ : Li
 
 -- ---- the numbers of a path
 
-severity-2 : {A : Type 0} (p : Parse A) → severityOf p ≡ 2 → p ≡ malformed
-unfolding severityOf
-severity-2 malformed h = refl
-severity-2 invalid h = absurd (omega arith)
-severity-2 (parsed a) h = absurd (omega arith)
-
-severity-1 : {A : Type 0} (p : Parse A) → severityOf p ≡ 1 → p ≡ invalid
-unfolding severityOf
-severity-1 malformed h = absurd (omega arith)
-severity-1 invalid h = refl
-severity-1 (parsed a) h = absurd (omega arith)
-
-severity-0 : {A : Type 0} (p : Parse A) → (severityOf p ≡ 2 → ⊥) → (severityOf p ≡ 1 → ⊥) → (a : A) × (p ≡ parsed a)
-unfolding severityOf
-severity-0 malformed h k = absurd (h refl)
-severity-0 invalid h k = absurd (k refl)
-severity-0 (parsed a) h k = (a, refl)
+not-refused : {A : Type 0} (p : Parse A) → refusalOf p ≡ 0 → (a : A) × (p ≡ parsed a)
+not-refused malformed h = absurd (omega arith)
+not-refused invalid h = absurd (omega arith)
+not-refused (parsed a) h = (a, refl)
 
 with-parsed : {A B C : Type 0} (f : A → B → C) (p : Parse A) (q : Parse B) (r : C) → withParse f p q ≡ parsed r → (a : A) × (b : B) × (p ≡ parsed a) × (q ≡ parsed b) × (r ≡ f a b)
 unfolding withParse
@@ -137,21 +124,20 @@ path-is (l ∷ ws) q e =
     let y : map (entryBy false) ws ≡ d .1 = numbers-are ws (d .1) (d .3) in
     rw (x, y) (d .4)
 
-path-severity : (ws : List (List ℕ)) → 0 < length ws → severityOf (pathQuestion ws) ≡ worstOf (severityBy false) ws
-unfolding pathQuestion worstOf severityBy
-path-severity [] h = absurd (not-suc-le-zero h)
-path-severity (l ∷ ws) h = severity-with ofPath (parseNumber l) (parseNumbers ws) ∙ ap (worst (severityOf (parseNumber l))) (numbers-severity ws)
+path-refusal : (ws : List (List ℕ)) → 0 < length ws → refusalOf (pathQuestion ws) ≡ lowestOf (refusalBy false) ws
+unfolding pathQuestion lowestOf refusalBy
+path-refusal [] h = absurd (not-suc-le-zero h)
+path-refusal (l ∷ ws) h = refusal-with ofPath (parseNumber l) (parseNumbers ws) ∙ ap (lowest (refusalOf (parseNumber l))) (numbers-refusal ws)
 
 -- ---- what a row says, answered
 
 module _ (f : Question → List ℕ) (k : ℕ) where
-  pub refused-2 : (p : Parse Question) → p ≡ malformed → printedRefusal 2 k ≡ outcomeRow f k (orRefused p short)
+  -- by document 01's number
+  pub refused-by : (p : Parse Question) (n : ℕ) → 0 < n → refusalOf p ≡ n → printedRefusal n k ≡ outcomeRow f k (orRefused p short)
   unfolding outcomeRow orRefused
-  refused-2 p e = rw e
-
-  pub refused-3 : (p : Parse Question) → p ≡ invalid → printedRefusal 3 k ≡ outcomeRow f k (orRefused p short)
-  unfolding outcomeRow orRefused
-  refused-3 p e = rw e
+  refused-by malformed n h e = ap (λ (m : ℕ). printedRefusal m k) (sym e)
+  refused-by invalid n h e = ap (λ (m : ℕ). printedRefusal m k) (sym e)
+  refused-by (parsed q) n h e = absurd (omega arith)
 
   asked-frame : (p : Parse Question) (h i : ℕ) (v : Name) (g : Bool) → p ≡ parsed (ofFrame h i v g) → f (ofFrame h i v g) ≡ outcomeRow f k (orRefused p short)
   unfolding outcomeRow orRefused short check pathLength
@@ -165,32 +151,29 @@ module _ (f : Question → List ℕ) (k : ℕ) where
       go true = refl
       go false = refl
 
-  -- the words of a path, n of them, with their severity
-  module _ (s : List ℕ) (x : ArgCheck) (e : x ≡ argCheck (worstOf (severityBy false) (split 32 s)) (length (split 32 s))) where
+  -- the words of a path, as they were judged
+  module _ (s : List ℕ) (x : ArgCheck) (e : x ≡ argCheck (lowestOf (refusalBy false) (split 32 s)) (length (split 32 s))) where
     abbrev ws : List (List ℕ)
     ws = split 32 s
 
     abbrev ns : List ℕ
     ns = map (entryBy false) (split 32 s)
 
-    severity-is : x .severity ≡ severityOf (pathQuestion ws)
+    refusal-is : x .refusal ≡ refusalOf (pathQuestion ws)
     unfolding argCheck
-    severity-is = ap (λ (z : ArgCheck). z .severity) e ∙ sym (path-severity ws (split-some 32 s))
+    refusal-is = ap (λ (z : ArgCheck). z .refusal) e ∙ sym (path-refusal ws (split-some 32 s))
 
     pub count-is : x .count ≡ length (split 32 s)
     unfolding argCheck
     count-is = ap (λ (z : ArgCheck). z .count) e
 
-    pub path-2 : x .severity ≡ 2 → printedRefusal 2 k ≡ outcomeRow f k (orRefused (pathQuestion (split 32 s)) short)
-    path-2 h = refused-2 (pathQuestion ws) (severity-2 (pathQuestion ws) (sym severity-is ∙ h))
+    pub path-refused : (x .refusal ≡ 0 → ⊥) → printedRefusal (x .refusal) k ≡ outcomeRow f k (orRefused (pathQuestion (split 32 s)) short)
+    path-refused h = refused-by (pathQuestion ws) (x .refusal) (omega arith) (sym refusal-is)
 
-    pub path-3 : x .severity ≡ 1 → printedRefusal 3 k ≡ outcomeRow f k (orRefused (pathQuestion (split 32 s)) short)
-    path-3 h = refused-3 (pathQuestion ws) (severity-1 (pathQuestion ws) (sym severity-is ∙ h))
-
-    module _ (h : x .severity ≡ 2 → ⊥) (g : x .severity ≡ 1 → ⊥) where
+    module _ (h : x .refusal ≡ 0) where
       parsed-is : pathQuestion ws ≡ parsed (ofPath (getD ns 0 0) (drop 1 ns))
       parsed-is =
-          let d = severity-0 (pathQuestion ws) (λ q. h (severity-is ∙ q)) (λ q. g (severity-is ∙ q)) in
+          let d = not-refused (pathQuestion ws) (sym refusal-is ∙ h) in
           d .1 ∙ ap parsed (path-is ws (d .0) (d .1))
 
       long : length (drop 1 ns) ≡ x .count - 1
@@ -233,12 +216,12 @@ path-put c t ns r xs n x a e q h y z =
 module _ (c l t a e f i u p : List ℕ) (k w : ℕ) (s : List ℕ) where
   pub by-path : w ≡ 4 → outcomeRow (answerAt c [] t [] [] [] [] [] []) k (orRefused (pathQuestion (split 32 s)) short)
       ≡ outcomeRow (answerAt c l t a e f i u p) k (orRefused (wordQuestion (formAt w) (split 32 s)) short)
-  unfolding wordQuestion formAt formQuestion answerAt
+  unfolding wordQuestion formAt formQuestion answerAt outcomeRow orRefused
   by-path h = rw (eq-eqb w 4 h) (go (pathQuestion (split 32 s)) refl)
     where
       go : (r : Parse Question) → pathQuestion (split 32 s) ≡ r → outcomeRow (answerAt c [] t [] [] [] [] [] []) k (orRefused r short) ≡ outcomeRow (answerAt c l t a e f i u p) k (orRefused r short)
-      go malformed q = sym (refused-2 (answerAt c [] t [] [] [] [] [] []) k malformed refl) ∙ refused-2 (answerAt c l t a e f i u p) k malformed refl
-      go invalid q = sym (refused-3 (answerAt c [] t [] [] [] [] [] []) k invalid refl) ∙ refused-3 (answerAt c l t a e f i u p) k invalid refl
+      go malformed q = refl
+      go invalid q = refl
       go (parsed x) q =
           let d = ap parsed (path-is (split 32 s) x q) in
           asked-path (answerAt c [] t [] [] [] [] [] []) k (parsed x) _ _ d ∙ sym (asked-path (answerAt c l t a e f i u p) k (parsed x) _ _ d)
@@ -256,12 +239,12 @@ module _ (c l t a e f i u p : List ℕ) (k w : ℕ) (s : List ℕ) where
 
   pub by-frame : w ≡ 5 → outcomeRow (answerAt c [] t a [] f i u []) k (orRefused (frameQuestion (split 32 s)) short)
       ≡ outcomeRow (answerAt c l t a e f i u p) k (orRefused (wordQuestion (formAt w) (split 32 s)) short)
-  unfolding wordQuestion formAt formQuestion answerAt
+  unfolding wordQuestion formAt formQuestion answerAt outcomeRow orRefused
   by-frame h = rw h (go (frameQuestion (split 32 s)) refl)
     where
       go : (r : Parse Question) → frameQuestion (split 32 s) ≡ r → outcomeRow (answerAt c [] t a [] f i u []) k (orRefused r short) ≡ outcomeRow (answerAt c l t a e f i u p) k (orRefused r short)
-      go malformed q = sym (refused-2 (answerAt c [] t a [] f i u []) k malformed refl) ∙ refused-2 (answerAt c l t a e f i u p) k malformed refl
-      go invalid q = sym (refused-3 (answerAt c [] t a [] f i u []) k invalid refl) ∙ refused-3 (answerAt c l t a e f i u p) k invalid refl
+      go malformed q = refl
+      go invalid q = refl
       go (parsed x) q =
           let d = frame-is (split 32 s) x q in
           let m = ap parsed (d .4) in
@@ -269,30 +252,24 @@ module _ (c l t a e f i u p : List ℕ) (k w : ℕ) (s : List ℕ) where
 
   pub by-none : 5 < w → printedRefusal 2 k ≡ outcomeRow (answerAt c l t a e f i u p) k (orRefused (wordQuestion (formAt w) (split 32 s)) short)
   unfolding wordQuestion formAt
-  by-none h = rw (ne-eqb w 4 (λ q. omega arith), ne-eqb w 5 (λ q. omega arith), lt-ltb 5 w h) (refused-2 (answerAt c l t a e f i u p) k malformed refl)
+  by-none h = rw (ne-eqb w 4 (λ q. omega arith), ne-eqb w 5 (λ q. omega arith), lt-ltb 5 w h) (refused-by (answerAt c l t a e f i u p) k malformed 2 (omega arith) refl)
 
   module _ (n4 : w ≡ 4 → ⊥) (n5 : w ≡ 5 → ⊥) (le : w ≤ 5) where
     by-word : wordQuestion (formAt w) (split 32 s) ≡ mapParse (numberQuestion w) (single (split 32 s))
     unfolding wordQuestion formAt formQuestion
     by-word = rw (ne-eqb w 4 n4, ne-eqb w 5 n5, le-ltb 5 w le)
 
-    pub number-2 : (x : ParsedNumber) → x ≡ asNumber (single (split 32 s)) → x ≡ number.Malformed → printedRefusal 2 k ≡ outcomeRow (answerAt c l t a e f i u p) k (orRefused (wordQuestion (formAt w) (split 32 s)) short)
+    pub number-refused : (x : ParsedNumber) (n : ℕ) → x ≡ asNumber (single (split 32 s)) → x ≡ number.Refused n
+        → printedRefusal n k ≡ outcomeRow (answerAt c l t a e f i u p) k (orRefused (wordQuestion (formAt w) (split 32 s)) short)
     unfolding mapParse
-    number-2 x q h = refused-2 (answerAt c l t a e f i u p) k (wordQuestion (formAt w) (split 32 s)) (by-word ∙ go (single (split 32 s)) (sym q ∙ h))
+    number-refused x n q h =
+        let d = go (single (split 32 s)) (sym q ∙ h) in
+        refused-by (answerAt c l t a e f i u p) k (wordQuestion (formAt w) (split 32 s)) n (d .0) (ap refusalOf by-word ∙ d .1)
       where
-        go : (r : Parse ℕ) → asNumber r ≡ number.Malformed → mapParse (numberQuestion w) r ≡ malformed
-        go malformed y = refl
-        go invalid y = absurd (let z : _≡_ {A = ℕ} 0 1 = cc in omega arith)
-        go (parsed n) y = absurd (let z : _≡_ {A = ℕ} 0 1 = cc in omega arith)
-
-    pub number-3 : (x : ParsedNumber) → x ≡ asNumber (single (split 32 s)) → x ≡ number.Invalid → printedRefusal 3 k ≡ outcomeRow (answerAt c l t a e f i u p) k (orRefused (wordQuestion (formAt w) (split 32 s)) short)
-    unfolding mapParse
-    number-3 x q h = refused-3 (answerAt c l t a e f i u p) k (wordQuestion (formAt w) (split 32 s)) (by-word ∙ go (single (split 32 s)) (sym q ∙ h))
-      where
-        go : (r : Parse ℕ) → asNumber r ≡ number.Invalid → mapParse (numberQuestion w) r ≡ invalid
-        go malformed y = absurd (let z : _≡_ {A = ℕ} 0 1 = cc in omega arith)
-        go invalid y = refl
-        go (parsed n) y = absurd (let z : _≡_ {A = ℕ} 0 1 = cc in omega arith)
+        go : (r : Parse ℕ) → asNumber r ≡ number.Refused n → (0 < n) × (refusalOf (mapParse (numberQuestion w) r) ≡ n)
+        go malformed y = let z : 2 ≡ n = cc in (omega arith, z)
+        go invalid y = let z : 3 ≡ n = cc in (omega arith, z)
+        go (parsed v) y = absurd (let z : _≡_ {A = ℕ} 0 1 = cc in omega arith)
 
     no-path : (n : ℕ) → pathLength (numberQuestion w n) ≡ 0
     unfolding pathLength numberQuestion
@@ -324,7 +301,7 @@ module _ (c l t a e f i u p : List ℕ) (k w : ℕ) (s : List ℕ) where
 module _ (f : Question → List ℕ) (k : ℕ) (w : List ℕ) where
   pub row-refused : rowQuestion (rowOf w) ≡ malformed → printedRefusal 2 k ≡ rowAnswer f k w
   unfolding rowAnswer question
-  row-refused e = refused-2 f k (rowQuestion (rowOf w)) e
+  row-refused e = refused-by f k (rowQuestion (rowOf w)) 2 (omega arith) (ap refusalOf e)
 
   pub row-answered : (p : Parse Question) → rowQuestion (rowOf w) ≡ p → outcomeRow f k (orRefused p short) ≡ rowAnswer f k w
   unfolding rowAnswer question

@@ -12,9 +12,10 @@ use lib.ListN.{length, getD, take, drop, length-drop, length-take}
 use lib.Seq.{take-all, drop-drop}
 use borrow.Author.Tests.{eq-eqb, ne-eqb}
 use Rattle.listings.specs.Bytes.{bytes, same, pick}
-use Rattle.listings.specs.Rows.{split, areWords, close, bad, form, formRow, rowOf, lookup, Parse, malformed, invalid, parsed, mapParse, withParse, parseNumber, orMalformed, single, handlerFacts}
+use Rattle.listings.specs.Rows.{split, areWords, close, bad, form, formRow, rowOf, lookup, Parse, malformed, invalid, parsed, refusalOf, mapParse, withParse, parseNumber, orMalformed, single, handlerFacts}
 use Rattle.listings.specs.Scan.{indexOf, split-some, split-last, split-more, rest-all, pieceAt, next-last, next-more}
 use Rattle.tokens.specs.Numbers.{asNumber}
+use Rattle.tokens.specs.Arguments.{lowest}
 use Rattle.reader.specs.CodedRows.{closed-form, opened-form, row-other, form-true}
 use Rattle.tokens.specs.declared.numbers.ParsedNumber.{ParsedNumber}
 use Rattle.tokens.specs.declared.numbers.ParsedNumber.the-variants as number
@@ -147,20 +148,16 @@ flagOf w = pick (same (bytes "0") w) 0 (pick (same (bytes "1") w) 1 2)
 
 -- by the code's numbers
 abbrev pub wordsBy : ParsedNumber → ParsedNumber → (start end : ℕ) → Bool → FrameWords
-wordsBy number.Malformed i a e f = frame.Malformed
-wordsBy number.Invalid number.Malformed a e f = frame.Malformed
-wordsBy number.Invalid number.Invalid a e f = frame.Invalid
-wordsBy number.Invalid (number.Value y) a e f = frame.Invalid
-wordsBy (number.Value x) number.Malformed a e f = frame.Malformed
-wordsBy (number.Value x) number.Invalid a e f = frame.Invalid
+wordsBy (number.Refused n) (number.Refused m) a e f = frame.Refused (lowest n m)
+wordsBy (number.Refused n) (number.Value y) a e f = frame.Refused n
+wordsBy (number.Value x) (number.Refused m) a e f = frame.Refused m
 wordsBy (number.Value x) (number.Value y) a e f = frame.Words x y a e f
 
 abbrev pub frameBy : ParsedNumber → ParsedNumber → (start end flag : ℕ) → FrameWords
-frameBy h i a e g = pick (eqb g 2) frame.Malformed (wordsBy h i a e (eqb g 1))
+frameBy h i a e g = pick (eqb g 2) (frame.Refused 2) (wordsBy h i a e (eqb g 1))
 
 abbrev pub FrameRead : List ℕ → FrameWords → Type 0
-FrameRead s frame.Malformed = frameQuestion (split 32 s) ≡ malformed
-FrameRead s frame.Invalid = frameQuestion (split 32 s) ≡ invalid
+FrameRead s (frame.Refused n) = (0 < n) × (refusalOf (frameQuestion (split 32 s)) ≡ n)
 FrameRead s (frame.Words h i a e flag) = (a ≤ e) × (e ≤ length s) × (frameQuestion (split 32 s) ≡ parsed (ofFrame h i (take (e - a) (drop a s)) flag))
 
 -- ---- the opening word, found by one test after the other
@@ -259,13 +256,15 @@ module _ (s : List ℕ) (a b c : ℕ) (g : FourAt s a b c) where
   asks d f = ofFrame (d .0) (d .1) name f
 
   numbers-read : (p q : Parse ℕ) (f : Bool) → frameQuestion (split 32 s) ≡ withParse asks (withParse (λ x y. (x, y)) p q) (parsed f) → FrameRead s (wordsBy (asNumber p) (asNumber q) (b + 1) c f)
-  unfolding withParse
-  numbers-read malformed q f e = e
-  numbers-read invalid malformed f e = e
-  numbers-read invalid invalid f e = e
-  numbers-read invalid (parsed y) f e = e
-  numbers-read (parsed x) malformed f e = e
-  numbers-read (parsed x) invalid f e = e
+  unfolding withParse lowest
+  numbers-read malformed malformed f e = (omega arith, ap refusalOf e)
+  numbers-read malformed invalid f e = (omega arith, ap refusalOf e)
+  numbers-read malformed (parsed y) f e = (omega arith, ap refusalOf e)
+  numbers-read invalid malformed f e = (omega arith, ap refusalOf e)
+  numbers-read invalid invalid f e = (omega arith, ap refusalOf e)
+  numbers-read invalid (parsed y) f e = (omega arith, ap refusalOf e)
+  numbers-read (parsed x) malformed f e = (omega arith, ap refusalOf e)
+  numbers-read (parsed x) invalid f e = (omega arith, ap refusalOf e)
   numbers-read (parsed x) (parsed y) f e = (g .third, omega (arith, g .fourth), e)
 
   flag-read : (p q : Parse ℕ) (x y : Bool) → frameQuestion (split 32 s) ≡ withParse asks (withParse (λ x y. (x, y)) p q) (orMalformed (pick x (some false) (pick y (some true) none)))
@@ -273,7 +272,7 @@ module _ (s : List ℕ) (a b c : ℕ) (g : FourAt s a b c) where
   unfolding orMalformed
   flag-read p q true y e = numbers-read p q false e
   flag-read p q false true e = numbers-read p q true e
-  flag-read p q false false e = e ∙ with-malformed asks (withParse (λ x y. (x, y)) p q)
+  flag-read p q false false e = (omega arith, ap refusalOf (e ∙ with-malformed asks (withParse (λ x y. (x, y)) p q)))
 
   question-is : frameQuestion (split 32 s)
       ≡ withParse asks (withParse (λ x y. (x, y)) (parseNumber (take a s)) (parseNumber (take (b - (a + 1)) (drop (a + 1) s)))) (orMalformed (pick (same (bytes "0") flag) (some false) (pick (same (bytes "1") flag) (some true) none)))
@@ -292,7 +291,7 @@ module _ (s : List ℕ) (a b c : ℕ) (g : FourAt s a b c) where
       subst (FrameRead s) q (flag-read (parseNumber (take a s)) (parseNumber (take (b - (a + 1)) (drop (a + 1) s))) (same (bytes "0") flag) (same (bytes "1") flag) question-is)
 
 -- one case of the numbers
-pub frame-flag : (h i : ParsedNumber) (a e k : ℕ) → k ≡ 2 → frame.Malformed ≡ frameBy h i a e k
+pub frame-flag : (h i : ParsedNumber) (a e k : ℕ) → k ≡ 2 → frame.Refused 2 ≡ frameBy h i a e k
 frame-flag h i a e k p = rw (eq-eqb k 2 p)
 
 pub frame-numbers : (h i x y : ParsedNumber) (a e k : ℕ) → (k ≡ 2 → ⊥) → h ≡ x → i ≡ y → wordsBy x y a e (eqb k 1) ≡ frameBy h i a e k

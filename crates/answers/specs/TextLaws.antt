@@ -9,12 +9,12 @@ use native.Mathlib.Nat.{not-suc-le-zero}
 use native.Mathlib.Numerals.{add-one}
 use lib.Dec.{eqb}
 use lib.ListN.{length, take, drop, length-drop, length-take, take-append-drop}
-use lib.Seq.{take-all}
-use borrow.Author.Tests.{eqb-true}
+use lib.Seq.{take-all, length-take-le}
+use borrow.Author.Tests.{eqb-true, eqb-false}
 use Rattle.listings.specs.Bytes.{bytes, same, pick}
 use Rattle.listings.specs.Rows.{split, onFirst}
 use Rattle.listings.specs.WordText.{same-equal}
-use Rattle.listings.specs.Scan.{indexOf, split-some, rest-all, pieceAt, next-last, next-more}
+use Rattle.listings.specs.Scan.{indexOf, index-le, split-some, rest-all, pieceAt, next-last, next-more}
 use Rattle.graph.specs.Print.{printedRefusal}
 use Rattle.formatting.specs.Printing.{Puts, puts-none, puts-both, puts-is}
 use Rattle.answers.specs.Flowask.{Question, rowAnswer, ending, answerRows, parts}
@@ -128,6 +128,37 @@ module _ (text : List ℕ) (at e : ℕ) (fits : at ≤ length text) (found : e �
           passed = g .passed ∙ ap (prefixed (take at text)) q
               ∙ ap (λ (z : List ℕ). (z, parts vs .1)) (sym (append-assoc (take at text) (w ++ (10 ∷ [])) (parts vs .0)) ∙ ap (λ (z : List ℕ). z ++ parts vs .0) b);
         }
+
+pub cut-length : (text : List ℕ) (n : ℕ) → CutAt text n → n ≡ length (parts (split 10 text) .0)
+cut-length text n c = sym (ap length (c .listing) ∙ length-take-le n text (c .fits))
+
+-- one row more
+cut-row : (k : ℕ) (text : List ℕ) (at : ℕ) → at ≤ length text → length text - at ≤ k → Cutting text at
+    → ((next : ℕ) → next ≤ length text → length text - next < k → Cutting text next → (n : ℕ) × CutAt text n) → (n : ℕ) × CutAt text n
+cut-row k text at h m g rest = last (eqb (at + e) (length text)) refl
+  where
+    e : ℕ
+    e = indexOf 10 (take (length text - at) (drop at text))
+
+    le : e ≤ length (take (length text - at) (drop at text))
+    le = index-le 10 (take (length text - at) (drop at text))
+
+    here : (at + e ≡ length text → ⊥) → (t : Bool) → same (pieceAt text at e) (bytes "(questions") ≡ t → (n : ℕ) × CutAt text n
+    here q true s = (at, cut-here text at e h refl g q le s)
+    here q false s =
+        let i : at + e < length text = next-more 10 text at e h refl q le .0 in
+        rest (at + e + 1) (omega arith) (omega arith) (cut-next text at e h refl g q le s)
+
+    last : (t : Bool) → eqb (at + e) (length text) ≡ t → (n : ℕ) × CutAt text n
+    last true q = (length text, cut-alone text at e h refl g (eqb-true (at + e) (length text) q))
+    last false q = here (eqb-false (at + e) (length text) q) (same (pieceAt text at e) (bytes "(questions")) refl
+
+cut-from : (k : ℕ) (text : List ℕ) (at : ℕ) → at ≤ length text → length text - at < k → Cutting text at → (n : ℕ) × CutAt text n
+cut-from zero text at h m g = absurd (omega arith)
+cut-from (suc k) text at h m g = cut-row k text at h (omega arith) g (λ n i j c. cut-from k text n i j c)
+
+pub cut-is : (text : List ℕ) (n : ℕ) → n ≡ length (parts (split 10 text) .0) → CutAt text n
+cut-is text n e = let d = cut-from (suc (length text)) text 0 (omega arith) (omega arith) (cutting-start text) in subst (CutAt text) (cut-length text (d .0) (d .1) ∙ sym e) (d .1)
 
 -- ---- the answers
 

@@ -100,8 +100,7 @@ fn value_of(n: ParsedNumber) -> u16
     ensures { λ r. ⌜ r ≡ valueOf n ⌝ }
 {
     match n {
-        ParsedNumber::Malformed => 0,
-        ParsedNumber::Invalid => 0,
+        ParsedNumber::Refused(_) => 0,
         ParsedNumber::Value(v) => v,
     }
 }
@@ -162,11 +161,8 @@ fn answer_path(
     ensures { λ r. ⌜ Puts (now (out .entry)) at (now (out .exit)) r (outcomeRow (answerAt (now (counts .entry)) [] (now (stmts .entry)) [] [] [] [] [] []) k (orRefused (pathQuestion (split 32 (now (s .entry)))) short)) ⌝ }
 {
     let t = check_all(s, false);
-    if t.severity == 2 {
-        return put_refusal(out, at, 2, k);
-    }
-    if t.severity == 1 {
-        return put_refusal(out, at, 3, k);
+    if t.refusal != 0 {
+        return put_refusal(out, at, t.refusal as usize, k);
     }
     if 65 < t.count {
         return put_refusal(out, at, 8, k);
@@ -233,8 +229,7 @@ fn answer_frame(
     ensures { λ r. ⌜ Puts (now (out .entry)) at (now (out .exit)) r (outcomeRow (answerAt (now (counts .entry)) [] (now (stmts .entry)) (now (args .entry)) [] (now (falls .entry)) (now (lists .entry)) (now (succ .entry)) []) k (orRefused (frameQuestion (split 32 (now (s .entry)))) short)) ⌝ }
 {
     match frame_words(s) {
-        FrameWords::Malformed => put_refusal(out, at, 2, k),
-        FrameWords::Invalid => put_refusal(out, at, 3, k),
+        FrameWords::Refused(n) => put_refusal(out, at, n as usize, k),
         FrameWords::Words {
             header,
             node,
@@ -287,8 +282,7 @@ fn answer_words(
         return put_refusal(out, at, 2, k);
     }
     match single_number(s) {
-        ParsedNumber::Malformed => put_refusal(out, at, 2, k),
-        ParsedNumber::Invalid => put_refusal(out, at, 3, k),
+        ParsedNumber::Refused(n) => put_refusal(out, at, n as usize, k),
         ParsedNumber::Value(n) => put_by_number(
             out,
             at,

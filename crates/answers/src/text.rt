@@ -3,15 +3,16 @@ use crate::answers::answer_row;
 use formatting::print_rows::put_refusal;
 use tokens::scan::equal;
 use tokens::scan::find;
+ghost use mathlib.Core.Path.{_≡_};
+ghost use lib.ListN.{length};
 ghost use Rattle.listings.specs.Rows.{split};
 ghost use Rattle.formatting.specs.Printing.{Puts};
-ghost use Rattle.answers.specs.Flowask.{answerRows};
+ghost use Rattle.answers.specs.Flowask.{answerRows, parts};
 ghost use Rattle.answers.specs.AnswersAt.{answerAt};
-ghost use Rattle.answers.specs.TextLaws.{CutAt};
 
-// How many bytes stand before the row `(questions`, all of them where there is none.
+// "What stands before the first row that is exactly `(questions` is the listing": how many bytes that are, all of them where there is no such row.
 pub fn listing_length(text: &[u8]) -> usize
-    ensures { λ r. ⌜ CutAt (now (text .entry)) r ⌝ }
+    ensures { λ r. ⌜ r ≡ length (parts (split 10 (now (text .entry))) .0) ⌝ }
 {
     let mut at: usize = 0;
     loop {

@@ -1,5 +1,6 @@
 // The words of a question's row.
 use tokens::arguments::are_words;
+use tokens::arguments::lower;
 use tokens::numbers::ParsedNumber;
 use tokens::numbers::number;
 use tokens::scan::equal;
@@ -34,10 +35,9 @@ pub(crate) enum Four {
     Spaces { a: usize, b: usize, c: usize },
 }
 
-// The words of a frame question; the name stands from start to end.
+// The words of a frame question, where the name stands from start to end, or document 01's number: 2 or 3.
 pub(crate) enum FrameWords {
-    Malformed,
-    Invalid,
+    Refused(u8),
     Words {
         header: u16,
         node: u16,
@@ -150,23 +150,20 @@ fn flag_of(w: &[u8]) -> u8
     2
 }
 
-// "within it, the lowest number": 2 goes before 3.
+// "within it, the lowest number".
 fn frame_by(h: ParsedNumber, i: ParsedNumber, start: usize, end: usize, flag: u8) -> FrameWords
     ensures { λ r. ⌜ r ≡ frameBy h i start end flag ⌝ }
 {
     if flag == 2 {
-        return FrameWords::Malformed;
+        return FrameWords::Refused(2);
     }
     match h {
-        ParsedNumber::Malformed => FrameWords::Malformed,
-        ParsedNumber::Invalid => match i {
-            ParsedNumber::Malformed => FrameWords::Malformed,
-            ParsedNumber::Invalid => FrameWords::Invalid,
-            ParsedNumber::Value(_) => FrameWords::Invalid,
+        ParsedNumber::Refused(a) => match i {
+            ParsedNumber::Refused(b) => FrameWords::Refused(lower(a, b)),
+            ParsedNumber::Value(_) => FrameWords::Refused(a),
         },
         ParsedNumber::Value(x) => match i {
-            ParsedNumber::Malformed => FrameWords::Malformed,
-            ParsedNumber::Invalid => FrameWords::Invalid,
+            ParsedNumber::Refused(b) => FrameWords::Refused(b),
             ParsedNumber::Value(y) => FrameWords::Words {
                 header: x,
                 node: y,
@@ -183,7 +180,7 @@ pub(crate) fn frame_words(s: &[u8]) -> FrameWords
     ensures { λ r. ⌜ FrameRead (now (s .entry)) r ⌝ }
 {
     match four_words(s) {
-        Four::NotFour => FrameWords::Malformed,
+        Four::NotFour => FrameWords::Refused(2),
         Four::Spaces { a, b, c } => {
             let i = a + 1;
             let v = b + 1;

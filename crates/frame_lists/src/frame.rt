@@ -172,7 +172,7 @@ fn key_answer(k: NameKey) -> u64
     ensures { λ r. ⌜ r ≡ keyAnswer k ⌝ }
 {
     match k {
-        NameKey::NoName => 0,
+        NameKey::Refused(_) => 0,
         NameKey::Key(v) => v,
     }
 }

@@ -8,24 +8,21 @@ use Rattle.formatting.specs.Printing.{puts-is}
 use Rattle.answers.specs.Flowask.{frameQuestion}
 use Rattle.answers.specs.AnswersAt.{answerAt}
 use Rattle.answers.specs.QuestionWords.{FrameRead}
-use Rattle.answers.specs.AnswerLaws.{refused-2, refused-3, frame-answered}
+use Rattle.answers.specs.AnswerLaws.{refused-by, frame-answered}
 use Rattle.answers.proofs.answers.answer_frame.Statement.{statement}
 use Rattle.answers.proofs.answers.answer_frame.Tie as tie
 
 frame-words-requires : tie.Need-frame-words-requires
 frame-words-requires c κs = search needs
 
-enum-told : tie.Need-enum-told
-enum-told c = search needs
+enum-known-n : tie.Need-enum-known-n
+enum-known-n c = search needs
+
+cast-put-refusal : tie.Need-cast-put-refusal
+cast-put-refusal c = search needs
 
 put-refusal-requires : tie.Need-put-refusal-requires
 put-refusal-requires c κs = search needs
-
-enum-told-2 : tie.Need-enum-told-2
-enum-told-2 c = search needs
-
-put-refusal-requires-2 : tie.Need-put-refusal-requires-2
-put-refusal-requires-2 c κs = search needs
 
 enum-known-header : tie.Need-enum-known-header
 enum-known-header c = search needs
@@ -62,25 +59,15 @@ same-length c = search needs
 
 returns : tie.Need-returns
 returns c =
+    let at-n : tie.After-n = search in
     let at-frame-words : tie.After-frame-words = search in
     let at-start : tie.Start = search in
     let a = at-start .args in
-    let g = subst (FrameRead (a .s .now)) (c .before .before .before .before .enum-told .given .1) (at-frame-words .frame-words .ensures) in
-    puts-is (refused-2 (answerAt (a .counts .now) [] (a .stmts .now) (a .args .now) [] (a .falls .now) (a .lists .now) (a .succ .now) []) (a .k) (frameQuestion (split 32 (a .s .now))) g) (c .before .before .put-refusal .ensures)
+    let g = subst (FrameRead (a .s .now)) (at-n .n .given .1) (at-frame-words .frame-words .ensures) in
+    puts-is (refused-by (answerAt (a .counts .now) [] (a .stmts .now) (a .args .now) [] (a .falls .now) (a .lists .now) (a .succ .now) []) (a .k) (frameQuestion (split 32 (a .s .now))) _ (g .0) (g .1)) (c .before .before .put-refusal .ensures)
 
 same-length-2 : tie.Need-same-length-2
 same-length-2 c = search needs
-
-returns-2 : tie.Need-returns-2
-returns-2 c =
-    let at-frame-words : tie.After-frame-words = search in
-    let at-start : tie.Start = search in
-    let a = at-start .args in
-    let g = subst (FrameRead (a .s .now)) (c .before .before .before .before .enum-told2 .given .1) (at-frame-words .frame-words .ensures) in
-    puts-is (refused-3 (answerAt (a .counts .now) [] (a .stmts .now) (a .args .now) [] (a .falls .now) (a .lists .now) (a .succ .now) []) (a .k) (frameQuestion (split 32 (a .s .now))) g) (c .before .before .put-refusal2 .ensures)
-
-same-length-3 : tie.Need-same-length-3
-same-length-3 c = search needs
 
 -- Ways back from a place to an earlier one. `search` finds each by its type.
 abbrev start-of-frame-words : tie.After-frame-words → tie.Start
@@ -88,8 +75,8 @@ start-of-frame-words c = search
 
 ruleset ways = (start-of-frame-words)
 
-returns-3 : tie.Need-returns-3
-returns-3 c =
+returns-2 : tie.Need-returns-2
+returns-2 c =
     let at-wide : tie.After-wide = search in
     let at-header : tie.After-header = search in
     let at-frame-words : tie.After-frame-words = search in
@@ -103,10 +90,9 @@ answer-frame-spec =
     tie.close
     (tie.spec
     frame-words-requires
-    enum-told
+    enum-known-n
+    cast-put-refusal
     put-refusal-requires
-    enum-told-2
-    put-refusal-requires-2
     enum-known-header
     wide-requires
     wide-requires-2
@@ -117,6 +103,4 @@ answer-frame-spec =
     same-length
     returns
     same-length-2
-    returns-2
-    same-length-3
-    returns-3)
+    returns-2)

@@ -1,7 +1,7 @@
 -- `answer_words`: each kind of question in turn. Assumes nothing.
 use borrow.Author.Needs.{needs}
 use Rattle.formatting.specs.Printing.{puts-is}
-use Rattle.answers.specs.AnswerLaws.{by-path, by-frame, by-none, number-2, number-3, number-answered}
+use Rattle.answers.specs.AnswerLaws.{by-path, by-frame, by-none, number-refused, number-answered}
 use Rattle.answers.proofs.answers.answer_words.Statement.{statement}
 use Rattle.answers.proofs.answers.answer_words.Tie as tie
 
@@ -41,20 +41,17 @@ returns-3 c =
 single-number-requires : tie.Need-single-number-requires
 single-number-requires c κs = search needs
 
-enum-told : tie.Need-enum-told
-enum-told c = search needs
+enum-known-n : tie.Need-enum-known-n
+enum-known-n c = search needs
+
+cast-put-refusal : tie.Need-cast-put-refusal
+cast-put-refusal c = search needs
 
 put-refusal-requires-2 : tie.Need-put-refusal-requires-2
 put-refusal-requires-2 c κs = search needs
 
-enum-told-2 : tie.Need-enum-told-2
-enum-told-2 c = search needs
-
-put-refusal-requires-3 : tie.Need-put-refusal-requires-3
-put-refusal-requires-3 c κs = search needs
-
-enum-known-n : tie.Need-enum-known-n
-enum-known-n c = search needs
+enum-known-n-2 : tie.Need-enum-known-n-2
+enum-known-n-2 c = search needs
 
 put-by-number-requires : tie.Need-put-by-number-requires
 put-by-number-requires c κs = search needs
@@ -70,37 +67,26 @@ ruleset ways = (start-of-single-number)
 
 returns-4 : tie.Need-returns-4
 returns-4 c =
-    let at-single-number : tie.After-single-number = search in
-    let at-else3 : tie.Else3 = search in
-    let at-else2 : tie.Else2 = search in
-    let at-else1 : tie.Else1 = search in
-    let at-start : tie.Start = search ways in
-    let a = at-start .args in puts-is (number-2 (a .counts .now) (a .lines .now) (a .stmts .now) (a .args .now) (a .entries .now) (a .falls .now) (a .lists .now) (a .succ .now) (a .pred .now) (a .k) (a .word) (a .s .now) (at-else1 .if1 .left) (at-else2 .if2 .left) (at-else3 .if3 .left) (at-single-number .single-number .result) (at-single-number .single-number .ensures) (c .before .before .before .before .enum-told .given .1)) (c .before .before .put-refusal2 .ensures)
-
-same-length-5 : tie.Need-same-length-5
-same-length-5 c = search needs
-
-returns-5 : tie.Need-returns-5
-returns-5 c =
-    let at-single-number : tie.After-single-number = search in
-    let at-else3 : tie.Else3 = search in
-    let at-else2 : tie.Else2 = search in
-    let at-else1 : tie.Else1 = search in
-    let at-start : tie.Start = search ways in
-    let a = at-start .args in puts-is (number-3 (a .counts .now) (a .lines .now) (a .stmts .now) (a .args .now) (a .entries .now) (a .falls .now) (a .lists .now) (a .succ .now) (a .pred .now) (a .k) (a .word) (a .s .now) (at-else1 .if1 .left) (at-else2 .if2 .left) (at-else3 .if3 .left) (at-single-number .single-number .result) (at-single-number .single-number .ensures) (c .before .before .before .before .enum-told2 .given .1)) (c .before .before .put-refusal3 .ensures)
-
-same-length-6 : tie.Need-same-length-6
-same-length-6 c = search needs
-
-returns-6 : tie.Need-returns-6
-returns-6 c =
     let at-n : tie.After-n = search in
     let at-single-number : tie.After-single-number = search in
     let at-else3 : tie.Else3 = search in
     let at-else2 : tie.Else2 = search in
     let at-else1 : tie.Else1 = search in
     let at-start : tie.Start = search ways in
-    let a = at-start .args in puts-is (number-answered (a .counts .now) (a .lines .now) (a .stmts .now) (a .args .now) (a .entries .now) (a .falls .now) (a .lists .now) (a .succ .now) (a .pred .now) (a .k) (a .word) (a .s .now) (at-else1 .if1 .left) (at-else2 .if2 .left) (at-else3 .if3 .left) (at-single-number .single-number .result) _ (at-single-number .single-number .ensures) (at-n .n .given .1)) (c .before .before .put-by-number .ensures)
+    let a = at-start .args in puts-is (number-refused (a .counts .now) (a .lines .now) (a .stmts .now) (a .args .now) (a .entries .now) (a .falls .now) (a .lists .now) (a .succ .now) (a .pred .now) (a .k) (a .word) (a .s .now) (at-else1 .if1 .left) (at-else2 .if2 .left) (at-else3 .if3 .left) (at-single-number .single-number .result) _ (at-single-number .single-number .ensures) (at-n .n .given .1)) (c .before .before .put-refusal2 .ensures)
+
+same-length-5 : tie.Need-same-length-5
+same-length-5 c = search needs
+
+returns-5 : tie.Need-returns-5
+returns-5 c =
+    let at-n : tie.After-n2 = search in
+    let at-single-number : tie.After-single-number = search in
+    let at-else3 : tie.Else3 = search in
+    let at-else2 : tie.Else2 = search in
+    let at-else1 : tie.Else1 = search in
+    let at-start : tie.Start = search ways in
+    let a = at-start .args in puts-is (number-answered (a .counts .now) (a .lines .now) (a .stmts .now) (a .args .now) (a .entries .now) (a .falls .now) (a .lists .now) (a .succ .now) (a .pred .now) (a .k) (a .word) (a .s .now) (at-else1 .if1 .left) (at-else2 .if2 .left) (at-else3 .if3 .left) (at-single-number .single-number .result) _ (at-single-number .single-number .ensures) (at-n .n2 .given .1)) (c .before .before .put-by-number .ensures)
 
 pub answer-words-spec : {M : Type 1} → statement M
 answer-words-spec =
@@ -116,15 +102,12 @@ answer-words-spec =
     same-length-3
     returns-3
     single-number-requires
-    enum-told
-    put-refusal-requires-2
-    enum-told-2
-    put-refusal-requires-3
     enum-known-n
+    cast-put-refusal
+    put-refusal-requires-2
+    enum-known-n-2
     put-by-number-requires
     same-length-4
     returns-4
     same-length-5
-    returns-5
-    same-length-6
-    returns-6)
+    returns-5)

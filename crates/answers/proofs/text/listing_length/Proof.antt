@@ -5,7 +5,7 @@ use native.Mathlib.Omega.{arith}
 use mathlib.Core.Path.{sym, subst, _∙_}
 use lib.ListN.{length}
 use Rattle.listings.specs.Bytes.{bytes}
-use Rattle.answers.specs.TextLaws.{Cutting, CutAt, cutting-start, cut-alone, cut-here, cut-next}
+use Rattle.answers.specs.TextLaws.{Cutting, CutAt, cutting-start, cut-alone, cut-here, cut-length, cut-next}
 use Rattle.answers.proofs.text.listing_length.Statement.{statement}
 use Rattle.answers.proofs.text.listing_length.Tie as tie
 
@@ -36,7 +36,7 @@ add-to c = search needs
 returns : tie.Need-returns Inv-loop μ-loop
 returns c =
     let at-start : tie.Start Inv-loop μ-loop = search in
-    subst (CutAt (at-start .args .text .now)) (sym (c .if1 .taken)) (cut-alone (at-start .args .text .now) (c .before .before .before .loop .at) (c .before .find .result) (c .before .before .before .loop .inv .0) (c .before .find .ensures .0) (c .before .before .before .loop .inv .1) (c .if1 .taken))
+    cut-length (at-start .args .text .now) _ (subst (CutAt (at-start .args .text .now)) (sym (c .if1 .taken)) (cut-alone (at-start .args .text .now) (c .before .before .before .loop .at) (c .before .find .result) (c .before .before .before .loop .inv .0) (c .before .find .ensures .0) (c .before .before .before .loop .inv .1) (c .if1 .taken)))
 
 sub-equal : tie.Need-sub-equal Inv-loop μ-loop
 sub-equal c = search needs
@@ -59,7 +59,7 @@ returns-2 c =
     let at-find : tie.After-find Inv-loop μ-loop = search in
     let at-loop : tie.At-loop Inv-loop μ-loop = search in
     let at-start : tie.Start Inv-loop μ-loop = search in
-    cut-here (at-start .args .text .now) (at-loop .loop .at) (at-find .find .result) (at-loop .loop .inv .0) (at-find .find .ensures .0) (at-loop .loop .inv .1) (c .before .before .before .before .if1 .left) (at-find .find .ensures .1) (sym (c .before .equal .ensures) ∙ c .if2 .taken)
+    cut-length (at-start .args .text .now) _ (cut-here (at-start .args .text .now) (at-loop .loop .at) (at-find .find .result) (at-loop .loop .inv .0) (at-find .find .ensures .0) (at-loop .loop .inv .1) (c .before .before .before .before .if1 .left) (at-find .find .ensures .1) (sym (c .before .equal .ensures) ∙ c .if2 .taken))
 
 add-at : tie.Need-add-at Inv-loop μ-loop
 add-at c = search needs

@@ -1,7 +1,8 @@
 -- `frame_words`: four words, each judged. Assumes nothing.
 use borrow.Author.Needs.{needs}
 use native.Mathlib.Omega.{arith}
-use mathlib.Core.Path.{sym, subst}
+use mathlib.Core.Path.{ap, sym, subst}
+use Rattle.listings.specs.Rows.{refusalOf}
 use lib.Seq.{length-take-le}
 use Rattle.answers.specs.QuestionWords.{FourWords, frame-read}
 use Rattle.answers.proofs.words.frame_words.Statement.{statement}
@@ -88,7 +89,7 @@ frame-by-requires : tie.Need-frame-by-requires
 frame-by-requires c κs = search needs
 
 returns : tie.Need-returns
-returns c = subst (FourWords (c .before .before .before .before .args .s .now)) (c .enum-told .given .1) (c .before .before .four-words .ensures)
+returns c = (omega arith, ap refusalOf (subst (FourWords (c .before .before .before .before .args .s .now)) (c .enum-told .given .1) (c .before .before .four-words .ensures)))
 
 returns-2 : tie.Need-returns-2
 returns-2 c =

@@ -2,6 +2,7 @@
 use borrow.Author.Needs.{needs}
 use mathlib.Core.Path.{sym}
 use lib.Seq.{length-take-le}
+use Rattle.answers.specs.TextLaws.{cut-is}
 use Rattle.asking.specs.Asked.{listing-refused, questions-asked}
 use Rattle.asking.proofs.ask.ask_text.Statement.{statement}
 use Rattle.asking.proofs.ask.ask_text.Tie as tie
@@ -12,7 +13,7 @@ listing-length-requires c κs = tt
 slice-aggregate-build : tie.Need-slice-aggregate-build
 slice-aggregate-build c =
     let at-start : tie.Start = search in
-    sym (length-take-le (c .before .listing-length .result) (at-start .args .text .now) (c .before .listing-length .ensures .fits))
+    sym (length-take-le (c .before .listing-length .result) (at-start .args .text .now) (cut-is (at-start .args .text .now) (c .before .listing-length .result) (c .before .listing-length .ensures) .fits))
 
 build-requires : tie.Need-build-requires
 build-requires c κs = tt
@@ -48,7 +49,9 @@ build-of-answer-questions-arg10 c = search
 ruleset ways = (listing-length-of-build, build-of-put-refusal, start-of-listing-length, lines-of-answer-questions, build-of-answer-questions-arg10)
 
 answer-questions-requires : tie.Need-answer-questions-requires
-answer-questions-requires c κs = let at-listing-length : tie.After-listing-length = search ways in at-listing-length .listing-length .ensures
+answer-questions-requires c κs =
+    let at-listing-length : tie.After-listing-length = search ways in
+    cut-is _ (at-listing-length .listing-length .result) (at-listing-length .listing-length .ensures)
 
 same-length : tie.Need-same-length
 same-length c = search
@@ -89,7 +92,7 @@ returns c =
     let at-build : tie.After-build = search ways in
     let at-listing-length : tie.After-listing-length = search ways in
     let at-start : tie.Start = search ways in
-    listing-refused (at-start .args .text .now) _ (at-listing-length .listing-length .result) (at-listing-length .listing-length .ensures) _ _ _ _ _ _ _ _ _ _ _ (at-build .build .result) (at-build .build .ensures) _ _ _ (at-built .built .given .0 .0) (at-built .built .given .0 .1 .0) (at-built .built .given .1) (c .before .before .put-refusal .ensures)
+    listing-refused (at-start .args .text .now) _ (at-listing-length .listing-length .result) (cut-is (at-start .args .text .now) (at-listing-length .listing-length .result) (at-listing-length .listing-length .ensures)) _ _ _ _ _ _ _ _ _ _ _ (at-build .build .result) (at-build .build .ensures) _ _ _ (at-built .built .given .0 .0) (at-built .built .given .0 .1 .0) (at-built .built .given .1) (c .before .before .put-refusal .ensures)
 
 same-length-12 : tie.Need-same-length-12
 same-length-12 c = let at-lines : tie.After-lines = search ways in at-lines .lines .given
@@ -130,7 +133,7 @@ returns-2 c =
     let at-build : tie.After-build = search ways in
     let at-listing-length : tie.After-listing-length = search ways in
     let at-start : tie.Start = search ways in
-    questions-asked (at-start .args .text .now) _ (at-listing-length .listing-length .result) (at-listing-length .listing-length .ensures) _ _ _ _ _ _ _ _ _ _ _ (at-build .build .result) (at-build .build .ensures) _ _ _ (at-enum-told .enum-told .given .1) (c .before .before .answer-questions .ensures)
+    questions-asked (at-start .args .text .now) _ (at-listing-length .listing-length .result) (cut-is (at-start .args .text .now) (at-listing-length .listing-length .result) (at-listing-length .listing-length .ensures)) _ _ _ _ _ _ _ _ _ _ _ (at-build .build .result) (at-build .build .ensures) _ _ _ (at-enum-told .enum-told .given .1) (c .before .before .answer-questions .ensures)
 
 pub ask-text-spec : {M : Type 1} → statement M
 ask-text-spec =
