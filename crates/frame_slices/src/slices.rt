@@ -15,7 +15,7 @@ pub enum Framed {
 }
 
 // How many successors of a NEXT the header has too: the length of its frame list.
-pub fn count_kept(list: &[u16], header: &[u16]) -> usize
+fn count_kept(list: &[u16], header: &[u16]) -> usize
     ensures { λ r. ⌜ r ≡ length (kept (now (header .entry)) (now (list .entry))) ⌝ }
 {
     let mut n: usize = 0;

@@ -33,7 +33,7 @@ pub const NUMBER2: usize = 9;
 
 pub const COUNT: usize = 10;
 
-pub const DETAIL: usize = 11;
+pub(crate) const DETAIL: usize = 11;
 
 // What is known of a statement when its row is read; the entries between end and count are its branches, not read yet.
 pub(crate) struct Entry {

@@ -150,7 +150,7 @@ pub const COND: u8 = 4;
 
 pub const BARE: u8 = 5;
 
-pub const NUMBER: u8 = 6;
+pub(crate) const NUMBER: u8 = 6;
 
 pub const NUMBERS: u8 = 7;
 
