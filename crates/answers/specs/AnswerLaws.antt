@@ -24,30 +24,16 @@ use Rattle.tokens.specs.declared.arguments.ArgCheck.{ArgCheck}
 use Rattle.graph.specs.Print.{printedRefusal}
 use Rattle.formatting.specs.Printing.{Puts, puts-is}
 use Rattle.graph.specs.Questions.{Reply, answer}
-use Rattle.adjacency.specs.ListsAt.{successorsAt, predecessorsAt, askedOf}
-use Rattle.adjacency.specs.ListsAtLaws.{successors-inside, predecessors-inside}
 use Rattle.frame_lists.specs.FrameAt.{frameAt}
 use Rattle.frame_slices.specs.Told.{FrameTold, framedOf, sliceAfter}
 use Rattle.statements.specs.StatementAt.{pathStatement, statedOf}
 use Rattle.statements.specs.declared.statement.Stated.{Stated}
-use Rattle.adjacency.specs.declared.successors.Asked.{Asked}
-use Rattle.adjacency.specs.declared.successors.Asked.the-variants as asked
 use Rattle.frame_slices.specs.declared.slices.Framed.{Framed}
 use Rattle.frame_slices.specs.declared.slices.Framed.the-variants as framed
 use Rattle.answers.specs.Flowask.{Question, ofSuccessors, ofPredecessors, ofStatement, ofEntry, ofPath, ofFrame, pathQuestion, frameQuestion, formQuestion, wordQuestion, rowQuestion, pathLength, short, question, listRow, replyRow, outcomeRow, rowAnswer}
-use Rattle.answers.specs.AnswersAt.{pathAnswer, frameAnswer, numberAnswer, number-answer, numberQuestion, answerAt, PartIn, statedRow, stated-row}
+use Rattle.answers.specs.AnswersAt.{pathAnswer, frameAnswer, numberAnswer, number-answer, numberQuestion, answerAt, statedRow, stated-row}
 use Rattle.answers.specs.QuestionWords.{formAt, FrameRead}
 use Rattle.answers.specs.declared.words.FrameWords.the-variants as frame
-
--- ---- the answered part lies in its table
-
-pub successors-in : (c i : List ℕ) (size n : ℕ) (x : Asked) → x ≡ askedOf (successorsAt c i size n) → PartIn size x
-successors-in c i size n (asked.Part a m) e = successors-inside c i size n a m (sym e)
-successors-in c i size n (asked.Refused k p) e = tt
-
-pub predecessors-in : (c i : List ℕ) (size n : ℕ) (x : Asked) → x ≡ askedOf (predecessorsAt c i size n) → PartIn size x
-predecessors-in c i size n (asked.Part a m) e = predecessors-inside c i size n a m (sym e)
-predecessors-in c i size n (asked.Refused k p) e = tt
 
 -- ---- the frame list in the room for it
 

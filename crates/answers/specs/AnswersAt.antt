@@ -1,10 +1,10 @@
 -- The rows of answers, by what the tables say, whoever wrote them. Assumes nothing.
-use Prim.Native.Nat.{ℕ, _+_, _≤_}
+use Prim.Native.Nat.{ℕ}
 use mathlib.Core.List.{List, [], _∷_}
 use mathlib.Core.Option.{Option, none, some}
 use mathlib.Core.Bool.{Bool, true, false}
 use mathlib.Core.Path.{_≡_, refl}
-use lib.ListN.{length, getD, take, drop}
+use lib.ListN.{length, getD}
 use lib.Dec.{eqb}
 use Rattle.listings.specs.Bytes.{bytes, pick}
 use Rattle.listings.specs.Listing.{Name}
@@ -12,7 +12,7 @@ use Rattle.listings.specs.WordTable.{words}
 use Rattle.graph.specs.Lists.{list}
 use Rattle.graph.specs.Print.{printedRefusal}
 use Rattle.graph.specs.Questions.{Reply, answer}
-use Rattle.adjacency.specs.ListsAt.{successorsAt, predecessorsAt, askedOf, listReply}
+use Rattle.adjacency.specs.ListsAt.{successorsAt, predecessorsAt, askedOf, partOf, listReply}
 use Rattle.adjacency.specs.EntryAt.{entryAt, enteredOf}
 use Rattle.statements.specs.StatementAt.{pathStatement, nodeStatement, statedOf}
 use Rattle.frame_lists.specs.FrameAt.{frameAt}
@@ -77,14 +77,10 @@ number-answer c l t a e f i u p w n = go (eqb w 0) (eqb w 1) (eqb w 2)
 
 -- ---- the rows of the code's answers
 
+-- l: the part of the edge table
 abbrev pub askedRow : List ℕ → List ℕ → Asked → List ℕ
-askedRow w table (asked.Part a n) = listRow w (take n (drop a table))
-askedRow w table (asked.Refused n p) = printedRefusal n p
-
--- the part lies in its table
-abbrev pub PartIn : ℕ → Asked → Type 0
-PartIn size (asked.Part a n) = a + n ≤ size
-PartIn size (asked.Refused n p) = Unit {0}
+askedRow w l (asked.Part a n) = listRow w l
+askedRow w l (asked.Refused n p) = printedRefusal n p
 
 abbrev pub statedRow : Stated → List ℕ
 statedRow (stated.Stmt i k) = stmtRow i (getD words k [])
@@ -96,8 +92,8 @@ enteredRow entered.Nowhere = listRow (bytes "(entry") []
 enteredRow (entered.Refused n p) = printedRefusal n p
 
 -- they are those of the replies
-pub asked-row : (w table : List ℕ) (q : Reply (ℕ × ℕ)) → askedRow w table (askedOf q) ≡ replyRow (listRow w) (listReply q table)
-unfolding askedOf replyRow listReply
+pub asked-row : (w table : List ℕ) (q : Reply (ℕ × ℕ)) → askedRow w (partOf q table) (askedOf q) ≡ replyRow (listRow w) (listReply q table)
+unfolding askedOf partOf replyRow listReply
 asked-row w table (answer d) = refl
 asked-row w table (Reply.refused n p) = refl
 

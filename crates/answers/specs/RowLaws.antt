@@ -1,17 +1,12 @@
 -- How the rows of answers are put together. Assumes nothing.
-use Prim.Native.Nat.{ℕ, _+_, _-_, _≤_}
-use mathlib.Core.Path.{_≡_, refl, sym, ap, _∙_, subst}
+use Prim.Native.Nat.{ℕ}
+use mathlib.Core.Path.{_≡_, refl, sym}
 use mathlib.Core.List.{List, [], _∷_, _++_, append-nil}
-use native.Mathlib.Omega.{arith}
-use lib.ListN.{take, drop}
 use Rattle.listings.specs.Bytes.{bytes, decimal}
 use Rattle.graph.specs.Lists.{each}
 use Rattle.graph.specs.Print.{spaced}
 use Rattle.formatting.specs.Printing.{Puts, puts-both, puts-is}
-use Rattle.adjacency.specs.declared.successors.Asked.{Asked}
-use Rattle.adjacency.specs.declared.successors.Asked.the-variants as asked
 use Rattle.answers.specs.Flowask.{listRow, stmtRow}
-use Rattle.answers.specs.AnswersAt.{askedRow, PartIn}
 
 pub puts-list : (p q s t : List ℕ) (n m k r : ℕ) (w l : List ℕ) → Puts p n q m w → Puts q m s k (spaced l) → Puts s k t r (bytes ")\n") → Puts p n t r (listRow w l)
 unfolding listRow
@@ -35,13 +30,3 @@ puts-stmt p q s t u v n m k j h r i w a b c d e =
     let x : Puts p n s k (bytes "(statement" ++ spaced (i ∷ [])) = puts-both p q s n m k (bytes "(statement") (spaced (i ∷ [])) a (puts-is (spaced-one i) b) in
     let y : Puts s k u h (32 ∷ w) = puts-both s t u k j h (32 ∷ []) w c d in
     puts-both p u v n h r (bytes "(statement" ++ spaced (i ∷ []) ++ (32 ∷ w)) (bytes ")\n") (puts-both p s u n k h (bytes "(statement" ++ spaced (i ∷ [])) (32 ∷ w) x y) e
-
--- ---- a part of an edge table
-
-pub part-in : (size : ℕ) (x : Asked) (a n : ℕ) → PartIn size x → x ≡ asked.Part a n → a + n ≤ size
-part-in size x a n h e = subst (PartIn size) e h
-
-pub puts-part : (p q : List ℕ) (m r : ℕ) (w table : List ℕ) (x : Asked) (a n : ℕ) → x ≡ asked.Part a n → Puts p m q r (listRow w (take (a + n - a) (drop a table))) → Puts p m q r (askedRow w table x)
-puts-part p q m r w table x a n e g =
-    let z : a + n - a ≡ n = omega arith in
-    puts-is (ap (λ (k : ℕ). listRow w (take k (drop a table))) z ∙ sym (ap (askedRow w table) e)) g

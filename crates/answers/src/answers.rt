@@ -12,14 +12,16 @@ use crate::words::STATEMENT;
 use crate::words::SUCCESSORS;
 use crate::words::frame_words;
 use crate::words::open_row;
-use adjacency::entry::ask_entry;
-use adjacency::successors::ask_predecessors;
-use adjacency::successors::ask_successors;
 use formatting::print_rows::put_refusal;
-use frame_lists::frame::ask_frame;
 use frame_slices::slices::Framed;
-use statements::statement::ask_path;
-use statements::statement::ask_statement;
+use questions::entry::line_first;
+use questions::frame::frame_successors;
+use questions::statement::resolve_path;
+use questions::statement::stmt_at;
+use questions::successors::ask_predecessors;
+use questions::successors::ask_successors;
+use questions::successors::predecessors;
+use questions::successors::successors;
 use tables::widths::wide;
 use tokens::arguments::check_all;
 use tokens::arguments::single_number;
@@ -50,7 +52,8 @@ fn put_successors(
     ensures { λ r. ⌜ Puts (now (out .entry)) at (now (out .exit)) r (successorsAnswer (now (counts .entry)) (now (lists .entry)) (now (succ .entry)) node) ⌝ }
 {
     let a = ask_successors(counts, lists, succ, node);
-    put_asked(out, at, b"(successors", succ, a)
+    let part = successors(counts, lists, succ, node);
+    put_asked(out, at, b"(successors", part, a)
 }
 
 fn put_predecessors(
@@ -64,7 +67,8 @@ fn put_predecessors(
     ensures { λ r. ⌜ Puts (now (out .entry)) at (now (out .exit)) r (predecessorsAnswer (now (counts .entry)) (now (lists .entry)) (now (pred .entry)) node) ⌝ }
 {
     let a = ask_predecessors(counts, lists, pred, node);
-    put_asked(out, at, b"(predecessors", pred, a)
+    let part = predecessors(counts, lists, pred, node);
+    put_asked(out, at, b"(predecessors", part, a)
 }
 
 // By the number of the opening word; n is a line's number for an entry, else a node.
@@ -90,9 +94,9 @@ fn put_by_number(
         return put_predecessors(out, at, counts, lists, pred, wide(n));
     }
     if word == STATEMENT {
-        return put_stated(out, at, ask_statement(counts, stmts, wide(n)));
+        return put_stated(out, at, stmt_at(counts, stmts, wide(n)));
     }
-    put_entered(out, at, ask_entry(counts, lines, entries, n))
+    put_entered(out, at, line_first(counts, lines, entries, n))
 }
 
 // A number's value, 0 where it is none.
@@ -145,7 +149,7 @@ fn put_path(
 {
     let mut numbers = no_numbers();
     fill_numbers(s, &mut numbers);
-    let a = ask_path(counts, stmts, wide(numbers[0]), &numbers[1..n]);
+    let a = resolve_path(counts, stmts, wide(numbers[0]), &numbers[1..n]);
     put_stated(out, at, a)
 }
 
@@ -194,7 +198,7 @@ fn put_frame(
     ensures { λ r. ⌜ Puts (now (out .entry)) at (now (out .exit)) r (frameAnswer (now (counts .entry)) (now (stmts .entry)) (now (args .entry)) (now (falls .entry)) (now (lists .entry)) (now (succ .entry)) header node (now (name .entry)) flag) ⌝ }
 {
     let mut room = frame_room();
-    let framed = ask_frame(
+    let framed = frame_successors(
         counts,
         stmts,
         args,

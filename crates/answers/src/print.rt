@@ -10,11 +10,11 @@ use statements::statement::Stated;
 use tokens::words::word_length;
 use tokens::words::word_letter;
 ghost use mathlib.Core.List.{[]};
-ghost use lib.ListN.{length, getD};
+ghost use lib.ListN.{getD};
 ghost use Rattle.listings.specs.WordTable.{words};
 ghost use Rattle.formatting.specs.Printing.{Puts};
 ghost use Rattle.answers.specs.Flowask.{listRow, stmtRow};
-ghost use Rattle.answers.specs.AnswersAt.{askedRow, PartIn, statedRow, enteredRow};
+ghost use Rattle.answers.specs.AnswersAt.{askedRow, statedRow, enteredRow};
 
 // A word, each number after a space, and the end of the row.
 pub(crate) fn put_list_row(out: &mut [u8], at: usize, word: &[u8], list: &[u16]) -> usize
@@ -25,16 +25,12 @@ pub(crate) fn put_list_row(out: &mut [u8], at: usize, word: &[u8], list: &[u16])
     put_bytes(out, r, b")\n")
 }
 
-// The part of an edge table that was answered, or the refusal.
-pub(crate) fn put_asked(out: &mut [u8], at: usize, word: &[u8], table: &[u16], a: Asked) -> usize
-    requires { ⌜ PartIn (length (now table)) a ⌝ }
-    ensures { λ r. ⌜ Puts (now (out .entry)) at (now (out .exit)) r (askedRow (now (word .entry)) (now (table .entry)) a) ⌝ }
+// The part of an edge table that is the answer, or the refusal.
+pub(crate) fn put_asked(out: &mut [u8], at: usize, word: &[u8], part: &[u16], a: Asked) -> usize
+    ensures { λ r. ⌜ Puts (now (out .entry)) at (now (out .exit)) r (askedRow (now (word .entry)) (now (part .entry)) a) ⌝ }
 {
     match a {
-        Asked::Part { start, len } => {
-            let end = start + len;
-            put_list_row(out, at, word, &table[start..end])
-        }
+        Asked::Part { start: _, len: _ } => put_list_row(out, at, word, part),
         Asked::Refused { number, place } => put_refusal(out, at, number as usize, place),
     }
 }

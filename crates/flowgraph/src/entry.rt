@@ -1,5 +1,5 @@
 // A line's entry, by the line's number: a node and 1, or 0 and 0 where there is none.
-use adjacency::entry::ask_entry;
+use questions::entry::line_first;
 use telling::entry::tell_entered;
 ghost use Rattle.adjacency.specs.EntryAt.{entryAt};
 ghost use Rattle.telling.specs.QuestionTold.{entryWords, Told};
@@ -14,5 +14,5 @@ pub extern "C" fn flow_entry(
 ) -> u8
     ensures { λ r. ⌜ Told entryWords (entryAt (now (counts .entry)) (now (lines .entry)) (now (entries .entry)) number) r (now (answer .exit)) ⌝ }
 {
-    tell_entered(ask_entry(counts, lines, entries, number), answer)
+    tell_entered(line_first(counts, lines, entries, number), answer)
 }

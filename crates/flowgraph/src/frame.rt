@@ -1,5 +1,5 @@
 // The frame list: its length; the list itself stands in `out`.
-use frame_lists::frame::ask_frame;
+use questions::frame::frame_successors;
 use telling::frame::tell_framed;
 ghost use lib.ListN.{length, getD};
 ghost use Rattle.frame_lists.specs.FrameAt.{frameAt};
@@ -22,7 +22,7 @@ pub extern "C" fn flow_frame(
 ) -> u8
     ensures { λ r. ⌜ ListTold (frameAt (getD (now (counts .entry)) 0 0) (getD (now (counts .entry)) 1 0) (now (stmts .entry)) (now (args .entry)) (now (falls .entry)) (now (lists .entry)) (now (succ .entry)) header node (now (name .entry)) flag (length (now (out .entry)))) (now (out .entry)) (now (out .exit)) r (now (answer .exit)) ⌝ }
 {
-    let framed = ask_frame(
+    let framed = frame_successors(
         counts,
         stmts,
         args,

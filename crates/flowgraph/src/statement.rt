@@ -1,6 +1,6 @@
 // A node's statement and the statement at a path: its node and the number of its opening word.
-use statements::statement::ask_path;
-use statements::statement::ask_statement;
+use questions::statement::resolve_path;
+use questions::statement::stmt_at;
 use telling::statement::tell_stated;
 ghost use Rattle.statements.specs.StatementAt.{nodeStatement, pathStatement};
 ghost use Rattle.telling.specs.QuestionTold.{pairWords, Told};
@@ -14,7 +14,7 @@ pub extern "C" fn flow_statement(
 ) -> u8
     ensures { λ r. ⌜ Told pairWords (nodeStatement (now (counts .entry)) (now (stmts .entry)) node) r (now (answer .exit)) ⌝ }
 {
-    tell_stated(ask_statement(counts, stmts, node), answer)
+    tell_stated(stmt_at(counts, stmts, node), answer)
 }
 
 #[no_mangle]
@@ -27,5 +27,5 @@ pub extern "C" fn flow_path(
 ) -> u8
     ensures { λ r. ⌜ Told pairWords (pathStatement (now (counts .entry)) (now (stmts .entry)) line (now (path .entry))) r (now (answer .exit)) ⌝ }
 {
-    tell_stated(ask_path(counts, stmts, line, path), answer)
+    tell_stated(resolve_path(counts, stmts, line, path), answer)
 }

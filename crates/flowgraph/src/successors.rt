@@ -1,6 +1,6 @@
 // A node's successors and predecessors: where they stand in the caller's edge table.
-use adjacency::successors::ask_predecessors;
-use adjacency::successors::ask_successors;
+use questions::successors::ask_predecessors;
+use questions::successors::ask_successors;
 use telling::successors::tell_asked;
 ghost use lib.ListN.{length};
 ghost use Rattle.adjacency.specs.ListsAt.{successorsAt, predecessorsAt};

@@ -47,8 +47,8 @@ returns-2 c =
 wide-requires-3 : tie.Need-wide-requires-3
 wide-requires-3 c κs = search needs
 
-ask-statement-requires : tie.Need-ask-statement-requires
-ask-statement-requires c κs = search needs
+stmt-at-requires : tie.Need-stmt-at-requires
+stmt-at-requires c κs = search needs
 
 put-stated-requires : tie.Need-put-stated-requires
 put-stated-requires c κs = search needs
@@ -65,10 +65,10 @@ returns-3 c =
     let at-start : tie.Start = search in
     let a = at-start .args in
     rw (ne-eqb _ _ (at-else1 .if1 .left), ne-eqb _ _ (at-else2 .if2 .left), eq-eqb _ _ (at-then3 .if3 .taken))
-    (puts-is (ap statedRow (c .before .before .before .ask-statement .ensures) ∙ stated-row (nodeStatement (a .counts .now) (a .stmts .now) (c .before .before .before .before .wide3 .result)) ∙ ap (statementAnswer (a .counts .now) (a .stmts .now)) (c .before .before .before .before .wide3 .ensures)) (c .before .before .put-stated .ensures))
+    (puts-is (ap statedRow (c .before .before .before .stmt-at .ensures) ∙ stated-row (nodeStatement (a .counts .now) (a .stmts .now) (c .before .before .before .before .wide3 .result)) ∙ ap (statementAnswer (a .counts .now) (a .stmts .now)) (c .before .before .before .before .wide3 .ensures)) (c .before .before .put-stated .ensures))
 
-ask-entry-requires : tie.Need-ask-entry-requires
-ask-entry-requires c κs = search needs
+line-first-requires : tie.Need-line-first-requires
+line-first-requires c κs = search needs
 
 put-entered-requires : tie.Need-put-entered-requires
 put-entered-requires c κs = search needs
@@ -85,7 +85,7 @@ returns-4 c =
     let at-start : tie.Start = search in
     let a = at-start .args in
     rw (ne-eqb _ _ (at-else1 .if1 .left), ne-eqb _ _ (at-else2 .if2 .left), ne-eqb _ _ (at-else3 .if3 .left))
-    (puts-is (ap enteredRow (c .before .before .before .ask-entry .ensures) ∙ entered-row (entryAt (a .counts .now) (a .lines .now) (a .entries .now) (a .n))) (c .before .before .put-entered .ensures))
+    (puts-is (ap enteredRow (c .before .before .before .line-first .ensures) ∙ entered-row (entryAt (a .counts .now) (a .lines .now) (a .entries .now) (a .n))) (c .before .before .put-entered .ensures))
 
 pub put-by-number-spec : {M : Type 1} → statement M
 put-by-number-spec =
@@ -100,11 +100,11 @@ put-by-number-spec =
     same-length-2
     returns-2
     wide-requires-3
-    ask-statement-requires
+    stmt-at-requires
     put-stated-requires
     same-length-3
     returns-3
-    ask-entry-requires
+    line-first-requires
     put-entered-requires
     same-length-4
     returns-4)

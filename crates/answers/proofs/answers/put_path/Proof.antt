@@ -28,17 +28,17 @@ array-read-wide c = search needs
 wide-requires : tie.Need-wide-requires
 wide-requires c κs = search needs
 
-sub-ask-path : tie.Need-sub-ask-path
-sub-ask-path c = let at-start : tie.Start = search in omega (arith, at-start .pre .0, split-some 32 (at-start .args .s .now))
+sub-resolve-path : tie.Need-sub-resolve-path
+sub-resolve-path c = let at-start : tie.Start = search in omega (arith, at-start .pre .0, split-some 32 (at-start .args .s .now))
 
-part-ask-path-start : tie.Need-part-ask-path-start
-part-ask-path-start c = let at-start : tie.Start = search in omega (arith, at-start .pre .0, split-some 32 (at-start .args .s .now))
+part-resolve-path-start : tie.Need-part-resolve-path-start
+part-resolve-path-start c = let at-start : tie.Start = search in omega (arith, at-start .pre .0, split-some 32 (at-start .args .s .now))
 
-part-ask-path-end : tie.Need-part-ask-path-end
-part-ask-path-end c = search needs
+part-resolve-path-end : tie.Need-part-resolve-path-end
+part-resolve-path-end c = search needs
 
-ask-path-requires : tie.Need-ask-path-requires
-ask-path-requires c κs = search needs
+resolve-path-requires : tie.Need-resolve-path-requires
+resolve-path-requires c κs = search needs
 
 put-stated-requires : tie.Need-put-stated-requires
 put-stated-requires c κs = search needs
@@ -53,7 +53,7 @@ returns c =
     let at-start : tie.Start = search in
     let a = at-start .args in
     let ws = split 32 (a .s .now) in
-    puts-is (path-put (a .counts .now) (a .stmts .now) (map (entryBy false) ws) _ _ (a .n) (at-wide .wide .result) (c .before .before .before .before .ask-path .result) (at-fill-numbers .fill-numbers .ensures) (at-start .pre .0 ∙ sym (length-map ws (entryBy false))) (omega (arith, at-start .pre .0, split-some 32 (a .s .now))) (at-wide .wide .ensures) (c .before .before .before .before .ask-path .ensures)) (c .before .before .put-stated .ensures)
+    puts-is (path-put (a .counts .now) (a .stmts .now) (map (entryBy false) ws) _ _ (a .n) (at-wide .wide .result) (c .before .before .before .before .resolve-path .result) (at-fill-numbers .fill-numbers .ensures) (at-start .pre .0 ∙ sym (length-map ws (entryBy false))) (omega (arith, at-start .pre .0, split-some 32 (a .s .now))) (at-wide .wide .ensures) (c .before .before .before .before .resolve-path .ensures)) (c .before .before .put-stated .ensures)
 
 pub put-path-spec : {M : Type 1} → statement M
 put-path-spec =
@@ -64,10 +64,10 @@ put-path-spec =
     fill-numbers-requires
     array-read-wide
     wide-requires
-    sub-ask-path
-    part-ask-path-start
-    part-ask-path-end
-    ask-path-requires
+    sub-resolve-path
+    part-resolve-path-start
+    part-resolve-path-end
+    resolve-path-requires
     put-stated-requires
     same-length
     returns)

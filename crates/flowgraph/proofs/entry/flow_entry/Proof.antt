@@ -4,14 +4,14 @@ use Rattle.telling.specs.QuestionTold.{entered-told}
 use Rattle.flowgraph.proofs.entry.flow_entry.Statement.{statement}
 use Rattle.flowgraph.proofs.entry.flow_entry.Tie as tie
 
-ask-entry-requires : tie.Need-ask-entry-requires
-ask-entry-requires c κs = search needs
+line-first-requires : tie.Need-line-first-requires
+line-first-requires c κs = search needs
 
 tell-entered-requires : tie.Need-tell-entered-requires
 tell-entered-requires c κs = search needs
 
 returns : tie.Need-returns
-returns c = entered-told _ (c .before .before .ask-entry .ensures) (c .tell-entered .ensures)
+returns c = entered-told _ (c .before .before .line-first .ensures) (c .tell-entered .ensures)
 
 pub flow-entry-spec : {M : Type 1} → statement M
-flow-entry-spec = tie.close (tie.spec ask-entry-requires tell-entered-requires returns)
+flow-entry-spec = tie.close (tie.spec line-first-requires tell-entered-requires returns)

@@ -4,8 +4,8 @@ use Rattle.telling.specs.QuestionTold.{framed-told}
 use Rattle.flowgraph.proofs.frame.flow_frame.Statement.{statement}
 use Rattle.flowgraph.proofs.frame.flow_frame.Tie as tie
 
-ask-frame-requires : tie.Need-ask-frame-requires
-ask-frame-requires c κs = search needs
+frame-successors-requires : tie.Need-frame-successors-requires
+frame-successors-requires c κs = search needs
 
 tell-framed-requires : tie.Need-tell-framed-requires
 tell-framed-requires c κs = search needs
@@ -14,7 +14,7 @@ same-length : tie.Need-same-length
 same-length c = search needs
 
 returns : tie.Need-returns
-returns c = record { told = framed-told _ (c .before .before .before .before .ask-frame .ensures .told) (c .tell-framed .ensures); slice = c .before .before .before .before .ask-frame .ensures .slice }
+returns c = record { told = framed-told _ (c .before .before .before .before .frame-successors .ensures .told) (c .tell-framed .ensures); slice = c .before .before .before .before .frame-successors .ensures .slice }
 
 pub flow-frame-spec : {M : Type 1} → statement M
-flow-frame-spec = tie.close (tie.spec ask-frame-requires tell-framed-requires same-length returns)
+flow-frame-spec = tie.close (tie.spec frame-successors-requires tell-framed-requires same-length returns)
