@@ -19,17 +19,15 @@ use Rattle.graph.specs.Nodes.{NodeStmt, Node, nodes}
 use Rattle.graph.specs.NodeWords.{stmtWord, stmtNumber}
 use Rattle.graph.specs.Print.{printedRefusal}
 use Rattle.graph.specs.Build.{Built, graph, build}
-use Rattle.wiring.specs.GraphTables.{Sizes, capacity, Answered}
+use Rattle.wiring.specs.GraphTables.{Sizes, Tables, tablesOf, capacity, BuildWrote, Answered}
 use Rattle.formatting.specs.Printing.{Puts, puts-none, puts-is}
-use Rattle.wiring.specs.Demands.{Tables, ListingOf, LongEnough, Written, BuildWrote, demands}
+use Rattle.wiring.specs.BuildAnswers.{accepted-built, refused-by}
 use Rattle.wiring.specs.declared.build.Built.{Built as BuiltAnswer}
 use Rattle.wiring.specs.declared.build.Built.the-variants as built
-use Rattle.printing.specs.ListGraph.{graph-built}
 use Rattle.graph.specs.Questions.{Reply, answer, askStatement, askPath, foundOr, statementOf, nodeFrom}
-use Rattle.questions.specs.TableAnswers.{answers-of}
-use Rattle.questions.specs.StatementAnswers.{numbered, node-answer, path-answer}
+use Rattle.questions.specs.Mission.{numbered, Questions}
+use Rattle.questions.specs.MissionProof.{mission}
 use Rattle.questions.specs.Words.{word-low}
-use Rattle.questions.specs.FrameBuilt.{frame-built}
 use Rattle.answers.specs.Flowask.{Question, ofSuccessors, ofPredecessors, ofStatement, ofEntry, ofPath, ofFrame, stmtRow, replyRow, answerRow, question, outcomeRow, rowAnswer, ending, answerRows, parts, answers, askText}
 use Rattle.answers.specs.AnswersAt.{numberedRow, successorsAnswer, predecessorsAnswer, statementAnswer, pathAnswer, entryAnswer, frameAnswer, answerAt}
 use Rattle.answers.specs.TextLaws.{CutAt}
@@ -88,21 +86,22 @@ path-row i l p (n ∷ ns) = go (eqb (n .line) l && same (n .path) p) (path-row (
 
 -- ---- on tables that a build wrote the answers are those of the listing's graph
 
-module _ (text : List ℕ) (s : Sizes) (T : Tables) (x : BuiltAnswer) (wrote : BuildWrote text s T x) (L : Listing) (h : ListingOf text L) (g : LongEnough s L) (w : Written L s T) where
+module _ (L : Listing) (T : Tables) (m : Questions L T) where
   answer-is : (q : Question) → answerAt (T .counts) (T .lines) (T .stmts) (T .args) (T .entries) (T .falls) (T .lists) (T .succ) (T .pred) q ≡ answerRow L q
   unfolding answerAt answerRow successorsAnswer predecessorsAnswer statementAnswer pathAnswer entryAnswer frameAnswer askStatement askPath
-  answer-is (ofSuccessors i) = ap (replyRow _) (answers-of L s T (h .in-form) g w .successors-are i)
-  answer-is (ofPredecessors i) = ap (replyRow _) (answers-of L s T (h .in-form) g w .predecessors-are i)
-  answer-is (ofStatement i) = ap (replyRow numberedRow) (node-answer text s T x wrote L h g i) ∙ statement-row i (getElem? (nodes (L .lines)) i)
-  answer-is (ofEntry n) = ap (replyRow _) (answers-of L s T (h .in-form) g w .entry-is n)
-  answer-is (ofPath l p) = ap (replyRow numberedRow) (path-answer text s T x wrote L h g l p) ∙ path-row 0 l p (nodes (L .lines))
-  answer-is (ofFrame a i v flag) = ap (replyRow _) (frame-built L s T (h .in-form) g w a i v flag 4096)
+  answer-is (ofSuccessors i) = ap (replyRow _) (m .successors i)
+  answer-is (ofPredecessors i) = ap (replyRow _) (m .predecessors i)
+  answer-is (ofStatement i) = ap (replyRow numberedRow) (m .statement i) ∙ statement-row i (getElem? (nodes (L .lines)) i)
+  answer-is (ofEntry n) = ap (replyRow _) (m .entry n)
+  answer-is (ofPath l p) = ap (replyRow numberedRow) (m .path l p) ∙ path-row 0 l p (nodes (L .lines))
+  answer-is (ofFrame a i v flag) = ap (replyRow _) (m .frame a i v flag 4096)
 
 pub build-answers : (text : List ℕ) (s : Sizes) (T : Tables) (x : BuiltAnswer) → BuildWrote text s T x → x ≡ built.Graph
     → (L : Listing) × (build (capacity s) text ≡ graph L) × ((q : Question) → answerAt (T .counts) (T .lines) (T .stmts) (T .args) (T .entries) (T .falls) (T .lists) (T .succ) (T .pred) q ≡ answerRow L q)
 build-answers text s T x wrote e =
-    let d = demands text s T x wrote .first .graph-of e in
-    (d .0, graph-built text s (d .0) (d .1) (d .2), answer-is text s T x wrote (d .0) (d .1) (d .2) (d .3))
+    let M = mission text s T x wrote in
+    let d = M .first .graph-of e in
+    (d .0, accepted-built text s (d .0) (d .1) (d .2), answer-is (d .0) T (M .questions (d .0) (d .1) e))
 
 -- ---- the rows, by answers that are the same
 

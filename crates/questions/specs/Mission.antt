@@ -26,7 +26,7 @@ use Rattle.adjacency.specs.ListsAt.{successorsAt, predecessorsAt, listReply, pa
 use Rattle.adjacency.specs.EntryAt.{entryAt}
 use Rattle.statements.specs.StatementAt.{nodeStatement, pathStatement}
 use Rattle.frame_lists.specs.FrameAt.{frameAt}
-use Rattle.frame_slices.specs.Told.{FrameTold}
+use Rattle.frame_slices.specs.Told.{framedOf, sliceAfter, FrameTold}
 use Rattle.frame_slices.specs.declared.slices.Framed.{Framed}
 
 -- ---- demand 1
@@ -93,11 +93,14 @@ pub record Questions (L : Listing) (T : Tables) : Type 0 where
   pub statement : (i : ℕ) → nodeStatement (T .counts) (T .stmts) i ≡ numbered (askStatement L i)
   pub path : (line : ℕ) (p : List ℕ) → pathStatement (T .counts) (T .stmts) line p ≡ numbered (askPath L line p)
   pub entry : (number : ℕ) → entryAt (T .counts) (T .lines) (T .entries) number ≡ askEntry L number
-  -- whatever slice is lent: the answer is that of the graph for its room, "zeroes .. past the used parts .. and so does the frame question its slice", and
-  -- "a refused question writes nothing"
-  pub frame : (header node : ℕ) (v : Name) (flag : Bool) (out out′ : List ℕ) (r : Framed)
+  -- whatever room there is
+  pub frame : (header node : ℕ) (v : Name) (flag : Bool) (room : ℕ)
+      → frameAt (getD (T .counts) 0 0) (getD (T .counts) 1 0) (T .stmts) (T .args) (T .falls) (T .lists) (T .succ) header node v flag room ≡ askFrame L header node v flag room
+  -- whatever slice is lent, by what the routine promises: the answer is that of the graph for its room; an accepted build "zeroes its tables past the used
+  -- parts, and so does the frame question its slice"; "a refused question writes nothing"
+  pub slice : (header node : ℕ) (v : Name) (flag : Bool) (out out′ : List ℕ) (r : Framed)
       → FrameTold (frameAt (getD (T .counts) 0 0) (getD (T .counts) 1 0) (T .stmts) (T .args) (T .falls) (T .lists) (T .succ) header node v flag (length out)) out out′ r
-      → FrameTold (askFrame L header node v flag (length out)) out out′ r
+      → (r ≡ framedOf (askFrame L header node v flag (length out))) × (out′ ≡ sliceAfter (askFrame L header node v flag (length out)) out)
 
 -- ---- the mission
 

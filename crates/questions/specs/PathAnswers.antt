@@ -22,7 +22,7 @@ use Rattle.passes.specs.OpenerLaws.{in-range}
 use Rattle.passes.specs.Paths.{node-read}
 use Rattle.tables.specs.Columns.{wordOf, holderOf, indexOf, lineOf, heldBy, pathIn}
 use Rattle.passes.specs.ListedNodes.{same-self}
-use Rattle.graph.specs.Questions.{Reply, nodeFrom}
+use Rattle.graph.specs.Questions.{nodeFrom}
 use Rattle.statements.specs.StatementAt.{recordOutside, branchingWord, standsAt, firstFrom, childAt, stmtAt, ifFound, statementFrom, climb, noStatement}
 use Rattle.statements.specs.StatementLaws.{other-holder, other-index, under-if, on-line, child-le}
 use Rattle.questions.specs.PathNodes.{HeldBy, onLine, inIf, line-below, one-node, node-held}
