@@ -7,7 +7,7 @@ use mathlib.Core.Option.{Option, none, some}
 use lib.Dec.{eqb}
 use lib.ListN.{length, getD, take, drop}
 use Rattle.listings.specs.Bytes.{pick}
-use Rattle.passes.specs.FrameStacks.{topOf, Holds}
+use Rattle.passes.specs.FrameStacks.{topOf, underTop, Holds}
 use Rattle.passes.specs.ListedNodes.{keysAt}
 
 -- the newest FOR whose name has the key v, and what lies under it
@@ -22,10 +22,6 @@ foundNumber (some r) = suc (r .0)
 abbrev pub underFound : List ℕ → Option (ℕ × List ℕ) → List ℕ
 underFound l none = l
 underFound l (some r) = r .1
-
-abbrev pub underTop : List ℕ → List ℕ
-underTop [] = []
-underTop (o ∷ l) = l
 
 -- a slot with that key: one more than the FOR that it pops, or 0; and what is left
 unfoldable pub popKey : List ℕ → ℕ → List ℕ → ℕ × List ℕ

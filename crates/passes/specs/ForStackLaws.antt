@@ -11,8 +11,8 @@ use lib.Dec.{eqb}
 use lib.ListN.{length, getD, set, take, drop, replicate, drop-of-length-le, length-append, length-drop, take-append-drop}
 use lib.Seq.{take-suc, take-at, take-all, drop-cons, set-at, length-take-le, drop-drop}
 use Rattle.listings.specs.Bytes.{pick}
-use Rattle.passes.specs.FrameStacks.{topOf, Holds, holds[], holds∷, HoldsBelow, TopIs, Pushed, BelowIs, CutAt}
-use Rattle.passes.specs.FrameStackLaws.{holds-same}
+use Rattle.passes.specs.FrameStacks.{topOf, pushed, topMark, under, Holds, holds[], holds∷, HoldsBelow}
+use Rattle.passes.specs.FrameStackLaws.{top-held, under-held}
 use Rattle.passes.specs.ForStack.{findKey, foundNumber, underFound, popKey, keyLinks, keysLeft, pushKey, movesFors, forsOpen, forsLinked, Sought, SlotFound, SlotPopped, ForPushed, SlotsPopped, NodeLinked}
 use Rattle.passes.specs.ListedNodes.{keysAt}
 use Rattle.tables.specs.Stores.{clearedBehind}
@@ -83,8 +83,8 @@ pub record Left (ks : List ℕ) (v t : ℕ) (l : List ℕ) : Type 0 where
 abbrev pub Seeking : List ℕ → ℕ → List ℕ → ℕ → Type 0
 Seeking ks v ws t = (l : List ℕ) → Holds ws l → Left ks v t l
 
-pub seek-start : (ks : List ℕ) (v : ℕ) (ws : List ℕ) (t : ℕ) → TopIs ws t → Seeking ks v ws t
-seek-start ks v ws t u l o = record { gone = []; rest = l; whole = refl; top = u l o; alike = refl }
+pub seek-start : (ks : List ℕ) (v : ℕ) (ws : List ℕ) (t : ℕ) → t ≡ topMark ws → Seeking ks v ws t
+seek-start ks v ws t u l o = record { gone = []; rest = l; whole = refl; top = u ∙ top-held o; alike = refl }
 
 module _ (ks : List ℕ) (v : ℕ) (ws : List ℕ) (t : ℕ) (s : Seeking ks v ws t) where
   pub seek-none : t ≡ 0 → Sought ks v ws 0
@@ -106,7 +106,7 @@ module _ (ks : List ℕ) (v : ℕ) (ws : List ℕ) (t : ℕ) (s : Seeking ks v w
           let f : getD ks (a * 64) 0 ≡ v = rw i at e in
           rw (w, eq-eqb (getD ks (a * 64) 0) v f) q
 
-  pub seek-on : (t ≡ 0 → ⊥) → (getD ks ((t - 1) * 64) 0 ≡ v → ⊥) → (r : ℕ) → BelowIs ws (t - 1) r → Seeking ks v ws r
+  pub seek-on : (t ≡ 0 → ⊥) → (getD ks ((t - 1) * 64) 0 ≡ v → ⊥) → (r : ℕ) → r ≡ topMark (under ws (t - 1)) → Seeking ks v ws r
   unfolding findKey
   seek-on z e r b l o = go (s l o .gone) (s l o .rest) (s l o .whole) (s l o .top) (s l o .alike)
     where
@@ -115,17 +115,17 @@ module _ (ks : List ℕ) (v : ℕ) (ws : List ℕ) (t : ℕ) (s : Seeking ks v w
       go p (a ∷ q) w h m =
           let i : t - 1 ≡ a = omega arith in
           let f : getD ks (a * 64) 0 ≡ v → ⊥ = rw i at e in
-          let c : BelowIs ws a r = rw i at b in
-          record { gone = p ++ (a ∷ []); rest = q; whole = w ∙ sym (append-assoc p (a ∷ []) q); top = c p q (rw w at o); alike = m ∙ rw (ne-eqb (getD ks (a * 64) 0) v f) }
+          let c : r ≡ topMark (under ws a) = rw i at b in
+          record { gone = p ++ (a ∷ []); rest = q; whole = w ∙ sym (append-assoc p (a ∷ []) q); top = c ∙ top-held (under-held p a q (rw w at o)); alike = m ∙ rw (ne-eqb (getD ks (a * 64) 0) v f) }
 
--- ---- what is found is cut
+-- ---- what is found is popped, and all above it
 
-found-cut : (ws us : List ℕ) (t : ℕ) (l : List ℕ) (s : Option (ℕ × List ℕ)) → Split l s → Holds ws l → t ≡ foundNumber s → (t ≡ 0 → ⊥) → CutAt ws (t - 1) us → Holds us (underFound l s)
+found-cut : (ws us : List ℕ) (t : ℕ) (l : List ℕ) (s : Option (ℕ × List ℕ)) → Split l s → Holds ws l → t ≡ foundNumber s → (t ≡ 0 → ⊥) → us ≡ under ws (t - 1) → Holds us (underFound l s)
 found-cut ws us t l none nowhere o e z c = absurd (z e)
 found-cut ws us t l (some x) (split p k r w) o e z c =
     let i : t - 1 ≡ k = omega arith in
-    let d : CutAt ws k us = rw i at c in
-    d p r (rw w at o)
+    let d : us ≡ under ws k = rw i at c in
+    rw d (under-held p k r (rw w at o))
 
 found-none : (ws : List ℕ) (t : ℕ) (l : List ℕ) (s : Option (ℕ × List ℕ)) → Holds ws l → t ≡ foundNumber s → t ≡ 0 → Holds ws (underFound l s)
 found-none ws t l none o e z = o
@@ -145,9 +145,9 @@ pop-split ks zero [] = record { found = none; split = nowhere; popped = refl }
 pop-split ks zero (o ∷ l) = record { found = some (o, l); split = split [] o l refl; popped = refl }
 pop-split ks (suc v) l = record { found = findKey ks (suc v) l; split = find-split ks (suc v) l; popped = refl }
 
-pub slot-any : (ks : List ℕ) (v : ℕ) (ws : List ℕ) (f : ℕ) → v ≡ 0 → TopIs ws f → SlotFound ks v ws f
+pub slot-any : (ks : List ℕ) (v : ℕ) (ws : List ℕ) (f : ℕ) → v ≡ 0 → f ≡ topMark ws → SlotFound ks v ws f
 unfolding popKey
-slot-any ks v ws f z t l o = rw z (t l o)
+slot-any ks v ws f z t l o = rw z (t ∙ top-held o)
 
 pub slot-name : (ks : List ℕ) (v : ℕ) (ws : List ℕ) (f : ℕ) → (v ≡ 0 → ⊥) → Sought ks v ws f → SlotFound ks v ws f
 unfolding popKey
@@ -161,20 +161,8 @@ module _ (ks : List ℕ) (v : ℕ) (ws : List ℕ) (f : ℕ) (s : SlotFound ks v
   pub slot-none : f ≡ 0 → SlotPopped ks v ws ws f
   slot-none z l o = let g = pop-split ks v l in rw (g .popped) (number-found l o, found-none ws f l (g .found) o (number-found l o) z)
 
-  pub slot-cut : (us : List ℕ) → (f ≡ 0 → ⊥) → CutAt ws (f - 1) us → SlotPopped ks v ws us f
+  pub slot-cut : (us : List ℕ) → (f ≡ 0 → ⊥) → us ≡ under ws (f - 1) → SlotPopped ks v ws us f
   slot-cut us z c l o = let g = pop-split ks v l in rw (g .popped) (number-found l o, found-cut ws us f l (g .found) (g .split) o (number-found l o) z c)
-
-  -- the newest of those that are left
-  pub slot-top : (us : List ℕ) (i r : ℕ) → HoldsBelow ws i → (f ≡ 0 → ⊥) → CutAt ws (f - 1) us → BelowIs ws (f - 1) r → TopIs us r
-  slot-top us i r b z c e l o = go (pop-split ks v (b .openers) .found) (pop-split ks v (b .openers) .split) (number-found (b .openers) (b .held))
-    where
-      go : (x : Option (ℕ × List ℕ)) → Split (b .openers) x → f ≡ foundNumber x → r ≡ topOf l
-      go none nowhere q = absurd (z q)
-      go (some x) (split p k m w) q =
-          let d : f - 1 ≡ k = omega arith in
-          let held = rw w at (b .held) in
-          let under : Holds us m = (rw d at c) p m held in
-          (rw d at e) p m held ∙ ap topOf (holds-same m l under o)
 
 pop-le : (ks : List ℕ) (v : ℕ) (l : List ℕ) → Descends l → Lower l ((popKey ks v l) .1) ((popKey ks v l) .0)
 pop-le ks v l d = let g = pop-split ks v l in rw (g .popped) (under-le l (g .found) (g .split) d)
@@ -191,21 +179,21 @@ sought-fits ks v ws f i o s = omega (arith, o .below, s (o .openers) (o .held), 
 
 -- ---- FOR
 
-module _ (ks : List ℕ) (i : ℕ) (ws us : List ℕ) (f : ℕ) (s : Sought ks (getD ks (i * 64) 0) ws f) where
-  pub push-new : f ≡ 0 → Pushed ws i us → ForPushed ks i ws us
+module _ (ks : List ℕ) (i : ℕ) (ws us : List ℕ) (f : ℕ) (small : i < 4096) (s : Sought ks (getD ks (i * 64) 0) ws f) where
+  pub push-new : f ≡ 0 → us ≡ pushed ws i → ForPushed ks i ws us
   unfolding pushKey
   push-new z p l o h =
       let r = findKey ks (getD ks (i * 64) 0) l in
-      p (underFound l r) (found-none ws f l r o (s l o) z) (omega (arith, under-le l r (find-split ks (getD ks (i * 64) 0) l) (holds-desc o) .top))
+      holds∷ {i = i} (found-none ws f l r o (s l o) z) (omega (arith, under-le l r (find-split ks (getD ks (i * 64) 0) l) (holds-desc o) .top)) small p
 
-  pub push-cut : (xs : List ℕ) → (f ≡ 0 → ⊥) → CutAt ws (f - 1) xs → Pushed xs i us → ForPushed ks i ws us
+  pub push-cut : (xs : List ℕ) → (f ≡ 0 → ⊥) → xs ≡ under ws (f - 1) → us ≡ pushed xs i → ForPushed ks i ws us
   unfolding pushKey
   push-cut xs z c p l o h =
       let r = findKey ks (getD ks (i * 64) 0) l in
       let w = find-split ks (getD ks (i * 64) 0) l in
-      p (underFound l r) (found-cut ws xs f l r w o (s l o) z c) (omega (arith, under-le l r w (holds-desc o) .top))
+      holds∷ {i = i} (found-cut ws xs f l r w o (s l o) z c) (omega (arith, under-le l r w (holds-desc o) .top)) small p
 
-pub cut-open : (ks : List ℕ) (v : ℕ) (ws xs : List ℕ) (f i : ℕ) → Sought ks v ws f → (f ≡ 0 → ⊥) → CutAt ws (f - 1) xs → HoldsBelow ws i → HoldsBelow xs i
+pub cut-open : (ks : List ℕ) (v : ℕ) (ws xs : List ℕ) (f i : ℕ) → Sought ks v ws f → (f ≡ 0 → ⊥) → xs ≡ under ws (f - 1) → HoldsBelow ws i → HoldsBelow xs i
 cut-open ks v ws xs f i s z c o =
     let r = findKey ks v (o .openers) in
     let w = find-split ks v (o .openers) in
@@ -250,16 +238,16 @@ popping-start ks vs ws row l o = record { row-is = refl; held = o }
 set-next : (a row : List ℕ) (j v : ℕ) → length a ≡ j → j < length row → set (a ++ drop j row) j v ≡ (a ++ (v ∷ [])) ++ drop (suc j) row
 set-next a row j v n h = rw (drop-cons row j 0 h) (set-at a (getD row j 0) (drop (suc j) row) v j n ∙ sym (append-assoc a (v ∷ []) (drop (suc j) row)))
 
-pub popping-on : (ks vs ws us xs row₀ row : List ℕ) (j f e : ℕ) → j < length vs → length vs ≡ length row₀ → e ≡ f → PoppingTo ks vs ws us row₀ row j → SlotPopped ks (getD vs j 0) us xs f
-    → PoppingTo ks vs ws xs row₀ (set row j e) (j + 1)
+pub popping-on : (ks vs ws us xs row₀ row row′ : List ℕ) (j f : ℕ) → j < length vs → length vs ≡ length row₀ → row′ ≡ set row j f → PoppingTo ks vs ws us row₀ row j → SlotPopped ks (getD vs j 0) us xs f
+    → PoppingTo ks vs ws xs row₀ row′ (j + 1)
 unfolding keyLinks keysLeft
-popping-on ks vs ws us xs row₀ row j f e h s q p t l o =
+popping-on ks vs ws us xs row₀ row row′ j f h s q p t l o =
     let g = p l o in
     let u = t (keysLeft ks (take j vs) l) (g .held) in
     let a = keyLinks ks (take j vs) l in
     let n : length a ≡ j = links-length ks (take j vs) l ∙ length-take-le j vs (omega arith) in
-    let r : set row j e ≡ (a ++ ((popKey ks (getD vs j 0) (keysLeft ks (take j vs) l)) .0 ∷ [])) ++ drop (suc j) row₀
-    = ap (λ (x : List ℕ). set x j e) (g .row-is) ∙ set-next a row₀ j e n (omega arith) ∙ ap (λ (x : ℕ). (a ++ (x ∷ [])) ++ drop (suc j) row₀) (q ∙ u .0) in
+    let r : row′ ≡ (a ++ ((popKey ks (getD vs j 0) (keysLeft ks (take j vs) l)) .0 ∷ [])) ++ drop (suc j) row₀
+    = q ∙ ap (λ (x : List ℕ). set x j f) (g .row-is) ∙ set-next a row₀ j f n (omega arith) ∙ ap (λ (x : ℕ). (a ++ (x ∷ [])) ++ drop (suc j) row₀) (u .0) in
     record { row-is = rw (add-one, take-suc vs j 0 h, links-append) r; held = rw (add-one, take-suc vs j 0 h, left-append) (u .1) }
 
 pub popping-end : (ks vs ws us row₀ row : List ℕ) (j : ℕ) → length row₀ ≤ j → length vs ≡ length row₀ → PoppingTo ks vs ws us row₀ row j → SlotsPopped ks vs ws us row
@@ -269,9 +257,9 @@ popping-end ks vs ws us row₀ row j h s p l o =
     let d : drop j row₀ ≡ [] = drop-of-length-le row₀ h in
     (g .row-is ∙ rw (t, d) (append-nil (keyLinks ks vs l)), rw t at (g .held))
 
-pub popping-none : (ks vs ws us row₀ row : List ℕ) (j f : ℕ) → j ≤ length row₀ → length vs ≡ length row₀ → f ≡ 0 → TopIs us f → PoppingTo ks vs ws us row₀ row j → SlotsPopped ks vs ws us (clearedBehind j row)
+pub popping-none : (ks vs ws us row₀ row : List ℕ) (j f : ℕ) → j ≤ length row₀ → length vs ≡ length row₀ → f ≡ 0 → f ≡ topMark us → PoppingTo ks vs ws us row₀ row j → SlotsPopped ks vs ws us (clearedBehind j row)
 unfolding clearedBehind
-popping-none ks vs ws us row₀ row j f h s z t p l o = go (keysLeft ks (take j vs) l) (g .held) refl (t (keysLeft ks (take j vs) l) (g .held))
+popping-none ks vs ws us row₀ row j f h s z t p l o = go (keysLeft ks (take j vs) l) (g .held) refl (t ∙ top-held (g .held))
   where
     g : Popping ks vs ws us row₀ row j l
     g = p l o

@@ -41,7 +41,7 @@ FrameMet m i ws t t′ = (l : List ℕ) → Holds ws l → topOf l ≤ i → t�
 abbrev pub FrameMoved : Move → ℕ → List ℕ → List ℕ → Type 0
 FrameMoved m i ws us = (l : List ℕ) → Holds ws l → topOf l ≤ i → Holds us (openersAfter i m l)
 
--- both
+-- one node's step
 pub record Stepped (m : Move) (i : ℕ) (ws us t t′ : List ℕ) : Type 0 where
   pub held : FrameMoved m i ws us
   pub written : FrameMet m i ws t t′

@@ -1,7 +1,7 @@
 -- The pass over the stacks: one node's step, and the entries that it leaves. Assumes nothing.
 use Prim.Native.Nat.{ℕ, suc, _+_, _*_, _<_, _≤_}
 use mathlib.Core.Path.{_≡_, refl, sym, ap, _∙_}
-use mathlib.Core.Bool.{false}
+use mathlib.Core.Bool.{Bool, true, false}
 use mathlib.Core.List.{List, [], _∷_}
 use mathlib.Core.Logic.{_⊎_, inl, inr}
 use mathlib.Core.Option.{some}
@@ -16,45 +16,40 @@ use Rattle.graph.specs.NodeWords.{stmtNumber}
 use Rattle.graph.specs.Edges.{Move, stays, opens, closes, joins, nodeMoves, Stack, loopStack, doStack}
 use Rattle.graph_laws.specs.PerNode.{openersAfter, Met, nothing, closing, joining, meets, moveOn, metOn, noOpeners, Fact, facts}
 use Rattle.passes.specs.Frames.{loopMove, doMove, wordMove, Worded, eitherMet, metNumber, frameMet, metEntry}
-use Rattle.passes.specs.FrameStacks.{topOf, Holds, holds∷, HoldsBelow, Pushed, PoppedIs, PoppedTo, TopIs}
+use Rattle.passes.specs.FrameStacks.{topOf, underTop, pushed, topMark, popped, Holds, holds∷, HoldsBelow}
+use Rattle.passes.specs.FrameStackLaws.{top-held, pop-held}
 use Rattle.graph_laws.specs.PerNodeLaws.{length-facts}
 use Rattle.passes.specs.OpenerLaws.{some-at, in-range, openAt, open-start, open-next, open-desc, desc-top, met-at}
 use Rattle.passes.specs.MoveLaws.{word-move, one-stack}
-use Rattle.passes.specs.FramePass.{movesStack, metWritten, FrameMet, FrameMoved, Stepped, AllZero, MetUpto, MetBelow, MetFrames}
-
-popped-left : (i : ℕ) (l us : List ℕ) (f : ℕ) → PoppedIs l us f → Holds us (openersAfter i closes l)
-unfolding openersAfter
-popped-left i [] us f p = p .1
-popped-left i (o ∷ l) us f p = p .1
+use Rattle.passes.specs.FramePass.{metWritten, Stepped, AllZero, MetUpto, MetBelow, MetFrames}
 
 -- ---- one node's step, by its move
-module _ (i : ℕ) (ws us : List ℕ) (m : Move) where
-  pub moved-opens : m ≡ opens → Pushed ws i us → FrameMoved m i ws us
-  unfolding openersAfter
-  moved-opens e p l o h = rw e (p l o h)
 
-  pub moved-closes : (f : ℕ) → m ≡ closes → PoppedTo ws us f → FrameMoved m i ws us
-  moved-closes f e p l o h = rw e (popped-left i l us f (p l o))
-
-pub moved-none : (i : ℕ) (ws : List ℕ) (m : Move) → movesStack m ≡ false → FrameMoved m i ws ws
+under-closed : (i : ℕ) (l : List ℕ) → openersAfter i closes l ≡ underTop l
 unfolding openersAfter
-moved-none i ws stays e l o h = o
-moved-none i ws opens e l o h = absurd (let z : _≡_ {A = ℕ} 0 1 = cc in omega arith)
-moved-none i ws closes e l o h = absurd (let z : _≡_ {A = ℕ} 0 1 = cc in omega arith)
-moved-none i ws joins e l o h = o
+under-closed i [] = refl
+under-closed i (o ∷ l) = refl
 
 module _ (i : ℕ) (ws t : List ℕ) (m : Move) where
-  pub met-stays : m ≡ stays → FrameMet m i ws t t
-  met-stays e l o h = rw e
+  pub step-stays : m ≡ stays → Stepped m i ws ws t t
+  unfolding openersAfter
+  step-stays e = record { held = λ l o h. rw e o; written = λ l o h. rw e }
 
-  pub met-opens : m ≡ opens → FrameMet m i ws t t
-  met-opens e l o h = rw e
+  pub step-opens : (us : List ℕ) → m ≡ opens → i < 4096 → us ≡ pushed ws i → Stepped m i ws us t t
+  unfolding openersAfter
+  step-opens us e lt p = record { held = λ l o h. rw e (holds∷ o h lt p); written = λ l o h. rw e }
 
-  pub met-closes : (f n : ℕ) → m ≡ closes → TopIs ws f → n ≡ f → FrameMet m i ws t (set t (i * 3) n)
-  met-closes f n e p q l o h = rw (e, q, p l o)
+  -- the frame f that the pop hands back is written
+  pub step-closes : (us : List ℕ) (f n : ℕ) → m ≡ closes → us ≡ popped ws → f ≡ topMark ws → n ≡ f → Stepped m i ws us t (set t (i * 3) n)
+  step-closes us f n e p q r = record { held = λ l o h. rw (e, p, under-closed i l) (pop-held l o); written = λ l o h. rw (e, r, q, top-held o) }
 
-  pub met-joins : (f n : ℕ) → m ≡ joins → TopIs ws f → n ≡ f → FrameMet m i ws t (set t (i * 3) n)
-  met-joins f n e p q l o h = rw (e, q, p l o)
+  pub step-joins : (f n : ℕ) → m ≡ joins → f ≡ topMark ws → n ≡ f → Stepped m i ws ws t (set t (i * 3) n)
+  unfolding openersAfter
+  step-joins f n e q r = record { held = λ l o h. rw e o; written = λ l o h. rw (e, r, q, top-held o) }
+
+-- a move either changes the stack or not
+pub not-both : (x : Bool) → x ≡ true → x ≡ false → ⊥
+not-both x p q = let z : _≡_ {A = Bool} true false = sym p ∙ q in let y : _≡_ {A = ℕ} 0 1 = cc in omega arith
 
 -- ---- what a step writes
 written-length : (m : Move) (i : ℕ) (l t : List ℕ) → length (metWritten m i l t) ≡ length t
@@ -123,7 +118,7 @@ holds-next m i ws us t t′ h s =
 below-next : (m : Move) (i : ℕ) (ws us t t′ : List ℕ) → HoldsBelow ws i → i * 3 < length t → Stepped m i ws us t t′ → MetBelow t → MetBelow t′
 below-next m i ws us t t′ h g s b = rw (s .written (h .openers) (h .held) (h .below)) (written-below m i (h .openers) t (h .below) g b)
 
-step-length : (m : Move) (i : ℕ) (ws us t t′ : List ℕ) → HoldsBelow ws i → Stepped m i ws us t t′ → length t′ ≡ length t
+pub step-length : (m : Move) (i : ℕ) (ws us t t′ : List ℕ) → HoldsBelow ws i → Stepped m i ws us t t′ → length t′ ≡ length t
 step-length m i ws us t t′ h s = ap length (s .written (h .openers) (h .held) (h .below)) ∙ written-length m i (h .openers) t
 
 -- of one list of nodes

@@ -8,7 +8,7 @@ use lib.Seq.{sets, sets-eq, take-at, drop-at, drop-append-add}
 use Rattle.listings.specs.Every.{All, all[], all∷}
 use Rattle.listings.specs.Listing.{Name, Listing}
 use Rattle.listings.specs.Records.{padded}
-use Rattle.reader.specs.Tables.{padded-length, padded-nil, drop-zeros}
+use Rattle.reader.specs.Tables.{padded-length, drop-zeros}
 use Rattle.graph.specs.Nodes.{NodeStmt, Node, Entries}
 use Rattle.graph.specs.Targets.{onSimple}
 use Rattle.graph.specs.Edges.{ForMove, keepFors, pushFor, popFors, onFors, movesOf, nodeMoves}

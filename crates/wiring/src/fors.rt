@@ -12,7 +12,7 @@ ghost use Prim.Native.Nat.{_+_, _*_, _/_, _≤_, _<_};
 ghost use lib.Dec.{eqb};
 ghost use lib.ListN.{length, getD, replicate};
 ghost use Rattle.passes.specs.ListedNodes.{SlotsCounted, AllCounted};
-ghost use Rattle.passes.specs.FrameStacks.{HoldsBelow, TopIs};
+ghost use Rattle.passes.specs.FrameStacks.{HoldsBelow, topMark};
 ghost use Rattle.passes.specs.ForStack.{movesFors, Sought, SlotFound, ForPushed, SlotsPopped, NodeLinked};
 ghost use Rattle.passes.specs.Sets.{bit};
 ghost use Rattle.passes.specs.NotedKeys.{noteOf, KeysNoted};
@@ -54,7 +54,7 @@ fn is_noted(notes: &[u64; 512], key: u64) -> bool
 // One more than the newest open FOR whose name has the key v, or 0; top is one more than the newest of all.
 fn seek(args: &[u64], words: &[u64; 64], top: usize, v: u64) -> usize
     requires { ⌜ HoldsBelow (now words) (length (now args) / 64) ⌝ }
-    requires { ⌜ TopIs (now words) top ⌝ }
+    requires { ⌜ top ≡ topMark (now words) ⌝ }
     ensures { λ r. ⌜ Sought (now (args .entry)) v (now (words .entry)) r ⌝ }
 {
     let mut t = top;
@@ -78,7 +78,8 @@ fn push_for(args: &[u64], s: FrameStack, i: usize) -> FrameStack
     if t == 0 {
         return s.push(i);
     }
-    let u = s.cut(t - 1);
+    let p = s.pop_to(t - 1);
+    let u = p.stack;
     u.push(i)
 }
 
@@ -102,7 +103,7 @@ fn open_for(args: &[u64], s: FrameStack, i: usize, notes: &mut [u64; 512]) -> Fr
 fn slot_frame(args: &[u64], words: &[u64; 64], notes: &[u64; 512], top: usize, key: u64) -> usize
     requires { ⌜ HoldsBelow (now words) (length (now args) / 64) ⌝ }
     requires { ⌜ KeysNoted (now args) (now notes) (now words) ⌝ }
-    requires { ⌜ TopIs (now words) top ⌝ }
+    requires { ⌜ top ≡ topMark (now words) ⌝ }
     ensures { λ r. ⌜ SlotFound (now (args .entry)) key (now (words .entry)) r ⌝ }
 {
     if key == 0 {
@@ -137,10 +138,13 @@ fn pop_slots(
             return t;
         }
         let f = slot_frame(args, &t.words, notes, top, keys[j]);
-        row[j] = narrow(f);
-        if f != 0 {
+        if f == 0 {
+            row[j] = 0;
+        } else {
             top = below(&t.words, f - 1);
-            t = t.cut(f - 1);
+            let p = t.pop_to(f - 1);
+            row[j] = narrow(p.frame);
+            t = p.stack;
         }
         j += 1;
     }

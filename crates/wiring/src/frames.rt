@@ -11,17 +11,19 @@ use passes::moves::loop_move;
 use passes::moves::moves;
 use tables::widths::wide;
 ghost use mathlib.Core.Path.{_≡_};
+ghost use mathlib.Core.Bool.{true, false};
 ghost use Prim.Native.Nat.{_+_, _*_, _≤_, _<_};
 ghost use lib.ListN.{length, getD};
 ghost use Rattle.passes.specs.FrameStacks.{HoldsBelow};
 ghost use Rattle.passes.specs.Frames.{Framed};
-ghost use Rattle.passes.specs.FramePass.{moveOf, FrameMet, FrameMoved, AllZero, MetFrames, linked};
+ghost use Rattle.passes.specs.FramePass.{moveOf, movesStack, Stepped, AllZero, MetFrames, linked};
 
-// Node i writes which frame it closes or joins.
-fn meet_frame(words: &[u64; 64], m: FrameMove, i: usize, frames: &mut [u16])
+// Node i leaves the stack alone: if it joins a frame, it writes which.
+fn join_frame(words: &[u64; 64], m: FrameMove, i: usize, frames: &mut [u16])
     requires { ⌜ (i < 4096) × (i * 3 < length (now frames)) ⌝ }
     requires { ⌜ HoldsBelow (now words) i ⌝ }
-    ensures { λ _. ⌜ FrameMet (moveOf m) i (now (words .entry)) (now (frames .entry)) (now (frames .exit)) ⌝ }
+    requires { ⌜ movesStack (moveOf m) ≡ false ⌝ }
+    ensures { λ _. ⌜ Stepped (moveOf m) i (now (words .entry)) (now (words .entry)) (now (frames .entry)) (now (frames .exit)) ⌝ }
 {
     match m {
         FrameMove::Stays => {
@@ -31,7 +33,6 @@ fn meet_frame(words: &[u64; 64], m: FrameMove, i: usize, frames: &mut [u16])
             return;
         }
         FrameMove::Closes => {
-            frames[i * 3] = narrow(newest(words, i));
             return;
         }
         FrameMove::Joins => {
@@ -41,11 +42,12 @@ fn meet_frame(words: &[u64; 64], m: FrameMove, i: usize, frames: &mut [u16])
     }
 }
 
-// Node i opens or closes a frame.
-fn move_stack(s: FrameStack, m: FrameMove, i: usize) -> FrameStack
-    requires { ⌜ i < 4096 ⌝ }
+// Node i opens a frame, or closes one: then it writes the frame that the pop hands back.
+fn move_stack(s: FrameStack, m: FrameMove, i: usize, frames: &mut [u16]) -> FrameStack
+    requires { ⌜ (i < 4096) × (i * 3 < length (now frames)) ⌝ }
     requires { ⌜ HoldsBelow (s .words) i ⌝ }
-    ensures { λ r. ⌜ FrameMoved (moveOf m) i (s .words) (r .words) ⌝ }
+    requires { ⌜ movesStack (moveOf m) ≡ true ⌝ }
+    ensures { λ r. ⌜ Stepped (moveOf m) i (s .words) (r .words) (now (frames .entry)) (now (frames .exit)) ⌝ }
 {
     match m {
         FrameMove::Stays => {
@@ -55,7 +57,8 @@ fn move_stack(s: FrameStack, m: FrameMove, i: usize) -> FrameStack
             return s.push(i);
         }
         FrameMove::Closes => {
-            let p = s.pop();
+            let p = s.pop(i);
+            frames[i * 3] = narrow(p.frame);
             let t = p.stack;
             return t;
         }
@@ -77,14 +80,16 @@ fn meet_frames(stmts: &[u16], n: usize, frames: &mut [u16])
     while i < n {
         let word = stmts[i * 12];
         let l = loop_move(word);
-        meet_frame(&loops.words, l, i, frames);
         if moves(l) {
-            loops = move_stack(loops, l, i);
+            loops = move_stack(loops, l, i, frames);
+        } else {
+            join_frame(&loops.words, l, i, frames);
         }
         let d = do_move(word);
-        meet_frame(&dos.words, d, i, frames);
         if moves(d) {
-            dos = move_stack(dos, d, i);
+            dos = move_stack(dos, d, i, frames);
+        } else {
+            join_frame(&dos.words, d, i, frames);
         }
         i += 1;
     }

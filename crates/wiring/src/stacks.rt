@@ -2,19 +2,20 @@
 use crate::sets::bit;
 use crate::sets::no_words;
 ghost use mathlib.Core.Path.{_≡_};
-ghost use mathlib.Core.List.{[]};
-ghost use Prim.Native.Nat.{_-_, _^_, _≤_, _<_};
-ghost use Rattle.passes.specs.FrameStacks.{Holds, HoldsBelow, Highest, Room, Pushed, PoppedTo, BelowIs, CutAt, TopIs};
+ghost use Prim.Native.Nat.{suc, _-_, _≤_, _<_};
+ghost use lib.Count.{leadingZeros};
+ghost use lib.ListN.{length};
+ghost use Rattle.passes.specs.FrameStacks.{noFrames, pushed, highestMark, topMark, popped, under, HoldsBelow, Room};
 
 // The frame of opener i is bit i % 64 of word i / 64.
-pub struct FrameStack {
-    pub words: [u64; 64],
+pub(crate) struct FrameStack {
+    pub(crate) words: [u64; 64],
 }
 
-// The stack that a pop leaves, and one more than the opener of the popped frame, or 0.
-pub struct Popped {
-    pub stack: FrameStack,
-    pub frame: usize,
+// The stack that a pop leaves, and the popped frame: one more than its opener, or 0.
+pub(crate) struct Popped {
+    pub(crate) stack: FrameStack,
+    pub(crate) frame: usize,
 }
 
 fn wide32(x: u32) -> usize
@@ -23,10 +24,9 @@ fn wide32(x: u32) -> usize
     x as usize
 }
 
-// The place above the highest bit of a word that is not 0.
+// The place above the highest bit of a word.
 fn height(w: u64) -> usize
-    requires { ⌜ 0 < w ⌝ }
-    ensures { λ r. ⌜ (1 ≤ r) × (r ≤ 64) × (2 ^ (r - 1) ≤ w) × (w < 2 ^ r) ⌝ }
+    ensures { λ r. ⌜ r ≡ 64 - leadingZeros 64 w ⌝ }
 {
     64 - wide32(u64::leading_zeros(w))
 }
@@ -34,7 +34,7 @@ fn height(w: u64) -> usize
 // One more than the highest mark in the first n words, or 0.
 fn highest(words: &[u64; 64], n: usize) -> usize
     requires { ⌜ n ≤ 64 ⌝ }
-    ensures { λ r. ⌜ Highest (now (words .entry)) n r ⌝ }
+    ensures { λ r. ⌜ r ≡ highestMark (now (words .entry)) n ⌝ }
 {
     let mut q = n;
     while 0 < q {
@@ -51,14 +51,14 @@ fn highest(words: &[u64; 64], n: usize) -> usize
 pub(crate) fn newest(words: &[u64; 64], i: usize) -> usize
     requires { ⌜ i < 4096 ⌝ }
     requires { ⌜ HoldsBelow (now words) i ⌝ }
-    ensures { λ r. ⌜ TopIs (now (words .entry)) r ⌝ }
+    ensures { λ r. ⌜ r ≡ topMark (now (words .entry)) ⌝ }
 {
     highest(words, i / 64 + 1)
 }
 
 impl FrameStack {
-    pub fn new() -> FrameStack
-        ensures { λ r. ⌜ Holds (r .words) [] ⌝ }
+    pub(crate) fn new() -> FrameStack
+        ensures { λ r. ⌜ r .words ≡ noFrames ⌝ }
     {
         FrameStack { words: no_words() }
     }
@@ -66,7 +66,7 @@ impl FrameStack {
     pub(crate) fn push(mut self, id: usize) -> FrameStack
         requires { ⌜ id < 4096 ⌝ }
         requires { ⌜ Room (self .words) id ⌝ }
-        ensures { λ r. ⌜ Pushed (self .words) id (r .words) ⌝ }
+        ensures { λ r. ⌜ r .words ≡ pushed (self .words) id ⌝ }
     {
         let q = id / 64;
         let b = bit(id % 64);
@@ -75,10 +75,13 @@ impl FrameStack {
         self
     }
 
-    pub fn pop(mut self) -> Popped
-        ensures { λ r. ⌜ PoppedTo (self .words) (r .stack .words) (r .frame) ⌝ }
+    // Pops the newest frame, if there is one. All openers are below i.
+    pub(crate) fn pop(mut self, i: usize) -> Popped
+        requires { ⌜ i < 4096 ⌝ }
+        requires { ⌜ HoldsBelow (self .words) i ⌝ }
+        ensures { λ r. ⌜ (r .frame ≡ topMark (self .words)) × (r .stack .words ≡ popped (self .words)) ⌝ }
     {
-        let t = highest(&self.words, 64);
+        let t = newest(&self.words, i);
         if t == 0 {
             return Popped {
                 stack: self,
@@ -96,10 +99,10 @@ impl FrameStack {
         }
     }
 
-    // Drops the frame of opener id and all above it.
-    pub(crate) fn cut(mut self, id: usize) -> FrameStack
+    // Pops down to the frame of opener id: it and all above it go.
+    pub(crate) fn pop_to(mut self, id: usize) -> Popped
         requires { ⌜ id < 4096 ⌝ }
-        ensures { λ r. ⌜ CutAt (self .words) id (r .words) ⌝ }
+        ensures { λ r. ⌜ (r .frame ≡ suc id) × (r .stack .words ≡ under (self .words) id) ⌝ }
     {
         let q = id / 64;
         let b = bit(id % 64);
@@ -110,14 +113,17 @@ impl FrameStack {
             self.words[j] = 0;
             j += 1;
         }
-        self
+        Popped {
+            stack: self,
+            frame: id + 1,
+        }
     }
 }
 
 // One more than the highest mark below mark id, or 0: the frame under the frame of opener id.
 pub(crate) fn below(words: &[u64; 64], id: usize) -> usize
-    requires { ⌜ id < 4096 ⌝ }
-    ensures { λ r. ⌜ (r ≤ id) × BelowIs (now (words .entry)) id r ⌝ }
+    requires { ⌜ (id < 4096) × (length (now words) ≡ 64) ⌝ }
+    ensures { λ r. ⌜ (r ≤ id) × (r ≡ topMark (under (now (words .entry)) id)) ⌝ }
 {
     let q = id / 64;
     let b = bit(id % 64);

@@ -10,6 +10,7 @@ use Rattle.passes.specs.ListedNodes.{AllCounted}
 use Rattle.passes.specs.FrameStacks.{HoldsBelow}
 use Rattle.passes.specs.ForStack.{NodeLinked}
 use Rattle.passes.specs.ForStackLaws.{node-open, node-other}
+use Rattle.passes.specs.FrameStackLaws.{new-held}
 use Rattle.passes.specs.ForLinkLaws.{GoingOn, going-start, going-on, going-end}
 use Rattle.passes.specs.NotedKeys.{KeysNoted, none-noted}
 use Rattle.wiring.proofs.fors.link_fors.Statement.{statement}
@@ -31,7 +32,7 @@ loop-holds : tie.Need-loop-holds Inv-loop μ-loop
 loop-holds c =
     let at-start : tie.Start Inv-loop μ-loop = search in
     let a = at-start .args in
-    let e = c .before .new .ensures in (
+    let e = new-held _ (c .before .new .ensures) in (
       omega arith,
       refl,
       record { openers = []; held = e; below = omega arith },

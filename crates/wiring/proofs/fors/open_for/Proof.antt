@@ -45,7 +45,7 @@ returns-2 c =
     let a = at-start .args in
     let k = at-start .pre .1 .1 in
     let s = unnoted (a .args .now) (a .notes .now) (a .s .words) _ k (sym (at-is-noted .is-noted .ensures) ∙ c .before .before .before .before .if1 .left) in
-    let f = push-new (a .args .now) (a .i) (a .s .words) _ 0 s refl (c .push .ensures) in
+    let f = push-new (a .args .now) (a .i) (a .s .words) _ 0 (at-start .pre .0 .0) s refl (c .push .ensures) in
     (f, rw (c .before .insert .ensures, c .before .before .note-of .ensures) (noted-for (a .args .now) _ (a .s .words) _ (a .i) (at-start .pre .1 .0) (more-noted (a .args .now) (a .notes .now) _ (k .size) (a .s .words) k) f (own-note (a .args .now) (a .notes .now) _ (k .size))))
 
 pub open-for-spec : {M : Type 1} → statement M

@@ -1,4 +1,4 @@
--- `push_for`: a frame of its name is cut with all above it, and the FOR is pushed. Assumes nothing.
+-- `push_for`: a frame of its name is popped with all above it, and the FOR is pushed. Assumes nothing.
 use borrow.Author.Needs.{needs}
 use native.Mathlib.Omega.{arith}
 use Rattle.passes.specs.FrameStackLaws.{room-below}
@@ -25,21 +25,24 @@ push-requires : tie.Need-push-requires
 push-requires c κs = let at-start : tie.Start = search in (at-start .pre .0 .0, room-below _ _ (at-start .pre .1))
 
 returns : tie.Need-returns
-returns c = push-new _ _ _ _ _ (c .before .before .seek .ensures) (c .before .if1 .taken) (c .push .ensures)
+returns c = let at-start : tie.Start = search in push-new _ _ _ _ _ (at-start .pre .0 .0) (c .before .before .seek .ensures) (c .before .if1 .taken) (c .push .ensures)
 
-sub-cut : tie.Need-sub-cut
-sub-cut c = search needs
+sub-pop-to : tie.Need-sub-pop-to
+sub-pop-to c = search needs
 
-cut-requires : tie.Need-cut-requires
-cut-requires c κs = let at-start : tie.Start = search in omega (arith, sought-fits _ _ _ _ _ (at-start .pre .1) (c .before .seek .ensures))
+pop-to-requires : tie.Need-pop-to-requires
+pop-to-requires c κs = let at-start : tie.Start = search in omega (arith, sought-fits _ _ _ _ _ (at-start .pre .1) (c .before .seek .ensures))
 
 push-requires-2 : tie.Need-push-requires-2
 push-requires-2 c κs =
     let at-start : tie.Start = search in
-    (at-start .pre .0 .0, room-below _ _ (cut-open _ _ _ _ _ _ (c .before .before .seek .ensures) (c .before .if1 .left) (c .cut .ensures) (at-start .pre .1)))
+    (at-start .pre .0 .0, room-below _ _ (cut-open _ _ _ _ _ _ (c .before .before .before .seek .ensures) (c .before .before .if1 .left) (c .before .pop-to .ensures .1) (at-start .pre .1)))
 
 returns-2 : tie.Need-returns-2
-returns-2 c = push-cut _ _ _ _ _ (c .before .before .before .seek .ensures) _ (c .before .before .if1 .left) (c .before .cut .ensures) (c .push2 .ensures)
+returns-2 c =
+    let at-seek : tie.After-seek = search in
+    let at-start : tie.Start = search in
+    push-cut _ _ _ _ _ (at-start .pre .0 .0) (at-seek .seek .ensures) _ (c .before .before .before .if1 .left) (c .before .before .pop-to .ensures .1) (c .push2 .ensures)
 
 pub push-for-spec : {M : Type 1} → statement M
 push-for-spec =
@@ -52,7 +55,7 @@ push-for-spec =
     seek-requires
     push-requires
     returns
-    sub-cut
-    cut-requires
+    sub-pop-to
+    pop-to-requires
     push-requires-2
     returns-2)

@@ -3,7 +3,7 @@ use borrow.Author.Needs.{needs}
 use native.Mathlib.Omega.{arith}
 use Prim.Native.Nat.{_/_, _≤_}
 use lib.ListN.{length}
-use Rattle.passes.specs.FrameStackLaws.{top-le}
+use Rattle.passes.specs.FrameStackLaws.{top-le, below-length}
 use Rattle.passes.specs.ForStackLaws.{Seeking, open-few, seek-start, seek-none, seek-here, seek-on}
 use Rattle.wiring.proofs.fors.seek.Statement.{statement}
 use Rattle.wiring.proofs.fors.seek.Tie as tie
@@ -40,7 +40,7 @@ returns c =
     seek-here _ _ _ (l .t) (l .inv .2) (c .before .before .loop-test .taken) (c .if1 .taken)
 
 below-requires : tie.Need-below-requires Inv-loop μ-loop
-below-requires c κs = search needs
+below-requires c κs = let at-start : tie.Start Inv-loop μ-loop = search in (omega arith, below-length (at-start .pre .0))
 
 loop-less : tie.Need-loop-less Inv-loop μ-loop
 loop-less c = omega (arith, c .below .ensures .0)

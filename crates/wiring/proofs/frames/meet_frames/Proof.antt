@@ -5,8 +5,9 @@ use mathlib.Core.Path.{_≡_, refl, sym, _∙_}
 use mathlib.Core.Logic.{⊎-elim}
 use native.Mathlib.Omega.{arith}
 use lib.ListN.{length}
-use Rattle.passes.specs.FramePass.{moveOf, FrameMoved}
-use Rattle.passes.specs.FramePassLaws.{moved-none, Meeting, meeting-start, meeting-next, meeting-end}
+use Rattle.passes.specs.FramePass.{moveOf, Stepped}
+use Rattle.passes.specs.FrameStackLaws.{new-held}
+use Rattle.passes.specs.FramePassLaws.{step-length, Meeting, meeting-start, meeting-next, meeting-end}
 use Rattle.wiring.proofs.frames.meet_frames.Statement.{statement}
 use Rattle.wiring.proofs.frames.meet_frames.Tie as tie
 
@@ -23,7 +24,7 @@ new-requires-2 : tie.Need-new-requires-2 Inv-loop μ-loop
 new-requires-2 c κs = search needs
 
 loop-holds : tie.Need-loop-holds Inv-loop μ-loop
-loop-holds c = (omega arith, refl, meeting-start _ _ _ _ _ (c .before .new .ensures) (c .new2 .ensures) (c .before .before .before .before .pre .1))
+loop-holds c = (omega arith, refl, meeting-start _ _ _ _ _ (new-held _ (c .before .new .ensures)) (new-held _ (c .new2 .ensures)) (c .before .before .before .before .pre .1))
 
 mul-word : tie.Need-mul-word Inv-loop μ-loop
 mul-word c = search needs
@@ -37,26 +38,56 @@ shared-slice-read-word c = search needs
 loop-move-requires : tie.Need-loop-move-requires Inv-loop μ-loop
 loop-move-requires c κs = search needs
 
-meet-frame-requires : tie.Need-meet-frame-requires Inv-loop μ-loop
-meet-frame-requires c κs = let at-loop : tie.At-loop Inv-loop μ-loop = search in (omega arith, at-loop .loop .inv .2 .loops)
-
 moves-requires : tie.Need-moves-requires Inv-loop μ-loop
 moves-requires c κs = search needs
 
 move-stack-requires : tie.Need-move-stack-requires Inv-loop μ-loop
-move-stack-requires c κs = let at-loop : tie.At-loop Inv-loop μ-loop = search in (omega arith, at-loop .loop .inv .2 .loops)
+move-stack-requires c κs =
+    let at-moves : tie.After-moves Inv-loop μ-loop = search in
+    let at-loop : tie.At-loop Inv-loop μ-loop = search in
+    (omega arith, (at-loop .loop .inv .2 .loops, sym (at-moves .moves .ensures) ∙ c .before .if1 .taken))
+
+join-frame-requires : tie.Need-join-frame-requires Inv-loop μ-loop
+join-frame-requires c κs =
+    let at-moves : tie.After-moves Inv-loop μ-loop = search in
+    let at-loop : tie.At-loop Inv-loop μ-loop = search in
+    (omega arith, (at-loop .loop .inv .2 .loops, sym (at-moves .moves .ensures) ∙ c .before .before .before .if1 .left))
+
+-- the step on the loop stack, by either way
+loop-step : (c : tie.Joined1 Inv-loop μ-loop)
+    → let l = c .before .before .before .before .before .loop in
+    Stepped (moveOf (c .before .before .loop-move .result)) (l .i) (l .loops .words) (c .if1 .loops .words) (l .frames) (c .if1 .frames)
+loop-step c = ⊎-elim (λ w. rw (w .6, w .5) (w .2 .ensures)) (λ w. rw (w .8, w .7) (w .4 .ensures)) (c .if1 .came)
+
+loop-length : (c : tie.Joined1 Inv-loop μ-loop) → length (c .if1 .frames) ≡ length (c .before .before .before .before .before .loop .frames)
+loop-length c = step-length _ _ _ _ _ _ (c .before .before .before .before .before .loop .inv .2 .loops) (loop-step c)
 
 do-move-requires : tie.Need-do-move-requires Inv-loop μ-loop
 do-move-requires c κs = search needs
-
-meet-frame-requires-2 : tie.Need-meet-frame-requires-2 Inv-loop μ-loop
-meet-frame-requires-2 c κs = let at-loop : tie.At-loop Inv-loop μ-loop = search in (search needs, at-loop .loop .inv .2 .dos)
 
 moves-requires-2 : tie.Need-moves-requires-2 Inv-loop μ-loop
 moves-requires-2 c κs = search needs
 
 move-stack-requires-2 : tie.Need-move-stack-requires-2 Inv-loop μ-loop
-move-stack-requires-2 c κs = let at-loop : tie.At-loop Inv-loop μ-loop = search in (omega arith, at-loop .loop .inv .2 .dos)
+move-stack-requires-2 c κs =
+    let at-moves2 : tie.After-moves2 Inv-loop μ-loop = search in
+    let at-joined1 : tie.Joined1 Inv-loop μ-loop = search in
+    let at-loop : tie.At-loop Inv-loop μ-loop = search in
+    ((omega arith, omega (arith, loop-length at-joined1)), (at-loop .loop .inv .2 .dos, sym (at-moves2 .moves2 .ensures) ∙ c .before .if2 .taken))
+
+join-frame-requires-2 : tie.Need-join-frame-requires-2 Inv-loop μ-loop
+join-frame-requires-2 c κs =
+    let at-moves2 : tie.After-moves2 Inv-loop μ-loop = search in
+    let at-joined1 : tie.Joined1 Inv-loop μ-loop = search in
+    let at-loop : tie.At-loop Inv-loop μ-loop = search in
+    ((omega arith, omega (arith, loop-length at-joined1)), (at-loop .loop .inv .2 .dos, sym (at-moves2 .moves2 .ensures) ∙ c .before .before .before .if2 .left))
+
+-- the step on the DO stack
+do-step : (c : tie.Joined2 Inv-loop μ-loop)
+    → let j = c .before .before .before in
+    let l = j .before .before .before .before .before .loop in
+    Stepped (moveOf (c .before .before .do-move .result)) (l .i) (l .dos .words) (c .if2 .dos .words) (j .if1 .frames) (c .if2 .frames)
+do-step c = ⊎-elim (λ w. rw (w .6, w .5) (w .2 .ensures)) (λ w. rw (w .8, w .7) (w .4 .ensures)) (c .if2 .came)
 
 add-i : tie.Need-add-i Inv-loop μ-loop
 add-i c = search needs
@@ -74,24 +105,14 @@ loop-again : tie.Need-loop-again Inv-loop μ-loop
 loop-again c =
     let at-do-move : tie.After-do-move Inv-loop μ-loop = search in
     let at-joined1 : tie.Joined1 Inv-loop μ-loop = search in
-    let at-moves : tie.After-moves Inv-loop μ-loop = search in
-    let at-meet-frame : tie.After-meet-frame Inv-loop μ-loop = search in
     let at-loop-move : tie.After-loop-move Inv-loop μ-loop = search in
     let in-loop : tie.In-loop Inv-loop μ-loop = search in
     let at-loop : tie.At-loop Inv-loop μ-loop = search in
     let at-start : tie.Start Inv-loop μ-loop = search ways in
-    let l = at-loop .loop in
-    let m = at-loop-move .loop-move in
-    let k = at-do-move .do-move in
-    let s = at-meet-frame .meet-frame in
-    let d = c .before .before .before .before .meet-frame2 in
-    let ml : FrameMoved (moveOf (m .result)) (l .i) (l .loops .words) (at-joined1 .if1 .loops .words)
-    = ⊎-elim (λ w. rw (w .2) (w .1 .ensures)) (λ w. rw (w .1) (moved-none _ _ _ (sym (at-moves .moves .ensures) ∙ w .0 .left))) (at-joined1 .if1 .came) in
-    let md : FrameMoved (moveOf (k .result)) (l .i) (l .dos .words) (c .if2 .dos .words)
-    = ⊎-elim (λ w. rw (w .2) (w .1 .ensures)) (λ w. rw (w .1) (moved-none _ _ _ (sym (c .before .moves2 .ensures) ∙ w .0 .left))) (c .if2 .came) in (
+    let l = at-loop .loop in (
       omega arith,
-      d .kept .1 .1 .1 .0 ∙ s .kept .1 .1 .1 .0 ∙ l .inv .1,
-      meeting-next _ _ _ _ _ _ _ _ _ (l .i) _ _ _ (in-loop .loop-test .taken) refl (m .ensures) (k .ensures) (omega (arith, l .inv .1, at-start .pre .0)) (record { held = ml; written = s .ensures }) (record { held = md; written = d .ensures }) (l .inv .2),
+      step-length _ _ _ _ _ _ (l .inv .2 .dos) (do-step c) ∙ loop-length at-joined1 ∙ l .inv .1,
+      meeting-next _ _ _ _ _ _ _ _ _ (l .i) _ _ _ (in-loop .loop-test .taken) refl (at-loop-move .loop-move .ensures) (at-do-move .do-move .ensures) (omega (arith, l .inv .1, at-start .pre .0)) (loop-step at-joined1) (do-step c) (l .inv .2),
     )
 
 same-length : tie.Need-same-length Inv-loop μ-loop
@@ -113,13 +134,13 @@ meet-frames-spec =
     mul-word-2
     shared-slice-read-word
     loop-move-requires
-    meet-frame-requires
     moves-requires
     move-stack-requires
+    join-frame-requires
     do-move-requires
-    meet-frame-requires-2
     moves-requires-2
     move-stack-requires-2
+    join-frame-requires-2
     add-i
     loop-less
     loop-again

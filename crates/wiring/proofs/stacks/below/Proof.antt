@@ -1,7 +1,6 @@
 -- `below`: the highest mark that is left in the word of id, or in the words under it. Assumes nothing.
 use native.Mathlib.Omega.{arith}
 use Prim.Native.Nat.{_%_, _/_}
-use lib.ListN.{getD}
 use borrow.Author.Needs.{needs}
 use lib.Pow.{pow-pos}
 use Rattle.passes.specs.FrameStackLaws.{below-here, below-on, below-le, highest-le}
@@ -32,9 +31,10 @@ add-result c = search needs
 returns : tie.Need-returns
 returns c =
     let s = c .before .before .before .before in
-    let b = c .before .before .before .bit in (
-      below-le (getD (s .args .words .now) _ 0) (s .args .id) (b .result) _ (b .ensures) (c .height .ensures),
-      below-here (s .args .words .now) (s .args .id) (b .result) _ (b .ensures) (c .height .ensures),
+    let b = c .before .before .before .bit in
+    let z = c .before .if1 .taken in (
+      below-le (s .args .words .now) (s .args .id) (s .pre .1) (s .pre .0) (b .result) (b .ensures) (c .height .result) z (c .height .ensures),
+      below-here (s .args .words .now) (s .args .id) (s .pre .1) (s .pre .0) (b .result) (b .ensures) (c .height .result) z (c .height .ensures),
     )
 
 highest-requires : tie.Need-highest-requires
@@ -44,8 +44,8 @@ returns-2 : tie.Need-returns-2
 returns-2 c =
     let s = c .before .before .before .before in
     let b = c .before .before .before .bit in (
-      omega (arith, highest-le (s .args .words .now) (s .args .id / 64) (c .highest .result) (c .highest .ensures)),
-      below-on (s .args .words .now) (s .args .id) (b .result) _ (b .ensures) (c .before .if1 .left) (c .highest .ensures),
+      omega (arith, c .highest .ensures, highest-le (s .args .words .now) (s .args .id / 64)),
+      below-on (s .args .words .now) (s .args .id) (s .pre .1) (s .pre .0) (b .result) (b .ensures) (c .highest .result) (c .before .if1 .left) (c .highest .ensures),
     )
 
 pub below-spec : {M : Type 1} → statement M

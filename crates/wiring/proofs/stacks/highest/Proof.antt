@@ -1,21 +1,21 @@
--- `highest`: the words from q on are 0. Assumes nothing.
-use Rattle.passes.specs.FrameStackLaws.{highest-found, highest-more}
+-- `highest`: the words from q on are passed over. Assumes nothing.
+use Rattle.passes.specs.FrameStackLaws.{search-here, search-on, search-end}
+use Rattle.passes.specs.FrameStacks.{highestMark}
 use borrow.Author.Needs.{needs}
 use native.Mathlib.Omega.{arith}
-use mathlib.Core.Path.{_≡_}
-use Prim.Native.Nat.{ℕ, _<_, _≤_}
-use lib.ListN.{getD}
+use mathlib.Core.Path.{_≡_, refl}
+use Prim.Native.Nat.{_≤_}
 use Rattle.wiring.proofs.stacks.highest.Statement.{statement}
 use Rattle.wiring.proofs.stacks.highest.Tie as tie
 
 abbrev Inv-loop : tie.InvT-loop
-Inv-loop words n q₀ q = (q ≤ n) × ((p : ℕ) → q ≤ p → p < n → getD words p 0 ≡ 0)
+Inv-loop words n q₀ q = (q ≤ n) × (highestMark words n ≡ highestMark words q)
 
 abbrev μ-loop : tie.MeasureT-loop
 μ-loop words n q₀ q = q
 
 loop-holds : tie.Need-loop-holds Inv-loop μ-loop
-loop-holds c = search needs
+loop-holds c = (omega arith, refl)
 
 sub-q : tie.Need-sub-q Inv-loop μ-loop
 sub-q c = search needs
@@ -38,7 +38,7 @@ add-result c = search needs
 returns : tie.Need-returns Inv-loop μ-loop
 returns c =
     let l = c .before .before .before .before .loop in
-    highest-found _ _ (l .q) _ (c .before .before .before .loop-test .taken) (l .inv .0) (l .inv .1) (c .height .ensures)
+    search-here _ _ (l .q) _ (c .before .before .before .loop-test .taken) (c .before .if1 .taken) (c .height .ensures) (l .inv .1)
 
 loop-less : tie.Need-loop-less Inv-loop μ-loop
 loop-less c = search needs
@@ -47,10 +47,10 @@ loop-again : tie.Need-loop-again Inv-loop μ-loop
 loop-again c =
     let l = c .before .before .before .loop in
     let s = c .before .before .before .before .args in
-    (omega arith, highest-more (s .words .now) (s .n) (l .q) (c .before .before .loop-test .taken) (c .if1 .left) (l .inv .1))
+    (omega arith, search-on (s .words .now) (s .n) (l .q) (c .before .before .loop-test .taken) (c .if1 .left) (l .inv .1))
 
 returns-2 : tie.Need-returns-2 Inv-loop μ-loop
-returns-2 c = λ p h. c .before .loop .inv .1 p (omega arith) h
+returns-2 c = let l = c .before .loop in search-end _ _ (l .q) (omega arith) (l .inv .1)
 
 pub highest-spec : {M : Type 1} → statement M
 highest-spec =

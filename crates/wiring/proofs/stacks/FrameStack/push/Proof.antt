@@ -25,7 +25,7 @@ element-write-self : tie.Need-element-write-self
 element-write-self c = search needs
 
 returns : tie.Need-returns
-returns c = push-is (c .before .before .args .t1 .words) (c .before .before .args .id) (c .before .bit .result) (c .before .before .pre .0) (c .before .bit .ensures)
+returns c = push-is (c .before .before .args .t1 .words) (c .before .before .args .id) (c .before .bit .result) (c .before .bit .ensures)
 
 pub push-spec : {M : Type 1} → statement M
 push-spec =

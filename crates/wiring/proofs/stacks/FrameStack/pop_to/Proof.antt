@@ -1,12 +1,12 @@
--- `cut`: the words above that of the opener are cleared one by one. Assumes nothing.
+-- `pop_to`: the words above that of the opener are cleared one by one. Assumes nothing.
 use native.Mathlib.Omega.{arith}
 use Prim.Native.Nat.{_-_, _%_}
 use lib.ListN.{set, length-map}
 use lib.Pow.{pow-pos}
 use borrow.Author.Needs.{needs}
 use Rattle.passes.specs.FrameStackLaws.{Cutting, cut-start-at, cut-more, cut-end-at}
-use Rattle.wiring.proofs.stacks.FrameStack.cut.Statement.{statement}
-use Rattle.wiring.proofs.stacks.FrameStack.cut.Tie as tie
+use Rattle.wiring.proofs.stacks.FrameStack.pop_to.Statement.{statement}
+use Rattle.wiring.proofs.stacks.FrameStack.pop_to.Tie as tie
 
 abbrev Inv-loop : tie.InvT-loop
 Inv-loop id self₀ q b w j₀ self j = Cutting (set (self₀ .words) q w) id (self .words) j
@@ -55,13 +55,16 @@ loop-less c = search needs
 loop-again : tie.Need-loop-again Inv-loop μ-loop
 loop-again c = cut-more _ _ _ _ (c .loop-test .taken) (c .before .loop .inv)
 
+add-t8 : tie.Need-add-t8 Inv-loop μ-loop
+add-t8 c = search needs
+
 returns : tie.Need-returns Inv-loop μ-loop
 returns c =
     let s = c .before .before .before .before in
-    cut-end-at (s .args .t1 .words) (s .args .id) (c .before .before .before .bit .result) _ _ (c .loop-test .left) (c .before .loop .inv)
+    (omega arith, cut-end-at (s .args .t1 .words) (s .args .id) (c .before .before .before .bit .result) _ _ (c .loop-test .left) (c .before .loop .inv))
 
-pub cut-spec : {M : Type 1} → statement M
-cut-spec =
+pub pop-to-spec : {M : Type 1} → statement M
+pop-to-spec =
     tie.close
     (tie.spec
     Inv-loop
@@ -79,4 +82,5 @@ cut-spec =
     add-j-2
     loop-less
     loop-again
+    add-t8
     returns)
