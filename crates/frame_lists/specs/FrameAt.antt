@@ -1,6 +1,5 @@
 -- The frame question on any tables (document 01, "Frame question"): "On tables that no build wrote, the same rules read what the records say." Assumes nothing.
 use Prim.Native.Nat.{ℕ, _+_, _*_}
-use mathlib.Core.Path.{_≡_}
 use mathlib.Core.List.{List, []}
 use mathlib.Core.Bool.{Bool, _&&_, _||_}
 use lib.Dec.{eqb, ltb}
@@ -8,12 +7,10 @@ use lib.ListN.{length, getD}
 use Rattle.listings.specs.Bytes.{pick}
 use Rattle.listings.specs.Listing.{Name}
 use Rattle.listings.specs.Rows.{isName}
-use Rattle.listings.specs.Records.{nameKey, padded}
+use Rattle.listings.specs.Records.{nameKey}
 use Rattle.tables.specs.Columns.{callWord, wordOf, fallEntry, succStart, succCount, succPart}
-use Rattle.graph.specs.Questions.{Reply, answer, refused, kept, ifRoom}
+use Rattle.graph.specs.Questions.{Reply, refused, kept, ifRoom}
 use Rattle.statements.specs.StatementAt.{noStatement, unlessRefused}
-use Rattle.frame_slices.specs.declared.slices.Framed.{Framed}
-use Rattle.frame_slices.specs.declared.slices.Framed.the-variants.{Listed, Refused}
 
 -- ---- the list, by the number of the node's opening word (its place among the opening words)
 

@@ -6,7 +6,7 @@ use mathlib.Core.Bool.{Bool, true, false, _||_}
 use native.Mathlib.Omega.{arith}
 use borrow.Author.Tests.{ltb-true, ltb-false, lt-ltb, le-ltb}
 use lib.Dec.{ltb}
-use lib.ListN.{length, getD, take, drop}
+use lib.ListN.{length, getD}
 use Rattle.listings.specs.Listing.{Name}
 use Rattle.listings.specs.Rows.{isName, parseName}
 use Rattle.tokens.specs.Names.{asKey}
@@ -14,6 +14,8 @@ use Rattle.reader.specs.Operands.{keyAnswer}
 use Rattle.listings.specs.Records.{nameKey}
 use Rattle.tables.specs.Columns.{callWord, wordOf, fallEntry, succStart, succCount, succPart}
 use Rattle.graph.specs.Questions.{Reply, refused, kept, ifRoom}
+use Rattle.adjacency.specs.ListsAt.{successorsAt, partOf}
+use Rattle.adjacency.specs.ListsAtLaws.{list-found}
 use Rattle.frame_lists.specs.FrameAt.{endsFrame, keepsShared, frameRead, shortTables, partOutside, fallOutside, frameOutside, frameIn, frameAt}
 use Rattle.frame_slices.specs.Told.{FrameTold}
 use Rattle.statements.specs.StatementAt.{noStatement, unlessRefused}
@@ -21,16 +23,23 @@ use Rattle.frame_slices.specs.declared.slices.Framed.{Framed}
 
 -- ---- inside the tables
 
-pub record PartInside (lists succ : List ℕ) (i : ℕ) : Type 0 where
-  pub in-lists : i * 4 + 1 < length lists
+pub record PartInside (counts lists succ : List ℕ) (i : ℕ) : Type 0 where
+  pub is-node : i < getD counts 1 0
+  pub in-lists : getD counts 1 0 * 4 ≤ length lists
   pub in-succ : succStart lists i + succCount lists i ≤ length succ
 
-pub record FrameInside (stmts args falls lists succ : List ℕ) (h i : ℕ) : Type 0 where
+pub record FrameInside (counts stmts args falls lists succ : List ℕ) (h i : ℕ) : Type 0 where
   pub in-stmts : i * 12 < length stmts
   pub in-args : i * 64 < length args
   pub in-falls : i * 3 < length falls
-  pub header : PartInside lists succ h
-  pub node : PartInside lists succ i
+  pub header : PartInside counts lists succ h
+  pub node : PartInside counts lists succ i
+
+-- so the successors of node i are that part of their table
+pub part-is : (counts lists succ : List ℕ) (i : ℕ) → PartInside counts lists succ i → partOf (successorsAt counts lists (length succ) i) succ ≡ succPart lists succ i
+unfolding successorsAt partOf
+part-is counts lists succ i p =
+    ap (λ (r : Reply (ℕ × ℕ)). partOf r succ) (list-found counts lists (length succ) i (succStart lists i) (succCount lists i) (p .is-node) (p .in-lists) (p .in-succ))
 
 either-false : (a b : Bool) → (a || b) ≡ false → (a ≡ false) × (b ≡ false)
 either-false true b e = let z : _≡_ {A = ℕ} 0 1 = cc in absurd (omega arith)
@@ -94,11 +103,6 @@ module _ (lists succ : List ℕ) (i s : ℕ) (e : s ≡ succStart lists i) where
       go true false a b = absurd (omega (arith, ltb-true (length succ - s) c a, ltb-false (length succ) (succStart lists i + succCount lists i) b))
       go false true a b = absurd (omega (arith, ltb-false (length succ - s) c a, ltb-true (length succ) (succStart lists i + succCount lists i) b))
 
-  pub part-is : (c : ℕ) → c ≡ succCount lists i → take ((s + c) - s) (drop s succ) ≡ succPart lists succ i
-  part-is c f =
-      let d : (s + c) - s ≡ succCount lists i = omega arith in
-      ap (λ (n : ℕ). take n (drop s succ)) d ∙ ap (λ (n : ℕ). take (succCount lists i) (drop n succ)) e
-
 module _ (n : ℕ) (stmts falls : List ℕ) (i : ℕ) where
   pub fall-call : callWord (getD stmts (i * 12) 0) ≡ true → ltb n (getD falls (i * 3) 0) ≡ fallOutside n stmts falls i
   unfolding fallOutside wordOf
@@ -127,13 +131,13 @@ module _ (n : ℕ) (stmts args falls lists succ : List ℕ) (h i : ℕ) where
       unfolding frameOutside
       outside-fall e = rw (s, hd, e) refl
 
-  part-inside : (j : ℕ) → j * 4 + 1 < length lists → partOutside lists succ j ≡ false → PartInside lists succ j
+  part-inside : (counts : List ℕ) → n ≡ getD counts 1 0 → (j : ℕ) → j < n → n * 4 ≤ length lists → partOutside lists succ j ≡ false → PartInside counts lists succ j
   unfolding partOutside
-  part-inside j a e = record { in-lists = a; in-succ = ltb-false (length succ) (succStart lists j + succCount lists j) e }
+  part-inside counts d j l a e = record { is-node = omega arith; in-lists = omega arith; in-succ = ltb-false (length succ) (succStart lists j + succCount lists j) e }
 
-  pub inside : h < n → i < n → frameOutside n stmts args falls lists succ h i ≡ false → FrameInside stmts args falls lists succ h i
+  pub inside : (counts : List ℕ) → n ≡ getD counts 1 0 → h < n → i < n → frameOutside n stmts args falls lists succ h i ≡ false → FrameInside counts stmts args falls lists succ h i
   unfolding frameOutside
-  inside a b e =
+  inside counts d a b e =
       let s = shortTables n (length stmts) (length args) (length falls) (length lists) in
       let p = either-false s (partOutside lists succ h || (partOutside lists succ i || fallOutside n stmts falls i)) e in
       let q = either-false (partOutside lists succ h) (partOutside lists succ i || fallOutside n stmts falls i) (p .1) in
@@ -143,8 +147,8 @@ module _ (n : ℕ) (stmts args falls lists succ : List ℕ) (h i : ℕ) where
         in-stmts = omega (arith, f .in-stmts);
         in-args = omega (arith, f .in-args);
         in-falls = omega (arith, f .in-falls);
-        header = part-inside h (omega (arith, f .in-lists)) (q .0);
-        node = part-inside i (omega (arith, f .in-lists)) (r .0);
+        header = part-inside counts d h a (f .in-lists) (q .0);
+        node = part-inside counts d i b (f .in-lists) (r .0);
       }
 
   pub rows-inside : frameOutside n stmts args falls lists succ h i ≡ false → n * 12 ≤ length stmts

@@ -1,4 +1,5 @@
 // The frame list.
+use adjacency::successors::successors;
 use frame_slices::slices::Framed;
 use frame_slices::slices::copy_list;
 use frame_slices::slices::give_fall;
@@ -54,29 +55,33 @@ fn keeps_shared(word: u16, flag: bool) -> bool
 }
 
 // Of the successors of a NEXT those that the header has.
-fn keep_part(lists: &[u16], succ: &[u16], header: usize, node: usize, out: &mut [u16]) -> Framed
-    requires { ⌜ PartInside (now lists) (now succ) header × PartInside (now lists) (now succ) node ⌝ }
+fn keep_part(
+    counts: &[u32; 5],
+    lists: &[u16],
+    succ: &[u16],
+    header: usize,
+    node: usize,
+    out: &mut [u16],
+) -> Framed
+    requires { ⌜ PartInside (now counts) (now lists) (now succ) header × PartInside (now counts) (now lists) (now succ) node ⌝ }
     ensures { λ r. ⌜ FrameTold (ifRoom (length (now (out .entry))) (kept (succPart (now (lists .entry)) (now (succ .entry)) header) (succPart (now (lists .entry)) (now (succ .entry)) node))) (now (out .entry)) (now (out .exit)) r ⌝ }
 {
-    let start = wide(lists[node * 4]);
-    let end = start + wide(lists[node * 4 + 1]);
-    let header_start = wide(lists[header * 4]);
-    let header_end = header_start + wide(lists[header * 4 + 1]);
-    keep_shared(&succ[start..end], &succ[header_start..header_end], out)
+    let own = successors(counts, lists, succ, node);
+    let shared = successors(counts, lists, succ, header);
+    keep_shared(own, shared, out)
 }
 
 // All successors.
-fn copy_part(lists: &[u16], succ: &[u16], node: usize, out: &mut [u16]) -> Framed
-    requires { ⌜ PartInside (now lists) (now succ) node ⌝ }
+fn copy_part(counts: &[u32; 5], lists: &[u16], succ: &[u16], node: usize, out: &mut [u16]) -> Framed
+    requires { ⌜ PartInside (now counts) (now lists) (now succ) node ⌝ }
     ensures { λ r. ⌜ FrameTold (ifRoom (length (now (out .entry))) (succPart (now (lists .entry)) (now (succ .entry)) node)) (now (out .entry)) (now (out .exit)) r ⌝ }
 {
-    let start = wide(lists[node * 4]);
-    let end = start + wide(lists[node * 4 + 1]);
-    copy_list(&succ[start..end], out)
+    copy_list(successors(counts, lists, succ, node), out)
 }
 
 // By the node's opening word.
 fn write_frame(
+    counts: &[u32; 5],
     stmts: &[u16],
     args: &[u64],
     falls: &[u16],
@@ -88,7 +93,7 @@ fn write_frame(
     flag: bool,
     out: &mut [u16],
 ) -> Framed
-    requires { ⌜ FrameInside (now stmts) (now args) (now falls) (now lists) (now succ) header node ⌝ }
+    requires { ⌜ FrameInside (now counts) (now stmts) (now args) (now falls) (now lists) (now succ) header node ⌝ }
     ensures { λ r. ⌜ FrameTold (ifRoom (length (now (out .entry))) (frameRead (now (stmts .entry)) (now (args .entry)) (now (falls .entry)) (now (lists .entry)) (now (succ .entry)) header node key flag)) (now (out .entry)) (now (out .exit)) r ⌝ }
 {
     let word = stmts[node * 12];
@@ -96,12 +101,12 @@ fn write_frame(
         return give_nothing(out);
     }
     if keeps_shared(word, flag) {
-        return keep_part(lists, succ, header, node, out);
+        return keep_part(counts, lists, succ, header, node, out);
     }
     if is_call(word) {
         return give_fall(falls[node * 3], out);
     }
-    copy_part(lists, succ, node, out)
+    copy_part(counts, lists, succ, node, out)
 }
 
 // By division, so that no product can wrap.
@@ -179,6 +184,7 @@ fn key_answer(k: NameKey) -> u64
 
 // Once the name is known to be one. All is decided before the first entry is written.
 fn frame_of(
+    counts: &[u32; 5],
     lines: usize,
     n: usize,
     stmts: &[u16],
@@ -192,6 +198,7 @@ fn frame_of(
     flag: bool,
     out: &mut [u16],
 ) -> Framed
+    requires { ⌜ n ≡ getD (now counts) 1 0 ⌝ }
     ensures { λ r. ⌜ FrameTold (frameIn lines n (now (stmts .entry)) (now (args .entry)) (now (falls .entry)) (now (lists .entry)) (now (succ .entry)) header node key flag (length (now (out .entry)))) (now (out .entry)) (now (out .exit)) r ⌝ }
 {
     if n <= header {
@@ -217,6 +224,7 @@ fn frame_of(
         return Framed::Refused { number, place: 0 };
     }
     write_frame(
+        counts,
         stmts,
         args,
         falls,
@@ -249,6 +257,7 @@ pub fn ask_frame(
     if is_name(name) {
         let key = key_answer(key_of(name));
         return frame_of(
+            counts,
             count_of(counts[0]),
             count_of(counts[1]),
             stmts,

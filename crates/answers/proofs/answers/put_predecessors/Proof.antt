@@ -4,7 +4,6 @@ use lib.ListN.{length}
 use Rattle.listings.specs.Bytes.{bytes}
 use Rattle.formatting.specs.Printing.{puts-is}
 use Rattle.adjacency.specs.ListsAt.{predecessorsAt, askedOf}
-use Rattle.adjacency.specs.declared.successors.Asked.{Asked}
 use Rattle.answers.specs.AnswersAt.{predecessorsAnswer, askedRow, asked-row}
 use borrow.Author.Needs.{needs}
 use Rattle.answers.proofs.answers.put_predecessors.Statement.{statement}

@@ -52,7 +52,7 @@ returns c =
     let l = lines .count-of in
     let k = keyed .key-answer in
     let e = sym (at-name-test .is-name .ensures) ∙ a-name .if1 .taken in
-    answer-as (frameIn (l .result) (n .result) (a .stmts .now) (a .args .now) (a .falls .now) (a .lists .now) (a .succ .now) (a .header) (a .node) (k .result) (a .flag) (length (a .out .now))) (frameAt (getD (a .counts .now) 0 0) (getD (a .counts .now) 1 0) (a .stmts .now) (a .args .now) (a .falls .now) (a .lists .now) (a .succ .now) (a .header) (a .node) (a .name .now) (a .flag) (length (a .out .now))) (a .out .now) (z .last .1 .1 .1 .1 .1 .1 .1 .1 .1 .1 .1 .0) (z .result)
+    answer-as (frameIn (l .result) (n .result) (a .stmts .now) (a .args .now) (a .falls .now) (a .lists .now) (a .succ .now) (a .header) (a .node) (k .result) (a .flag) (length (a .out .now))) (frameAt (getD (a .counts .now) 0 0) (getD (a .counts .now) 1 0) (a .stmts .now) (a .args .now) (a .falls .now) (a .lists .now) (a .succ .now) (a .header) (a .node) (a .name .now) (a .flag) (length (a .out .now))) (a .out .now) (z .last .1 .1 .1 .1 .1 .1 .1 .1 .1 .1 .1 .1 .0) (z .result)
     (at-name (getD (a .counts .now) 0 0) (getD (a .counts .now) 1 0) (a .stmts .now) (a .args .now) (a .falls .now) (a .lists .now) (a .succ .now) (a .header) (a .node) (a .name .now) (a .flag) (length (a .out .now)) (k .result) (l .result) (n .result) e (l .ensures .0) (n .ensures .0) (k .ensures ∙ ap keyAnswer (parsed .key-of .ensures) ∙ name-key (a .name .now) e)) (z .ensures)
 
 returns-2 : tie.Need-returns-2

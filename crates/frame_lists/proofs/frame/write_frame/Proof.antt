@@ -39,7 +39,8 @@ same-length c = search needs
 
 returns : tie.Need-returns
 returns c =
-    let a = c .before .before .before .before .before .before .before .before .before .before .before .before .before .before .args in
+    let start : tie.Start = search in
+    let a = start .args in
     let z = c .before .before .give-nothing in
     told-as [] (frameRead (a .stmts .now) (a .args .now) (a .falls .now) (a .lists .now) (a .succ .now) (a .header) (a .node) (a .key) (a .flag)) (a .out .now) (z .last .0) (z .result) (read-ended (a .stmts .now) (a .args .now) (a .falls .now) (a .lists .now) (a .succ .now) (a .header) (a .node) (a .key) (a .flag) (sym (c .before .before .before .before .before .ends-frame .ensures) ∙ c .before .before .before .before .if1 .taken)) (z .ensures)
 
@@ -54,9 +55,10 @@ same-length-2 c = search needs
 
 returns-2 : tie.Need-returns-2
 returns-2 c =
-    let a = c .before .before .before .before .before .before .before .before .before .before .before .before .before .before .before .before .args in
+    let start : tie.Start = search in
+    let a = start .args in
     let z = c .before .before .keep-part in
-    told-as (kept (succPart (a .lists .now) (a .succ .now) (a .header)) (succPart (a .lists .now) (a .succ .now) (a .node))) (frameRead (a .stmts .now) (a .args .now) (a .falls .now) (a .lists .now) (a .succ .now) (a .header) (a .node) (a .key) (a .flag)) (a .out .now) (z .last .1 .1 .1 .1 .0) (z .result)
+    told-as (kept (succPart (a .lists .now) (a .succ .now) (a .header)) (succPart (a .lists .now) (a .succ .now) (a .node))) (frameRead (a .stmts .now) (a .args .now) (a .falls .now) (a .lists .now) (a .succ .now) (a .header) (a .node) (a .key) (a .flag)) (a .out .now) (z .last .1 .1 .1 .1 .1 .0) (z .result)
     (read-kept (a .stmts .now) (a .args .now) (a .falls .now) (a .lists .now) (a .succ .now) (a .header) (a .node) (a .key) (a .flag) (sym (c .before .before .before .before .before .before .before .ends-frame .ensures) ∙ c .before .before .before .before .before .before .if1 .left) (sym (c .before .before .before .before .before .keeps-shared .ensures) ∙ c .before .before .before .before .if2 .taken)) (z .ensures)
 
 is-call-requires : tie.Need-is-call-requires
@@ -80,7 +82,8 @@ same-length-3 c = search needs
 returns-3 : tie.Need-returns-3
 unfolding fallEntry
 returns-3 c =
-    let a = c .before .before .before .before .before .before .before .before .before .before .before .before .before .before .before .before .before .before .before .args in
+    let start : tie.Start = search in
+    let a = start .args in
     let z = c .before .before .give-fall in
     told-as (fallEntry (a .falls .now) (a .node)) (frameRead (a .stmts .now) (a .args .now) (a .falls .now) (a .lists .now) (a .succ .now) (a .header) (a .node) (a .key) (a .flag)) (a .out .now) (z .last .1 .0) (z .result)
     (read-call (a .stmts .now) (a .args .now) (a .falls .now) (a .lists .now) (a .succ .now) (a .header) (a .node) (a .key) (a .flag) (sym (c .before .before .before .before .before .before .before .before .before .before .ends-frame .ensures) ∙ c .before .before .before .before .before .before .before .before .before .if1 .left) (sym (c .before .before .before .before .before .before .before .before .keeps-shared .ensures) ∙ c .before .before .before .before .before .before .before .if2 .left) (sym (c .before .before .before .before .before .before .is-call .ensures) ∙ c .before .before .before .before .before .if3 .taken)) (z .ensures)
@@ -93,9 +96,10 @@ same-length-4 c = search needs
 
 returns-4 : tie.Need-returns-4
 returns-4 c =
-    let a = c .before .before .before .before .before .before .before .before .before .before .before .before .before .before .before .before .before .before .args in
+    let start : tie.Start = search in
+    let a = start .args in
     let z = c .before .before .copy-part in
-    told-as (succPart (a .lists .now) (a .succ .now) (a .node)) (frameRead (a .stmts .now) (a .args .now) (a .falls .now) (a .lists .now) (a .succ .now) (a .header) (a .node) (a .key) (a .flag)) (a .out .now) (z .last .1 .1 .1 .0) (z .result)
+    told-as (succPart (a .lists .now) (a .succ .now) (a .node)) (frameRead (a .stmts .now) (a .args .now) (a .falls .now) (a .lists .now) (a .succ .now) (a .header) (a .node) (a .key) (a .flag)) (a .out .now) (z .last .1 .1 .1 .1 .0) (z .result)
     (read-all (a .stmts .now) (a .args .now) (a .falls .now) (a .lists .now) (a .succ .now) (a .header) (a .node) (a .key) (a .flag) (sym (c .before .before .before .before .before .before .before .before .before .ends-frame .ensures) ∙ c .before .before .before .before .before .before .before .before .if1 .left) (sym (c .before .before .before .before .before .before .before .keeps-shared .ensures) ∙ c .before .before .before .before .before .before .if2 .left) (sym (c .before .before .before .before .before .is-call .ensures) ∙ c .before .before .before .before .if3 .left)) (z .ensures)
 
 pub write-frame-spec : {M : Type 1} → statement M

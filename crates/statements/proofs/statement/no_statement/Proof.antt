@@ -1,6 +1,5 @@
 -- `no_statement`: no such node, no such record, or what the record says. Assumes nothing.
 use mathlib.Core.Path.{_∙_}
-use native.Mathlib.Omega.{arith}
 use Rattle.statements.specs.StatementLaws.{no-record-node, no-record-rows, record-inside}
 use borrow.Author.Needs.{needs}
 use Rattle.statements.proofs.statement.no_statement.Statement.{statement}
