@@ -5,9 +5,10 @@ use mathlib.Core.List.{List, [], _∷_, _++_}
 use mathlib.Core.Bool.{Bool, true, _&&_}
 use lib.Dec.{T}
 use Rattle.listings.specs.Bytes.{bytes, same}
+use Rattle.graph.specs.Build.{limits}
 use Rattle.graph.specs.Opened as wiring
 use Rattle.graph.specs.QuestionsOpened as questions
-use Rattle.answers.specs.Flowask.{questionWords, pathQuestion, frameQuestion, formQuestion, wordQuestion, rowQuestion, pathLength, short, question, listRow, stmtRow, replyRow, answerRow, outcomeRow, rowAnswer, ending, answerRows, parts, answers, askText, flowask}
+use Rattle.answers.specs.Flowask.{questionWords, pathQuestion, frameQuestion, formQuestion, wordQuestion, rowQuestion, pathLength, short, question, listRow, stmtRow, replyRow, answerRow, outcomeRow, rowAnswer, ending, answerRows, parts, answers, askText, inRoom, flowask}
 
 -- what is written for a text
 record Case : Type 0 where
@@ -75,5 +76,20 @@ cases =
     ∷ []
 
 computed : T (right cases)
-unfolding wiring.opened questions.opened questionWords pathQuestion frameQuestion formQuestion wordQuestion rowQuestion pathLength short question listRow stmtRow replyRow answerRow outcomeRow rowAnswer ending answerRows parts answers askText flowask right c12 loops cases
+unfolding wiring.opened questions.opened questionWords pathQuestion frameQuestion formQuestion wordQuestion rowQuestion pathLength short question listRow stmtRow replyRow answerRow outcomeRow rowAnswer ending answerRows parts answers askText inRoom flowask right c12 loops cases
 computed = tt
+
+-- ---- answers that take more bytes than there is room for
+
+unfoldable asked : List ℕ
+asked = askText limits (c12 "(questions\n(successors 3)\n(entry 100)\n)\n")
+
+-- the two answers have 27 bytes
+unfoldable inTheirRoom : Bool
+inTheirRoom =
+    same (inRoom 27 asked) (bytes "(successors 2 4)\n(entry 3)\n") && same (inRoom 26 asked) (bytes "(refused 28 26)\n")
+    && same (inRoom 0 asked) (bytes "(refused 28 0)\n")
+
+in-room : T inTheirRoom
+unfolding wiring.opened questions.opened questionWords pathQuestion frameQuestion formQuestion wordQuestion rowQuestion pathLength short question listRow stmtRow replyRow answerRow outcomeRow rowAnswer ending answerRows parts answers askText inRoom c12 asked inTheirRoom
+in-room = tt

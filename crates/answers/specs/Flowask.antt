@@ -148,6 +148,11 @@ answers (Built.refused n p) q = printedRefusal n p
 unfoldable pub askText : Capacity → List ℕ → List ℕ
 askText c t = let d = parts (split 10 t) in answers (build c (d .0)) (d .1)
 
+-- "28 .. longer than the slice lent for it": of all answers together; none is written then but this row, so that nothing is lost silently.
+-- The place is the room that there is: who asks can ask less at a time.
+unfoldable pub inRoom : (room : ℕ) → List ℕ → List ℕ
+inRoom room l = pick (leb (length l) room) l (printedRefusal 28 room)
+
 -- "1 text too long (place 0, before all else)": here of the whole text, listing and questions
 unfoldable pub flowask : List ℕ → List ℕ
-flowask t = pick (leb (length t) 262144) (askText limits t) (printedRefusal 1 0)
+flowask t = pick (leb (length t) 262144) (inRoom 2097152 (askText limits t)) (printedRefusal 1 0)

@@ -5,10 +5,14 @@ use libc::STDIN_FILENO;
 use libc::STDOUT_FILENO;
 ghost use Rattle.graph.specs.Build.{limits};
 ghost use Rattle.formatting.specs.Printing.{Puts};
+ghost use Rattle.printing.specs.Limits.{Whole};
 ghost use Rattle.answers.specs.Flowask.{askText, flowask};
 
 // So many bytes a text may have, questions and all.
 const MAX_BYTES: usize = 262144;
+
+// So many bytes its answers may have together.
+const MAX_ANSWERS: usize = 2097152;
 
 // With tables that suffice at all limits.
 fn ask_at_limits(text: &[u8], out: &mut [u8]) -> usize
@@ -42,24 +46,25 @@ fn ask_at_limits(text: &[u8], out: &mut [u8]) -> usize
     )
 }
 
-fn ask(text: &[u8], out: &mut [u8]) -> usize
-    ensures { λ r. ⌜ Puts (now (out .entry)) 0 (now (out .exit)) r (flowask (now (text .entry))) ⌝ }
+// There is room for a byte more than the answers may have, so that the length tells whether they are too long.
+fn ask(text: &[u8], out: &mut [u8; 2097153]) -> usize
+    ensures { λ r. ⌜ Whole (now (out .exit)) r (flowask (now (text .entry))) ⌝ }
 {
     if MAX_BYTES < text.len() {
         return put_refusal(out, 0, 1, 0);
     }
-    ask_at_limits(text, out)
+    let r = ask_at_limits(text, out);
+    if MAX_ANSWERS < r {
+        return put_refusal(out, 0, 28, MAX_ANSWERS);
+    }
+    r
 }
 
 // The text ends where the input does; one that goes on past the room for it is refused by its length.
-fn ask_input(text: &mut [u8], out: &mut [u8]) {
-    let n = io::read_full(STDIN_FILENO, text);
-    let r = ask(&text[..n], out);
-    io::write_all(STDOUT_FILENO, &out[..r]);
-}
-
 fn main() {
     let mut text = [0u8; 262145];
-    let mut out = [0u8; 2097152];
-    ask_input(&mut text, &mut out);
+    let mut out = [0u8; 2097153];
+    let n = io::read_full(STDIN_FILENO, &mut text);
+    let r = ask(&text[..n], &mut out);
+    io::write_all(STDOUT_FILENO, &out[..r]);
 }

@@ -3,11 +3,11 @@ use libc::STDIN_FILENO;
 use libc::STDOUT_FILENO;
 use printing::list::list_graph;
 ghost use Rattle.graph.specs.Build.{flowlist};
-ghost use Rattle.formatting.specs.Printing.{Puts};
+ghost use Rattle.printing.specs.Limits.{Whole};
 
-// With tables that suffice at all limits.
-fn list_text(text: &[u8], out: &mut [u8]) -> usize
-    ensures { λ r. ⌜ Puts (now (out .entry)) 0 (now (out .exit)) r (flowlist (now (text .entry))) ⌝ }
+// With tables that suffice at all limits, and room for the longest graph.
+fn list_text(text: &[u8], out: &mut [u8; 1048576]) -> usize
+    ensures { λ r. ⌜ Whole (now (out .exit)) r (flowlist (now (text .entry))) ⌝ }
 {
     let mut counts = [0u32; 5];
     let mut lines = [0u16; 1024];
@@ -38,14 +38,10 @@ fn list_text(text: &[u8], out: &mut [u8]) -> usize
 }
 
 // The text ends where the input does; one that goes on past the room for it is refused by its length.
-fn list_input(text: &mut [u8], out: &mut [u8]) {
-    let n = io::read_full(STDIN_FILENO, text);
-    let r = list_text(&text[..n], out);
-    io::write_all(STDOUT_FILENO, &out[..r]);
-}
-
 fn main() {
     let mut text = [0u8; 65537];
     let mut out = [0u8; 1048576];
-    list_input(&mut text, &mut out);
+    let n = io::read_full(STDIN_FILENO, &mut text);
+    let r = list_text(&text[..n], &mut out);
+    io::write_all(STDOUT_FILENO, &out[..r]);
 }

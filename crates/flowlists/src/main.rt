@@ -1,7 +1,7 @@
 // Framed texts on standard input (a row with the byte count, then the bytes); for each its graph or its refusal, framed in the same way.
 ghost use mathlib.Core.Path.{_≡_};
-ghost use Prim.Native.Nat.{_≤_};
-ghost use lib.ListN.{length};
+ghost use Rattle.graph.specs.Build.{flowlist};
+ghost use Rattle.printing.specs.Limits.{Whole};
 use libc::STDIN_FILENO;
 use libc::STDOUT_FILENO;
 use printing::list::list_graph;
@@ -47,9 +47,9 @@ fn next_length() -> Next {
     Next::End
 }
 
-// With tables that suffice at all limits.
-fn list_text(text: &[u8], out: &mut [u8]) -> usize
-    ensures { λ r. ⌜ r ≤ length (now (out .exit)) ⌝ }
+// With tables that suffice at all limits, and room for the longest graph.
+fn list_text(text: &[u8], out: &mut [u8; 1048576]) -> usize
+    ensures { λ r. ⌜ Whole (now (out .exit)) r (flowlist (now (text .entry))) ⌝ }
 {
     let mut counts = [0u32; 5];
     let mut lines = [0u16; 1024];
@@ -86,20 +86,20 @@ fn print_framed(answer: &[u8]) {
 }
 
 // A text of that length.
-fn answer_part(text: &mut [u8], n: usize, out: &mut [u8]) {
+fn answer_part(text: &mut [u8], n: usize) {
     if text.len() < n {
         return;
     }
+    let mut out = [0u8; 1048576];
     let part = &mut text[..n];
     io::read_full(STDIN_FILENO, part);
-    let r = list_text(part, out);
+    let r = list_text(part, &mut out);
     print_framed(&out[..r]);
 }
 
 fn answer_text(n: usize) {
     let mut text = [0u8; 131072];
-    let mut out = [0u8; 1048576];
-    answer_part(&mut text, n, &mut out);
+    answer_part(&mut text, n);
 }
 
 // A proved loop has to end, so it counts its turns down, from a number that no run uses up.

@@ -1,19 +1,33 @@
--- `main`: the arrays have their lengths. Assumes nothing.
+-- `main`: as much of `out` as was written. Assumes nothing.
 use borrow.Author.Needs.{needs}
-use Prim.Native.Nat.{ℕ}
 use mathlib.Core.Path.{sym}
-use lib.ListN.{length-replicate}
+use lib.Seq.{length-take-le}
 use Rattle.flowask.proofs.main.Statement.{statement}
 use Rattle.flowask.proofs.main.Tie as tie
 
-slice-aggregate-ask-input : tie.Need-slice-aggregate-ask-input
-slice-aggregate-ask-input c = sym (length-replicate {0} {A = ℕ} 262145 0)
+slice-aggregate-read-full : tie.Need-slice-aggregate-read-full
+slice-aggregate-read-full c = search needs
 
-slice-aggregate-ask-input-2 : tie.Need-slice-aggregate-ask-input-2
-slice-aggregate-ask-input-2 c = sym (length-replicate {0} {A = ℕ} 2097152 0)
+read-full-requires : tie.Need-read-full-requires
+read-full-requires c κs = search needs
 
-ask-input-requires : tie.Need-ask-input-requires
-ask-input-requires c κs = search needs
+array-share-prefix-text : tie.Need-array-share-prefix-text
+array-share-prefix-text c = search needs
+
+slice-aggregate-ask : tie.Need-slice-aggregate-ask
+slice-aggregate-ask c = search needs
+
+ask-requires : tie.Need-ask-requires
+ask-requires c κs = search needs
+
+array-share-prefix-out : tie.Need-array-share-prefix-out
+array-share-prefix-out c = search needs
+
+slice-aggregate-write-all : tie.Need-slice-aggregate-write-all
+slice-aggregate-write-all c = sym (length-take-le _ _ (c .before .ask .ensures .inside))
+
+write-all-requires : tie.Need-write-all-requires
+write-all-requires c κs = search needs
 
 returns : tie.Need-returns
 returns c = search needs
@@ -21,4 +35,13 @@ returns c = search needs
 pub main-spec : {M : Type 1} → statement M
 main-spec =
     tie.close
-    (tie.spec slice-aggregate-ask-input slice-aggregate-ask-input-2 ask-input-requires returns)
+    (tie.spec
+    slice-aggregate-read-full
+    read-full-requires
+    array-share-prefix-text
+    slice-aggregate-ask
+    ask-requires
+    array-share-prefix-out
+    slice-aggregate-write-all
+    write-all-requires
+    returns)

@@ -1,19 +1,33 @@
--- `main`: the arrays have their lengths. Assumes nothing.
+-- `main`: as much of `out` as was written. Assumes nothing.
 use borrow.Author.Needs.{needs}
-use Prim.Native.Nat.{ℕ}
 use mathlib.Core.Path.{sym}
-use lib.ListN.{length-replicate}
+use lib.Seq.{length-take-le}
 use Rattle.flowlist.proofs.main.Statement.{statement}
 use Rattle.flowlist.proofs.main.Tie as tie
 
-slice-aggregate-list-input : tie.Need-slice-aggregate-list-input
-slice-aggregate-list-input c = search needs
+slice-aggregate-read-full : tie.Need-slice-aggregate-read-full
+slice-aggregate-read-full c = search needs
 
-slice-aggregate-list-input-2 : tie.Need-slice-aggregate-list-input-2
-slice-aggregate-list-input-2 c = sym (length-replicate {0} {A = ℕ} 1048576 0)
+read-full-requires : tie.Need-read-full-requires
+read-full-requires c κs = search needs
 
-list-input-requires : tie.Need-list-input-requires
-list-input-requires c κs = search needs
+array-share-prefix-text : tie.Need-array-share-prefix-text
+array-share-prefix-text c = search needs
+
+slice-aggregate-list-text : tie.Need-slice-aggregate-list-text
+slice-aggregate-list-text c = search needs
+
+list-text-requires : tie.Need-list-text-requires
+list-text-requires c κs = search needs
+
+array-share-prefix-out : tie.Need-array-share-prefix-out
+array-share-prefix-out c = search needs
+
+slice-aggregate-write-all : tie.Need-slice-aggregate-write-all
+slice-aggregate-write-all c = sym (length-take-le _ _ (c .before .list-text .ensures .inside))
+
+write-all-requires : tie.Need-write-all-requires
+write-all-requires c κs = search needs
 
 returns : tie.Need-returns
 returns c = search needs
@@ -21,4 +35,13 @@ returns c = search needs
 pub main-spec : {M : Type 1} → statement M
 main-spec =
     tie.close
-    (tie.spec slice-aggregate-list-input slice-aggregate-list-input-2 list-input-requires returns)
+    (tie.spec
+    slice-aggregate-read-full
+    read-full-requires
+    array-share-prefix-text
+    slice-aggregate-list-text
+    list-text-requires
+    array-share-prefix-out
+    slice-aggregate-write-all
+    write-all-requires
+    returns)

@@ -1,7 +1,9 @@
--- `answer_part`: the part that is read has the length asked for, and so has the part that is printed. Assumes nothing.
+-- `answer_part`: the part that is read has the length asked for; as much of `out` is printed as was written. Assumes nothing.
+use borrow.Author.Needs.{needs}
+use mathlib.Core.Path.{sym}
 use native.Mathlib.Omega.{arith}
 use lib.ListN.{length-take}
-use borrow.Author.Needs.{needs}
+use lib.Seq.{length-take-le}
 use Rattle.flowlists.proofs.answer_part.Statement.{statement}
 use Rattle.flowlists.proofs.answer_part.Tie as tie
 
@@ -20,20 +22,17 @@ read-full-requires c κs = search needs
 list-text-requires : tie.Need-list-text-requires
 list-text-requires c κs = search needs
 
-slice-reshare-prefix-print-framed : tie.Need-slice-reshare-prefix-print-framed
-slice-reshare-prefix-print-framed c = search needs
+array-share-prefix-out : tie.Need-array-share-prefix-out
+array-share-prefix-out c = search needs
 
 slice-aggregate-print-framed : tie.Need-slice-aggregate-print-framed
-slice-aggregate-print-framed c = simp length-take (omega arith)
+slice-aggregate-print-framed c = sym (length-take-le _ _ (c .before .before .before .list-text .ensures .inside))
 
 print-framed-requires : tie.Need-print-framed-requires
 print-framed-requires c κs = search needs
 
 same-length : tie.Need-same-length
 same-length c = search needs
-
-same-length-2 : tie.Need-same-length-2
-same-length-2 c = search needs
 
 returns-2 : tie.Need-returns-2
 returns-2 c = search needs
@@ -47,9 +46,8 @@ answer-part-spec =
     slice-aggregate-part
     read-full-requires
     list-text-requires
-    slice-reshare-prefix-print-framed
+    array-share-prefix-out
     slice-aggregate-print-framed
     print-framed-requires
     same-length
-    same-length-2
     returns-2)
