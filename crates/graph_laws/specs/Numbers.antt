@@ -1,15 +1,15 @@
--- Which numbers a refused build has: 1 to 8 for its input, 21, 22 or 23 for its tables, and no other. Assumes nothing.
-use Prim.Native.Nat.{ℕ, suc, _≤_}
+-- Which numbers a refused build has: 1 to 8 for its input, with a row of the text as place, 21, 22 or 23 for its tables, and no other. Assumes nothing.
+use Prim.Native.Nat.{ℕ, suc, _+_, _≤_}
 use mathlib.Core.Path.{_≡_, refl, sym, ap, subst}
 use mathlib.Core.Bool.{Bool, true, false, _&&_}
 use mathlib.Core.List.{List, [], _∷_}
 use mathlib.Core.Option.{Option, none, some}
 use native.Mathlib.Omega.{arith}
-use lib.Dec.{leb, ltb}
+use lib.Dec.{eqb, leb, ltb, leb→le}
 use lib.ListN.{length}
 use Rattle.listings.specs.Bytes.{pick}
 use Rattle.listings.specs.Listing.{CondWord, Stmts, Listing, total, count}
-use Rattle.listings.specs.Rows.{Parse, malformed, invalid, parsed, Content, noForm, endRow, stmtsRow, moduleRow, lineRow, toRow, simpleRow, condRow, split, rowOf, contentOf}
+use Rattle.listings.specs.Rows.{Parse, malformed, invalid, parsed, Content, noForm, endRow, stmtsRow, moduleRow, lineRow, toRow, simpleRow, condRow, split, onFirst, rowOf, contentOf}
 use Rattle.listings.specs.Read.{OpenCond, Branches, Position, begin, inModule, ended, inStmts, inCond, Reading, start, Outcome, taken, refused, orRefused, check, atBegin, ascends, readLine, atModule, readSimple, readCond, atStmts, NextBranch, noMore, mayFollow, nextBranch, condStmt, endCond, readTo, readStmts, atCond, readRow, Answer, listing, refusal, finish, readRows, read}
 use Rattle.graph.specs.Build.{BuildNumber, ofInput, ofLines, ofNodes, ofEdges, Capacity, Built, graph, refused as notBuilt, edgeCount, fitted, builtOf, build}
 
@@ -108,39 +108,53 @@ row-number r ended d = two
 row-number r (inStmts s fs) d = stmts-number r s fs d
 row-number r (inCond s k bs fs) d = cond-number r s k bs fs d
 
--- ---- a text
+-- ---- a text: the number, and the place, which is none past its m rows
 
-abbrev Numbered : Answer → Type 0
-Numbered (listing L) = Unit {0}
-Numbered (refusal n p) = (1 ≤ n) × (n ≤ 8)
+abbrev Numbered : ℕ → Answer → Type 0
+Numbered m (listing L) = Unit {0}
+Numbered m (refusal n p) = (1 ≤ n) × (n ≤ 8) × (p ≤ m)
 
-finish-number : (r : Reading) (i : ℕ) (p : Position) (l : List ℕ) → Numbered (finish r i p l)
+finish-number : (r : Reading) (i m : ℕ) (p : Position) (l : List ℕ) → i ≤ m → Numbered m (finish r i p l)
 unfolding finish
-finish-number r i ended [] = tt
-finish-number r i ended (b ∷ l) = (omega arith, omega arith)
-finish-number r i begin l = (omega arith, omega arith)
-finish-number r i inModule l = (omega arith, omega arith)
-finish-number r i (inStmts s fs) l = (omega arith, omega arith)
-finish-number r i (inCond s k bs fs) l = (omega arith, omega arith)
+finish-number r i m ended [] h = tt
+finish-number r i m ended (b ∷ l) h = (omega arith, omega arith, h)
+finish-number r i m begin l h = (omega arith, omega arith, h)
+finish-number r i m inModule l h = (omega arith, omega arith, h)
+finish-number r i m (inStmts s fs) l h = (omega arith, omega arith, h)
+finish-number r i m (inCond s k bs fs) l h = (omega arith, omega arith, h)
 
-rows-number : (r : Reading) (i : ℕ) (ws : List (List ℕ)) → Numbered (readRows r i ws)
+rows-number : (r : Reading) (i m : ℕ) (ws : List (List ℕ)) → i + length ws ≤ m → Numbered m (readRows r i ws)
 unfolding readRows
-rows-number r i [] = (omega arith, omega arith)
-rows-number r i (w ∷ []) = finish-number r i (r .position) w
-rows-number r i (w ∷ v ∷ ws) = go (readRow r (r .position) (contentOf (rowOf w))) (row-number r (r .position) (contentOf (rowOf w))) (λ q. rows-number q (suc i) (v ∷ ws))
+rows-number r i m [] h = (omega arith, omega arith, omega arith)
+rows-number r i m (w ∷ []) h = finish-number r i m (r .position) w (omega arith)
+rows-number r i m (w ∷ v ∷ ws) h =
+    go (readRow r (r .position) (contentOf (rowOf w))) (row-number r (r .position) (contentOf (rowOf w))) (λ q. rows-number q (suc i) m (v ∷ ws) (omega arith))
   where
-    go : (o : Outcome Reading) → InputNumber o → ((q : Reading) → Numbered (readRows q (suc i) (v ∷ ws)))
-        → Numbered (elim o [ refused n ↦ refusal n i | taken q ↦ readRows q (suc i) (v ∷ ws) ])
-    go (taken q) h f = f q
-    go (refused n) h f = h
+    go : (o : Outcome Reading) → InputNumber o → ((q : Reading) → Numbered m (readRows q (suc i) (v ∷ ws)))
+        → Numbered m (elim o [ refused n ↦ refusal n i | taken q ↦ readRows q (suc i) (v ∷ ws) ])
+    go (taken q) g f = f q
+    go (refused n) g f = (g .0, g .1, omega arith)
 
-read-number : (t : List ℕ) → Numbered (read t)
-unfolding read
-read-number t = go (leb (length t) 65536)
+split-length : (b : ℕ) (l : List ℕ) → length (split b l) ≤ suc (length l)
+unfolding split onFirst
+split-length b [] = omega arith
+split-length b (x ∷ l) = go (eqb x b) (split b l) (split-length b l)
   where
-    go : (b : Bool) → Numbered (pick b (readRows start 0 (split 10 t)) (refusal 1 0))
-    go true = rows-number start 0 (split 10 t)
-    go false = (omega arith, omega arith)
+    go : (t : Bool) (ws : List (List ℕ)) → length ws ≤ suc (length l) → length (pick t ([] ∷ ws) (onFirst x ws)) ≤ suc (suc (length l))
+    go true ws h = omega arith
+    go false [] h = omega arith
+    go false (w ∷ ws) h = omega arith
+
+read-number : (t : List ℕ) → Numbered 65537 (read t)
+unfolding read
+read-number t = go (leb (length t) 65536) refl
+  where
+    go : (b : Bool) → leb (length t) 65536 ≡ b → Numbered 65537 (pick b (readRows start 0 (split 10 t)) (refusal 1 0))
+    go true e = let h = leb→le (length t) 65536 (rw e tt) in rows-number start 0 65537 (split 10 t) (omega (arith, split-length 10 t))
+    go false e = (omega arith, omega arith, omega arith)
+
+pub read-refusal : (t : List ℕ) (n p : ℕ) → read t ≡ refusal n p → (1 ≤ n) × (n ≤ 8) × (p ≤ 65537)
+read-refusal t n p e = subst (Numbered 65537) e (read-number t)
 
 -- ---- a build
 
@@ -158,7 +172,7 @@ fitted-number c L = go (leb (count (L .lines)) (c .lines)) (leb (total (L .lines
     go true false z = ofNodes
     go false y z = ofLines
 
-answer-number : (c : Capacity) (a : Answer) → Numbered a → Given (builtOf c a)
+answer-number : (c : Capacity) (a : Answer) → Numbered 65537 a → Given (builtOf c a)
 unfolding builtOf
 answer-number c (listing L) h = fitted-number c L
 answer-number c (refusal n p) h = ofInput (h .0) (h .1)

@@ -26,11 +26,11 @@ use Rattle.graph_laws.specs.GraphLaws.{nodeCount, entry-ids, continuation-ids, 
 use Rattle.graph.specs.Print.{spaced, joined, nodeRow, nodeRows, entryRow, backRow, printed, printedRefusal}
 use Rattle.graph.specs.Build.{lengths, edgeCount, Capacity, graph, refused, fitted, builtOf, build, written, limits, flowlist}
 use Rattle.graph_laws.specs.Theorems.{in-form}
+use Rattle.graph_laws.specs.Numbers.{read-refusal}
 use Rattle.passes.specs.LineEntries.{entries-length}
 use Rattle.passes.specs.EdgeTable.{joinedLists, startOf, start-next, start-end, lists-all}
 use Rattle.passes.specs.Predecessors.{predsOf, preds-at, length-preds, preds-total, all-lists, successor-lists}
 use Rattle.passes.specs.EdgeCount.{edges-joined}
-use Rattle.printing.specs.Refusals.{read-refusal}
 
 -- ---- numbers
 
