@@ -1,18 +1,19 @@
 -- 0 is no refusal's number: the C functions return it for a graph or an answer alone. Assumes nothing.
 use Prim.Native.Nat.{ℕ, zero, suc, _+_, _*_, _<_}
 use mathlib.Core.Path.{_≡_, refl}
-use mathlib.Core.Bool.{Bool, true, false, _&&_}
+use mathlib.Core.Bool.{Bool, true, false}
 use mathlib.Core.List.{List, [], _∷_}
 use mathlib.Core.Option.{Option, none, some}
 use native.Mathlib.Omega.{arith}
 use lib.Dec.{ltb, leb}
 use lib.ListN.{length, getD}
 use Rattle.listings.specs.Bytes.{pick}
-use Rattle.listings.specs.Listing.{Listing, Stmts, CondWord, total, count}
-use Rattle.listings.specs.Rows.{isName, split, rowOf, Parse, malformed, invalid, parsed, Content, noForm, endRow, stmtsRow, moduleRow, lineRow, toRow, simpleRow, condRow, contentOf}
-use Rattle.listings.specs.Read.{OpenCond, Branches, Position, begin, inModule, ended, inStmts, inCond, Reading, start, Outcome, taken, refused as refusedRow, orRefused, check, atBegin, readLine, ascends, atModule, readSimple, readCond, atStmts, NextBranch, noMore, mayFollow, nextBranch, condStmt, endCond, readTo, readStmts, atCond, readRow, Answer, listing, refusal, finish, readRows, read}
+use Rattle.listings.specs.Listing.{Listing, count}
+use Rattle.listings.specs.Rows.{isName}
+use Rattle.listings.specs.Read.{start}
 use Rattle.listings.specs.Records.{nameKey}
-use Rattle.graph.specs.Build.{Capacity, Built, graph, refused as refusedBuild, edgeCount, fitted, builtOf, build}
+use Rattle.graph.specs.Build.{Capacity, Built, graph, refused as refusedBuild, build, BuildNumber, ofInput, ofLines, ofNodes, ofEdges}
+use Rattle.graph_laws.specs.Theorems.{numbers}
 use Rattle.graph.specs.Questions.{Reply, answer, refused, ifRoom}
 use Rattle.adjacency.specs.ListsAt.{listAt, successorsAt, predecessorsAt}
 use Rattle.adjacency.specs.EntryAt.{nodeIn, entryAt}
@@ -23,18 +24,6 @@ use Rattle.telling.specs.QuestionTold.{codeOf}
 
 -- ---- a refusal's number is above 0
 
-abbrev RowNumbered : {A : Type 0} → Outcome A → Type 0
-RowNumbered (taken a) = Unit {0}
-RowNumbered (refusedRow n) = 0 < n
-
-abbrev AnswerNumbered : Answer → Type 0
-AnswerNumbered (listing L) = Unit {0}
-AnswerNumbered (refusal n p) = 0 < n
-
-abbrev BuiltNumbered : Built → Type 0
-BuiltNumbered (graph L) = Unit {0}
-BuiltNumbered (refusedBuild n p) = 0 < n
-
 abbrev Numbered : {A : Type 0} → Reply A → Type 0
 Numbered (answer a) = Unit {0}
 Numbered (refused n p) = 0 < n
@@ -43,127 +32,20 @@ either : {A : Type 0} (P : A → Type 0) (t : Bool) (x y : A) → P x → P y �
 either P true x y h g = h
 either P false x y h g = g
 
-or-numbered : {A B : Type 0} (x : Parse A) (f : A → Outcome B) → ((a : A) → RowNumbered (f a)) → RowNumbered (orRefused x f)
-unfolding orRefused
-or-numbered malformed f h = omega arith
-or-numbered invalid f h = omega arith
-or-numbered (parsed a) f h = h a
-
-check-numbered : {A : Type 0} (t : Bool) (n : ℕ) (o : Outcome A) → 0 < n → RowNumbered o → RowNumbered (check t n o)
-unfolding check
-check-numbered true n o k h = h
-check-numbered false n o k h = k
-
-begin-numbered : (r : Reading) (d : Content) → RowNumbered (atBegin r d)
-unfolding atBegin
-begin-numbered r noForm = omega arith
-begin-numbered r endRow = omega arith
-begin-numbered r stmtsRow = omega arith
-begin-numbered r (moduleRow h) = tt
-begin-numbered r (lineRow n) = omega arith
-begin-numbered r (toRow n) = omega arith
-begin-numbered r (simpleRow o) = omega arith
-begin-numbered r (condRow k) = omega arith
-
-module-numbered : (r : Reading) (d : Content) → RowNumbered (atModule r d)
-unfolding atModule readLine
-module-numbered r noForm = omega arith
-module-numbered r endRow = tt
-module-numbered r stmtsRow = omega arith
-module-numbered r (moduleRow h) = omega arith
-module-numbered r (lineRow n) = or-numbered n (readLine r) λ m. check-numbered (ascends m (r .last)) 4 _ (omega arith) (check-numbered (ltb (r .lineCount) 1024) 5 _ (omega arith) tt)
-module-numbered r (toRow n) = omega arith
-module-numbered r (simpleRow o) = omega arith
-module-numbered r (condRow k) = omega arith
-
-stmts-numbered : (r : Reading) (s : Stmts) (fs : List OpenCond) (d : Content) → RowNumbered (atStmts r s fs d)
-unfolding atStmts readSimple readCond
-stmts-numbered r s fs noForm = omega arith
-stmts-numbered r s fs endRow = tt
-stmts-numbered r s fs stmtsRow = omega arith
-stmts-numbered r s fs (moduleRow h) = omega arith
-stmts-numbered r s fs (lineRow n) = omega arith
-stmts-numbered r s fs (toRow n) = omega arith
-stmts-numbered r s fs (simpleRow o) =
-    or-numbered o (readSimple r s fs) λ d. check-numbered (ltb (r .stmtCount) 4096) 6 _ (omega arith) (check-numbered (leb (length fs) 16) 7 _ (omega arith) (check-numbered (leb (d .1) 64) 8 _ (omega arith) tt))
-stmts-numbered r s fs (condRow k) = check-numbered (ltb (r .stmtCount) 4096) 6 _ (omega arith) (check-numbered (leb (length fs) 16) 7 _ (omega arith) tt)
-
-to-numbered : (r : Reading) (s : Stmts) (k : CondWord) (fs : List OpenCond) (b : NextBranch) (n : Parse ℕ) → RowNumbered (readTo r s k fs b n)
-unfolding readTo
-to-numbered r s k fs noMore n = omega arith
-to-numbered r s k fs (mayFollow a) n = or-numbered n _ λ m. tt
-
-branch-numbered : (r : Reading) (s : Stmts) (k : CondWord) (fs : List OpenCond) (b : NextBranch) → RowNumbered (readStmts r s k fs b)
-unfolding readStmts
-branch-numbered r s k fs noMore = omega arith
-branch-numbered r s k fs (mayFollow a) = tt
-
-end-numbered : (r : Reading) (fs : List OpenCond) (s : Option Stmts) → RowNumbered (endCond r fs s)
-unfolding endCond
-end-numbered r fs none = omega arith
-end-numbered r fs (some s) = tt
-
-cond-numbered : (r : Reading) (s : Stmts) (k : CondWord) (bs : Branches) (fs : List OpenCond) (d : Content) → RowNumbered (atCond r s k bs fs d)
-unfolding atCond
-cond-numbered r s k bs fs noForm = omega arith
-cond-numbered r s k bs fs endRow = end-numbered r fs (condStmt s k bs)
-cond-numbered r s k bs fs stmtsRow = branch-numbered r s k fs (nextBranch k bs)
-cond-numbered r s k bs fs (moduleRow h) = omega arith
-cond-numbered r s k bs fs (lineRow n) = omega arith
-cond-numbered r s k bs fs (toRow n) = to-numbered r s k fs (nextBranch k bs) n
-cond-numbered r s k bs fs (simpleRow o) = omega arith
-cond-numbered r s k bs fs (condRow w) = omega arith
-
-row-numbered : (r : Reading) (p : Position) (d : Content) → RowNumbered (readRow r p d)
-unfolding readRow
-row-numbered r begin d = begin-numbered r d
-row-numbered r inModule d = module-numbered r d
-row-numbered r ended d = omega arith
-row-numbered r (inStmts s fs) d = stmts-numbered r s fs d
-row-numbered r (inCond s k bs fs) d = cond-numbered r s k bs fs d
-
-finish-numbered : (r : Reading) (i : ℕ) (p : Position) (l : List ℕ) → AnswerNumbered (finish r i p l)
-unfolding finish
-finish-numbered r i ended [] = tt
-finish-numbered r i ended (b ∷ l) = omega arith
-finish-numbered r i begin l = omega arith
-finish-numbered r i inModule l = omega arith
-finish-numbered r i (inStmts s fs) l = omega arith
-finish-numbered r i (inCond s k bs fs) l = omega arith
-
-rows-numbered : (r : Reading) (i : ℕ) (l : List (List ℕ)) → AnswerNumbered (readRows r i l)
-unfolding readRows
-rows-numbered r i [] = omega arith
-rows-numbered r i (w ∷ []) = finish-numbered r i (r .position) w
-rows-numbered r i (w ∷ v ∷ ws) = go (readRow r (r .position) (contentOf (rowOf w))) (row-numbered r (r .position) (contentOf (rowOf w))) λ q. rows-numbered q (suc i) (v ∷ ws)
-  where
-    go : (o : Outcome Reading) → RowNumbered o → ((q : Reading) → AnswerNumbered (readRows q (suc i) (v ∷ ws))) → AnswerNumbered (elim o [ refusedRow n ↦ refusal n i | taken q ↦ readRows q (suc i) (v ∷ ws) ])
-    go (refusedRow n) h f = h
-    go (taken q) h f = f q
-
-read-numbered : (t : List ℕ) → AnswerNumbered (read t)
-unfolding read
-read-numbered t = either AnswerNumbered (leb (length t) 65536) _ _ (rows-numbered start 0 (split 10 t)) (omega arith)
-
-build-numbered : (c : Capacity) (t : List ℕ) → BuiltNumbered (build c t)
-unfolding build builtOf fitted
-build-numbered c t = go (read t) (read-numbered t)
-  where
-    go : (a : Answer) → AnswerNumbered a → BuiltNumbered (builtOf c a)
-    go (refusal n p) h = h
-    go (listing L) h =
-        either BuiltNumbered (leb (count (L .lines)) (c .lines)) _ _
-        (either BuiltNumbered (leb (total (L .lines)) (c .nodes)) _ _
-        (either BuiltNumbered (leb (edgeCount L) (c .edges) && leb (edgeCount L) 32768) (graph L) (refusedBuild 23 (edgeCount L)) tt (omega arith)) (omega arith)) (omega arith)
-
 -- "0": the graph is in the tables
 pub zero-graph : (c : Capacity) (t : List ℕ) → numberOf (build c t) ≡ 0 → (L : Listing) × (build c t ≡ graph L)
 unfolding numberOf
-zero-graph c t e = go (build c t) (build-numbered c t) e
+zero-graph c t e = go (build c t) refl e
   where
-    go : (b : Built) → BuiltNumbered b → numberOf b ≡ 0 → (L : Listing) × (b ≡ graph L)
-    go (graph L) h z = (L, refl)
-    go (refusedBuild n p) h z = absurd (omega arith)
+    above : {n : ℕ} → BuildNumber n → 0 < n
+    above (ofInput h g) = omega arith
+    above ofLines = omega arith
+    above ofNodes = omega arith
+    above ofEdges = omega arith
+
+    go : (b : Built) → build c t ≡ b → numberOf b ≡ 0 → (L : Listing) × (b ≡ graph L)
+    go (graph L) q z = (L, refl)
+    go (refusedBuild n p) q z = absurd (omega (arith, above (numbers c t n p q)))
 
 -- ---- the questions
 
