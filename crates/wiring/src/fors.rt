@@ -79,8 +79,7 @@ fn push_for(args: &[u64], s: FrameStack, i: usize) -> FrameStack
         return s.push(i);
     }
     let p = s.pop_to(t - 1);
-    let u = p.stack;
-    u.push(i)
+    p.stack.push(i)
 }
 
 // FOR i. If its key is not noted, none of its name is open, and nothing is looked for.

@@ -57,12 +57,14 @@ pub(crate) fn newest(words: &[u64; 64], i: usize) -> usize
 }
 
 impl FrameStack {
+    // No frame is open.
     pub(crate) fn new() -> FrameStack
         ensures { λ r. ⌜ r .words ≡ noFrames ⌝ }
     {
         FrameStack { words: no_words() }
     }
 
+    // The frame of opener id goes on top.
     pub(crate) fn push(mut self, id: usize) -> FrameStack
         requires { ⌜ id < 4096 ⌝ }
         requires { ⌜ Room (self .words) id ⌝ }

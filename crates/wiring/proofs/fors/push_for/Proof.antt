@@ -35,14 +35,19 @@ pop-to-requires c κs = let at-start : tie.Start = search in omega (arith, sough
 
 push-requires-2 : tie.Need-push-requires-2
 push-requires-2 c κs =
+    let at-pop-to : tie.After-pop-to = search in
+    let at-else1 : tie.Else1 = search in
+    let at-seek : tie.After-seek = search in
     let at-start : tie.Start = search in
-    (at-start .pre .0 .0, room-below _ _ (cut-open _ _ _ _ _ _ (c .before .before .before .seek .ensures) (c .before .before .if1 .left) (c .before .pop-to .ensures .1) (at-start .pre .1)))
+    (at-start .pre .0 .0, room-below _ _ (cut-open _ _ _ _ _ _ (at-seek .seek .ensures) (at-else1 .if1 .left) (at-pop-to .pop-to .ensures .1) (at-start .pre .1)))
 
 returns-2 : tie.Need-returns-2
 returns-2 c =
+    let at-pop-to : tie.After-pop-to = search in
+    let at-else1 : tie.Else1 = search in
     let at-seek : tie.After-seek = search in
     let at-start : tie.Start = search in
-    push-cut _ _ _ _ _ (at-start .pre .0 .0) (at-seek .seek .ensures) _ (c .before .before .before .if1 .left) (c .before .before .pop-to .ensures .1) (c .push2 .ensures)
+    push-cut _ _ _ _ _ (at-start .pre .0 .0) (at-seek .seek .ensures) _ (at-else1 .if1 .left) (at-pop-to .pop-to .ensures .1) (c .push2 .ensures)
 
 pub push-for-spec : {M : Type 1} → statement M
 push-for-spec =
