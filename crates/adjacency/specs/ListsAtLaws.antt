@@ -8,7 +8,7 @@ use borrow.Author.Tests.{lt-ltb, le-ltb, le-leb, lt-leb, leb-true}
 use lib.Dec.{ltb, leb}
 use lib.ListN.{length, getD, take, drop}
 use Rattle.listings.specs.Bytes.{pick}
-use Rattle.tables.specs.Columns.{succStart, succCount, predStart, predCount}
+use Rattle.tables.specs.Columns.{succStart, succCount, predStart, predCount, succPart, predPart}
 use Rattle.graph.specs.Questions.{Reply, answer, refused}
 use Rattle.adjacency.specs.ListsAt.{listAt, successorsAt, predecessorsAt, askedOf, partOf}
 use Rattle.adjacency.specs.declared.successors.Asked.the-variants.{Part, Refused}
@@ -104,3 +104,14 @@ pub refused-empty : (r : Reply (ℕ × ℕ)) (k p : ℕ) (table : List ℕ) → 
 unfolding askedOf partOf
 refused-empty (answer d) k p table e = let z : _≡_ {A = ℕ} 0 1 = cc in absurd (omega arith)
 refused-empty (refused m q) k p table e = refl
+
+-- ---- the parts that the records of n nodes name
+
+module _ (counts lists table : List ℕ) (i : ℕ) (below : i < getD counts 1 0) (rows : getD counts 1 0 * 4 ≤ length lists) where
+  pub successors-part : succStart lists i + succCount lists i ≤ length table → partOf (successorsAt counts lists (length table) i) table ≡ succPart lists table i
+  unfolding successorsAt partOf
+  successors-part h = ap (λ (r : Reply (ℕ × ℕ)). partOf r table) (list-found counts lists (length table) i (succStart lists i) (succCount lists i) below rows h)
+
+  pub predecessors-part : predStart lists i + predCount lists i ≤ length table → partOf (predecessorsAt counts lists (length table) i) table ≡ predPart lists table i
+  unfolding predecessorsAt partOf
+  predecessors-part h = ap (λ (r : Reply (ℕ × ℕ)). partOf r table) (list-found counts lists (length table) i (predStart lists i) (predCount lists i) below rows h)

@@ -15,7 +15,7 @@ use Rattle.listings.specs.Records.{nameKey}
 use Rattle.tables.specs.Columns.{callWord, wordOf, fallEntry, succStart, succCount, succPart}
 use Rattle.graph.specs.Questions.{Reply, refused, kept, ifRoom}
 use Rattle.adjacency.specs.ListsAt.{successorsAt, partOf}
-use Rattle.adjacency.specs.ListsAtLaws.{list-found}
+use Rattle.adjacency.specs.ListsAtLaws.{successors-part}
 use Rattle.frame_lists.specs.FrameAt.{endsFrame, keepsShared, frameRead, shortTables, partOutside, fallOutside, frameOutside, frameIn, frameAt}
 use Rattle.frame_slices.specs.Told.{FrameTold}
 use Rattle.statements.specs.StatementAt.{noStatement, unlessRefused}
@@ -37,9 +37,7 @@ pub record FrameInside (counts stmts args falls lists succ : List ℕ) (h i : �
 
 -- so the successors of node i are that part of their table
 pub part-is : (counts lists succ : List ℕ) (i : ℕ) → PartInside counts lists succ i → partOf (successorsAt counts lists (length succ) i) succ ≡ succPart lists succ i
-unfolding successorsAt partOf
-part-is counts lists succ i p =
-    ap (λ (r : Reply (ℕ × ℕ)). partOf r succ) (list-found counts lists (length succ) i (succStart lists i) (succCount lists i) (p .is-node) (p .in-lists) (p .in-succ))
+part-is counts lists succ i p = successors-part counts lists succ i (p .is-node) (p .in-lists) (p .in-succ)
 
 either-false : (a b : Bool) → (a || b) ≡ false → (a ≡ false) × (b ≡ false)
 either-false true b e = let z : _≡_ {A = ℕ} 0 1 = cc in absurd (omega arith)

@@ -5,14 +5,14 @@ use mathlib.Core.Bool.{true, false}
 use mathlib.Core.List.{List, [], _∷_, _++_, append-assoc, append-nil}
 use native.Mathlib.Omega.{arith}
 use native.Mathlib.Numerals.{sub-one}
-use lib.ListN.{length, getD, take, drop, length-append}
+use lib.ListN.{length, getD, length-append}
 use Rattle.listings.specs.Bytes.{bytes, decimal, pick}
 use Rattle.graph.specs.Lists.{each}
 use Rattle.listings.specs.Listing.{Listing}
 use Rattle.graph.specs.Print.{spaced, joined, printed}
 use Rattle.passes.specs.GraphHeld.{GraphHeld}
 use Rattle.graph_laws.specs.Adding.{decode}
-use Rattle.tables.specs.Columns.{callWord, wordOf, succStart, succCount, predStart, predCount, holderOf, indexOf, lineOf, heldBy, pathIn, Holders, succPart, predPart}
+use Rattle.tables.specs.Columns.{callWord, wordOf, holderOf, indexOf, lineOf, heldBy, pathIn, Holders, succPart, predPart}
 use Rattle.formatting.specs.Printing.{Puts, puts-none, puts-both, puts-is, spaced-snoc, pairText}
 
 -- ---- a node's path
@@ -109,19 +109,13 @@ puts-head p q s t n m k r i number line a b c =
     puts-both p s t n k r (w ++ spaced (i ∷ number ∷ line ∷ [])) (bytes " (")
     (puts-is e (puts-both p q s n m k (w ++ spaced (i ∷ number ∷ [])) (32 ∷ decimal line) a b)) c
 
-pub puts-list : (p q s : List ℕ) (n m r : ℕ) (w table : List ℕ) (start count : ℕ) → Puts p n q m w → Puts q m s r (spaced (take (start + count - start) (drop start table)))
-    → Puts p n s r (w ++ spaced (take count (drop start table)))
-puts-list p q s n m r w table start count a b =
-    let e : start + count - start ≡ count = omega arith in
-    puts-both p q s n m r w (spaced (take count (drop start table))) a (rw e at b)
-
-pub puts-lists : (p q s t : List ℕ) (n m k r : ℕ) (lists succ pred : List ℕ) (i a b c d : ℕ) → a ≡ succStart lists i → b ≡ succCount lists i → c ≡ predStart lists i → d ≡ predCount lists i
-    → Puts p n q m (bytes ") (succ" ++ spaced (take b (drop a succ))) → Puts q m s k (bytes ") (pred" ++ spaced (take d (drop c pred))) → Puts s k t r (bytes "))\n")
+pub puts-lists : (p q s t : List ℕ) (n m k r : ℕ) (lists succ pred : List ℕ) (i : ℕ) (own before : List ℕ) → own ≡ succPart lists succ i → before ≡ predPart lists pred i
+    → Puts p n q m (bytes ") (succ" ++ spaced own) → Puts q m s k (bytes ") (pred" ++ spaced before) → Puts s k t r (bytes "))\n")
     → Puts p n t r (listsText (succPart lists succ i) (predPart lists pred i))
 unfolding listsText
-puts-lists p q s t n m k r lists succ pred i a b c d ea eb ec ed x y z =
-    let x′ : Puts p n q m (bytes ") (succ" ++ spaced (succPart lists succ i)) = rw (ea, eb) at x in
-    let y′ : Puts q m s k (bytes ") (pred" ++ spaced (predPart lists pred i)) = rw (ec, ed) at y in
+puts-lists p q s t n m k r lists succ pred i own before e f x y z =
+    let x′ : Puts p n q m (bytes ") (succ" ++ spaced (succPart lists succ i)) = rw e at x in
+    let y′ : Puts q m s k (bytes ") (pred" ++ spaced (predPart lists pred i)) = rw f at y in
     puts-is (simp append-assoc) (puts-both _ _ _ _ _ _ _ _ (puts-both _ _ _ _ _ _ _ _ x′ y′) z)
 
 pub puts-node : (p q s t : List ℕ) (n m k r : ℕ) (lines stmts lists succ pred : List ℕ) (i number line : ℕ) → line ≡ lineOf stmts i → number ≡ getD lines line 0
@@ -169,3 +163,8 @@ SomeGraph lines stmts entries falls lists returns succ pred count n targets =
 abbrev pub GraphPrinted : (lines stmts entries falls lists returns succ pred : List ℕ) (count n targets : ℕ) (out out′ : List ℕ) (r : ℕ) → Type 0
 GraphPrinted lines stmts entries falls lists returns succ pred count n targets out out′ r =
     (L : Listing) → GraphHeld L lines stmts entries falls lists returns succ pred count n targets → Puts out 0 out′ r (printed L)
+
+-- with the counts as they were read
+pub held-as : {L : Listing} {lines stmts entries falls lists returns succ pred : List ℕ} (a b c : ℕ) {count n targets : ℕ} → a ≡ count → b ≡ n → c ≡ targets
+    → GraphHeld L lines stmts entries falls lists returns succ pred count n targets → GraphHeld L lines stmts entries falls lists returns succ pred a b c
+held-as a b c e f g h = rw (e, f, g) h

@@ -1,14 +1,17 @@
 // A text's graph, printed.
 use crate::print::print_graph;
 use formatting::print_rows::put_refusal;
+use tables::widths::count_of;
 use wiring::build::Built;
 use wiring::build::build;
+ghost use lib.ListN.{getD};
 ghost use Rattle.wiring.specs.GraphTables.{sizesOf};
 ghost use Rattle.printing.specs.PrintedTables.{SomeGraph, GraphPrinted};
 ghost use Rattle.printing.specs.ListGraph.{GraphListed};
 
 // Prints the graph that the tables hold, with the counts as their table has them.
 fn print_counted(
+    counts: &[u32; 5],
     lines: &[u16],
     stmts: &[u16],
     entries: &[u16],
@@ -17,15 +20,13 @@ fn print_counted(
     returns: &[u16],
     succ: &[u16],
     pred: &[u16],
-    count: u32,
-    n: u32,
-    targets: u32,
     out: &mut [u8],
 ) -> usize
-    requires { ⌜ SomeGraph (now lines) (now stmts) (now entries) (now falls) (now lists) (now returns) (now succ) (now pred) count n targets ⌝ }
-    ensures { λ r. ⌜ GraphPrinted (now (lines .entry)) (now (stmts .entry)) (now (entries .entry)) (now (falls .entry)) (now (lists .entry)) (now (returns .entry)) (now (succ .entry)) (now (pred .entry)) count n targets (now (out .entry)) (now (out .exit)) r ⌝ }
+    requires { ⌜ SomeGraph (now lines) (now stmts) (now entries) (now falls) (now lists) (now returns) (now succ) (now pred) (getD (now counts) 0 0) (getD (now counts) 1 0) (getD (now counts) 4 0) ⌝ }
+    ensures { λ r. ⌜ GraphPrinted (now (lines .entry)) (now (stmts .entry)) (now (entries .entry)) (now (falls .entry)) (now (lists .entry)) (now (returns .entry)) (now (succ .entry)) (now (pred .entry)) (getD (now (counts .entry)) 0 0) (getD (now (counts .entry)) 1 0) (getD (now (counts .entry)) 4 0) (now (out .entry)) (now (out .exit)) r ⌝ }
 {
     print_graph(
+        counts,
         lines,
         stmts,
         entries,
@@ -34,9 +35,9 @@ fn print_counted(
         returns,
         succ,
         pred,
-        count as usize,
-        n as usize,
-        targets as usize,
+        count_of(counts[0]),
+        count_of(counts[1]),
+        count_of(counts[4]),
         out,
     )
 }
@@ -76,6 +77,7 @@ pub fn list_graph(
     match built {
         Built::Refused { number, place } => put_refusal(out, 0, number as usize, place),
         Built::Graph => print_counted(
+            counts,
             lines,
             stmts,
             entries,
@@ -84,9 +86,6 @@ pub fn list_graph(
             returns,
             succ,
             pred,
-            counts[0],
-            counts[1],
-            counts[4],
             out,
         ),
     }

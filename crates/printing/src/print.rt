@@ -7,8 +7,9 @@ use formatting::print_rows::put_pair_row;
 use reader::tables::STMT_ENTRIES;
 use tables::calls::is_call;
 use tables::widths::wide;
+ghost use mathlib.Core.Path.{_≡_};
 ghost use Prim.Native.Nat.{_+_, _*_, _<_, _≤_};
-ghost use lib.ListN.{length, take};
+ghost use lib.ListN.{length, getD, take};
 ghost use Rattle.graph.specs.Lists.{each, below};
 ghost use Rattle.formatting.specs.Printing.{Puts};
 ghost use Rattle.printing.specs.PrintedTables.{SomeGraph, GraphPrinted, someText, entryText, backText, returnsText};
@@ -82,6 +83,7 @@ fn put_returns(out: &mut [u8], at: usize, returns: &[u16], targets: usize) -> us
 
 // Prints the graph that the tables hold, of `count` lines, n nodes and so many return targets.
 pub(crate) fn print_graph(
+    counts: &[u32; 5],
     lines: &[u16],
     stmts: &[u16],
     entries: &[u16],
@@ -95,12 +97,12 @@ pub(crate) fn print_graph(
     targets: usize,
     out: &mut [u8],
 ) -> usize
-    requires { ⌜ SomeGraph (now lines) (now stmts) (now entries) (now falls) (now lists) (now returns) (now succ) (now pred) count n targets ⌝ }
+    requires { ⌜ SomeGraph (now lines) (now stmts) (now entries) (now falls) (now lists) (now returns) (now succ) (now pred) count n targets × (n ≡ getD (now counts) 1 0) ⌝ }
     ensures { λ r. ⌜ GraphPrinted (now (lines .entry)) (now (stmts .entry)) (now (entries .entry)) (now (falls .entry)) (now (lists .entry)) (now (returns .entry)) (now (succ .entry)) (now (pred .entry)) count n targets (now (out .entry)) (now (out .exit)) r ⌝ }
 {
     let r = put_pair(out, 0, b"(graph", 0, n);
     let r = put_bytes(out, r, b"\n");
-    let r = put_nodes(out, r, lines, stmts, lists, succ, pred, n);
+    let r = put_nodes(out, r, counts, lines, stmts, lists, succ, pred, n);
     let r = put_entries(out, r, lines, entries, count);
     let r = put_returns(out, r, returns, targets);
     let r = put_backs(out, r, stmts, falls, n);

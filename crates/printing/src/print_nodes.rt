@@ -1,4 +1,6 @@
 // The rows of the nodes, read off the tables.
+use adjacency::successors::predecessors;
+use adjacency::successors::successors;
 use formatting::print_numbers::put_bytes;
 use formatting::print_numbers::put_decimal;
 use formatting::print_numbers::put_number;
@@ -9,9 +11,10 @@ use reader::tables::INDEX;
 use reader::tables::LINE;
 use reader::tables::STMT_ENTRIES;
 use tables::widths::wide;
+ghost use mathlib.Core.Path.{_≡_};
 ghost use mathlib.Core.List.{_++_};
 ghost use Prim.Native.Nat.{_+_, _*_, _<_, _≤_};
-ghost use lib.ListN.{length, take, drop};
+ghost use lib.ListN.{length, getD};
 ghost use Rattle.graph.specs.Lists.{each, below};
 ghost use Rattle.graph.specs.Print.{spaced, joined};
 ghost use Rattle.tables.specs.Columns.{succStart, succCount, predStart, predCount, Holders, pathIn, succPart, predPart, NodesReadable};
@@ -48,58 +51,39 @@ fn put_head(out: &mut [u8], at: usize, i: usize, number: usize, line: usize) -> 
     put_bytes(out, r, b" (")
 }
 
-// A word and a list, which is a part of an edge table.
-fn put_list(
-    out: &mut [u8],
-    at: usize,
-    word: &[u8],
-    table: &[u16],
-    start: usize,
-    count: usize,
-) -> usize
-    requires { ⌜ start + count ≤ length (now table) ⌝ }
-    ensures { λ r. ⌜ Puts (now (out .entry)) at (now (out .exit)) r (now (word .entry) ++ spaced (take count (drop start (now (table .entry))))) ⌝ }
+// A word and a list.
+fn put_list(out: &mut [u8], at: usize, word: &[u8], list: &[u16]) -> usize
+    ensures { λ r. ⌜ Puts (now (out .entry)) at (now (out .exit)) r (now (word .entry) ++ spaced (now (list .entry))) ⌝ }
 {
-    let end = start + count;
     let r = put_bytes(out, at, word);
-    put_spaced(out, r, &table[start..end])
+    put_spaced(out, r, list)
 }
 
-// Both lists of node i, where its row says, and the end of the row.
+// Both lists of node i, which are parts of the edge tables, and the end of the row.
 fn put_lists(
     out: &mut [u8],
     at: usize,
+    counts: &[u32; 5],
     lists: &[u16],
     succ: &[u16],
     pred: &[u16],
     i: usize,
 ) -> usize
-    requires { ⌜ (i * 4 + 4 ≤ length (now lists)) × (succStart (now lists) i + succCount (now lists) i ≤ length (now succ)) × (predStart (now lists) i + predCount (now lists) i ≤ length (now pred)) ⌝ }
+    requires { ⌜ (i < getD (now counts) 1 0) × (getD (now counts) 1 0 * 4 ≤ length (now lists)) × (succStart (now lists) i + succCount (now lists) i ≤ length (now succ)) × (predStart (now lists) i + predCount (now lists) i ≤ length (now pred)) ⌝ }
     ensures { λ r. ⌜ Puts (now (out .entry)) at (now (out .exit)) r (listsText (succPart (now (lists .entry)) (now (succ .entry)) i) (predPart (now (lists .entry)) (now (pred .entry)) i)) ⌝ }
 {
-    let row = i * 4;
-    let r = put_list(
-        out,
-        at,
-        b") (succ",
-        succ,
-        wide(lists[row]),
-        wide(lists[row + 1]),
-    );
-    let r = put_list(
-        out,
-        r,
-        b") (pred",
-        pred,
-        wide(lists[row + 2]),
-        wide(lists[row + 3]),
-    );
+    let own = successors(counts, lists, succ, i);
+    let before = predecessors(counts, lists, pred, i);
+    let r = put_list(out, at, b") (succ", own);
+    let r = put_list(out, r, b") (pred", before);
     put_bytes(out, r, b"))\n")
 }
 
+// The row of node i.
 fn put_node(
     out: &mut [u8],
     at: usize,
+    counts: &[u32; 5],
     lines: &[u16],
     stmts: &[u16],
     lists: &[u16],
@@ -108,19 +92,20 @@ fn put_node(
     n: usize,
     i: usize,
 ) -> usize
-    requires { ⌜ (i < n) × NodesReadable (now lines) (now stmts) (now lists) (now succ) (now pred) n ⌝ }
+    requires { ⌜ (i < n) × NodesReadable (now lines) (now stmts) (now lists) (now succ) (now pred) n × (n ≡ getD (now counts) 1 0) ⌝ }
     ensures { λ r. ⌜ Puts (now (out .entry)) at (now (out .exit)) r (nodeText (now (lines .entry)) (now (stmts .entry)) (now (lists .entry)) (now (succ .entry)) (now (pred .entry)) i) ⌝ }
 {
     let line = wide(stmts[i * STMT_ENTRIES + LINE]);
     let r = put_head(out, at, i, wide(lines[line]), line);
     let r = put_path(out, r, stmts, n, i, DEPTH);
-    put_lists(out, r, lists, succ, pred, i)
+    put_lists(out, r, counts, lists, succ, pred, i)
 }
 
 // The rows of n nodes.
 pub(crate) fn put_nodes(
     out: &mut [u8],
     at: usize,
+    counts: &[u32; 5],
     lines: &[u16],
     stmts: &[u16],
     lists: &[u16],
@@ -128,13 +113,13 @@ pub(crate) fn put_nodes(
     pred: &[u16],
     n: usize,
 ) -> usize
-    requires { ⌜ NodesReadable (now lines) (now stmts) (now lists) (now succ) (now pred) n ⌝ }
+    requires { ⌜ NodesReadable (now lines) (now stmts) (now lists) (now succ) (now pred) n × (n ≡ getD (now counts) 1 0) ⌝ }
     ensures { λ r. ⌜ Puts (now (out .entry)) at (now (out .exit)) r (each (nodeText (now (lines .entry)) (now (stmts .entry)) (now (lists .entry)) (now (succ .entry)) (now (pred .entry))) (below n)) ⌝ }
 {
     let mut r = at;
     let mut i: usize = 0;
     while i < n {
-        r = put_node(out, r, lines, stmts, lists, succ, pred, n, i);
+        r = put_node(out, r, counts, lines, stmts, lists, succ, pred, n, i);
         i += 1;
     }
     r

@@ -19,18 +19,9 @@ put-refusal-requires c κs = search needs
 enum-told : tie.Need-enum-told
 enum-told c = search needs
 
-element-copy-out-print-counted : tie.Need-element-copy-out-print-counted
-element-copy-out-print-counted c = search needs
-
-element-copy-out-print-counted-2 : tie.Need-element-copy-out-print-counted-2
-element-copy-out-print-counted-2 c = search needs
-
-element-copy-out-print-counted-3 : tie.Need-element-copy-out-print-counted-3
-element-copy-out-print-counted-3 c = search needs
-
 -- Ways back from a place to an earlier one. `search` finds each by its type.
-abbrev build-of-print-counted-arg11 : tie.After-print-counted-arg11 → tie.After-build
-build-of-print-counted-arg11 c = search
+abbrev build-of-print-counted-arg9 : tie.After-print-counted-arg9 → tie.After-build
+build-of-print-counted-arg9 c = search
 
 abbrev start-of-build : tie.After-build → tie.Start
 start-of-build c = search
@@ -38,19 +29,19 @@ start-of-build c = search
 abbrev build-of-put-refusal : tie.After-put-refusal → tie.After-build
 build-of-put-refusal c = search
 
-abbrev lines-of-print-counted-arg12 : tie.After-print-counted-arg12 → tie.After-lines
-lines-of-print-counted-arg12 c = search
+abbrev lines-of-print-counted-arg10 : tie.After-print-counted-arg10 → tie.After-lines
+lines-of-print-counted-arg10 c = search
 
-abbrev stmts-of-print-counted-arg12 : tie.After-print-counted-arg12 → tie.After-stmts
-stmts-of-print-counted-arg12 c = search
+abbrev stmts-of-print-counted-arg10 : tie.After-print-counted-arg10 → tie.After-stmts
+stmts-of-print-counted-arg10 c = search
 
 abbrev args2-of-print-counted : tie.After-print-counted → tie.After-args2
 args2-of-print-counted c = search
 
-abbrev build-of-print-counted-arg12 : tie.After-print-counted-arg12 → tie.After-build
-build-of-print-counted-arg12 c = search
+abbrev build-of-print-counted-arg10 : tie.After-print-counted-arg10 → tie.After-build
+build-of-print-counted-arg10 c = search
 
-ruleset ways = (build-of-print-counted-arg11, start-of-build, build-of-put-refusal, lines-of-print-counted-arg12, stmts-of-print-counted-arg12, args2-of-print-counted, build-of-print-counted-arg12)
+ruleset ways = (build-of-print-counted-arg9, start-of-build, build-of-put-refusal, lines-of-print-counted-arg10, stmts-of-print-counted-arg10, args2-of-print-counted, build-of-print-counted-arg10)
 
 print-counted-requires : tie.Need-print-counted-requires
 print-counted-requires c κs =
@@ -154,9 +145,6 @@ list-graph-spec =
     cast-put-refusal
     put-refusal-requires
     enum-told
-    element-copy-out-print-counted
-    element-copy-out-print-counted-2
-    element-copy-out-print-counted-3
     print-counted-requires
     same-length
     same-length-2

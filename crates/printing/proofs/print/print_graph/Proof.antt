@@ -22,10 +22,10 @@ put-bytes-requires : tie.Need-put-bytes-requires
 put-bytes-requires c κs = search needs
 
 put-nodes-requires : tie.Need-put-nodes-requires
-put-nodes-requires c κs = let at-start : tie.Start = search in nodes-readable (at-start .pre .1)
+put-nodes-requires c κs = let at-start : tie.Start = search in (nodes-readable (at-start .pre .0 .1), at-start .pre .1)
 
 put-entries-requires : tie.Need-put-entries-requires
-put-entries-requires c κs = let at-start : tie.Start = search in let g = at-start .pre .1 in (g .lines-fit, g .entries-fit)
+put-entries-requires c κs = let at-start : tie.Start = search in let g = at-start .pre .0 .1 in (g .lines-fit, g .entries-fit)
 
 -- Ways back from a place to an earlier one. `search` finds each by its type.
 abbrev start-of-put-pair : tie.After-put-pair → tie.Start
@@ -37,10 +37,10 @@ put-pair-of-put-bytes c = search
 ruleset ways = (start-of-put-pair, put-pair-of-put-bytes)
 
 put-returns-requires : tie.Need-put-returns-requires
-put-returns-requires c κs = let at-start : tie.Start = search ways in at-start .pre .1 .returns-fit
+put-returns-requires c κs = let at-start : tie.Start = search ways in at-start .pre .0 .1 .returns-fit
 
 put-backs-requires : tie.Need-put-backs-requires
-put-backs-requires c κs = let at-start : tie.Start = search ways in let g = at-start .pre .1 in (g .stmts-fit, g .falls-fit)
+put-backs-requires c κs = let at-start : tie.Start = search ways in let g = at-start .pre .0 .1 in (g .stmts-fit, g .falls-fit)
 
 slice-aggregate-put-bytes-2 : tie.Need-slice-aggregate-put-bytes-2
 slice-aggregate-put-bytes-2 c = search needs

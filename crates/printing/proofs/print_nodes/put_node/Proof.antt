@@ -42,7 +42,7 @@ put-path-requires c κs = search needs
 put-lists-requires : tie.Need-put-lists-requires
 put-lists-requires c κs =
     let at-start : tie.Start = search in
-    let p = at-start .pre in let i = at-start .args .i in (omega (arith, p .1 .rows), p .1 .succ-in i (p .0), p .1 .pred-in i (p .0))
+    let p = at-start .pre in let i = at-start .args .i in (omega (arith, p .0, p .2), omega (arith, p .1 .rows, p .2), p .1 .succ-in i (p .0), p .1 .pred-in i (p .0))
 
 same-length : tie.Need-same-length
 same-length c = search needs

@@ -11,10 +11,10 @@ use Rattle.printing.proofs.print_nodes.put_nodes.Statement.{statement}
 use Rattle.printing.proofs.print_nodes.put_nodes.Tie as tie
 
 abbrev Inv-loop : tie.InvT-loop
-Inv-loop out₀ at lines stmts lists succ pred n r₀ i₀ out r i = (i ≤ n) × (length out ≡ length out₀) × Puts out₀ at out r (each (nodeText lines stmts lists succ pred) (below i))
+Inv-loop out₀ at counts lines stmts lists succ pred n r₀ i₀ out r i = (i ≤ n) × (length out ≡ length out₀) × Puts out₀ at out r (each (nodeText lines stmts lists succ pred) (below i))
 
 abbrev μ-loop : tie.MeasureT-loop
-μ-loop out₀ at lines stmts lists succ pred n r₀ i₀ out r i = n - i
+μ-loop out₀ at counts lines stmts lists succ pred n r₀ i₀ out r i = n - i
 
 loop-holds : tie.Need-loop-holds Inv-loop μ-loop
 loop-holds c =
@@ -22,7 +22,7 @@ loop-holds c =
     let a = at-start .args in (omega arith, refl, below-start (nodeText (a .lines .now) (a .stmts .now) (a .lists .now) (a .succ .now) (a .pred .now)) _ _)
 
 put-node-requires : tie.Need-put-node-requires Inv-loop μ-loop
-put-node-requires c κs = let at-start : tie.Start Inv-loop μ-loop = search in (c .before .loop-test .taken, at-start .pre)
+put-node-requires c κs = let at-start : tie.Start Inv-loop μ-loop = search in (c .before .loop-test .taken, at-start .pre .0, at-start .pre .1)
 
 add-i : tie.Need-add-i Inv-loop μ-loop
 add-i c = search needs
