@@ -10,7 +10,7 @@ use lib.ListN.{length}
 use Rattle.listings.specs.Bytes.{pick}
 use Rattle.graph.specs.Lists.{has, add, addAll, Ascending, asc[], asc∷}
 use Rattle.listings.specs.Every.{All, all[], all∷}
-use Rattle.graph.specs.Reach.{has→mem}
+use Rattle.graph_laws.specs.ReachLaws.{has→mem}
 
 pub data Distinct : List ℕ → Type 0 where
   dist[] : Distinct []

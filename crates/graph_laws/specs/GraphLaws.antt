@@ -19,7 +19,7 @@ use Rattle.graph_laws.specs.NodeLaws.{Below, NodeFits, EntryFits, length
 use Rattle.graph_laws.specs.EdgeBounds.{Ids, list-ids, edges-to, ends-ids, addAll-ids}
 use Rattle.graph_laws.specs.Distinct.{Distinct, dist[], few, distinct-all, distinct-ascending}
 use Rattle.graph.specs.Edges.{edges, ends}
-use Rattle.graph.specs.Reach.{has→mem, mem→has}
+use Rattle.graph_laws.specs.ReachLaws.{has→mem, mem→has}
 use Rattle.graph.specs.Graph.{Role, call, returns, forgets, steps, noNode, Wired, wire, roleOf, role, fallOf, fallFrom, base, continuationBy, continuation, returnFrom, regionReturnEdges, returnTargets, returnEdges, successorsBy, successorsIn, successors, allSuccessors, predecessorsIn, predecessors, someReaches, skipSteps, callees}
 
 -- the node count

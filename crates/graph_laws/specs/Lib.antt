@@ -1,4 +1,5 @@
 pub mod ListLaws
+pub mod ReachLaws
 pub mod Adding
 pub mod Members
 pub mod Distinct

@@ -13,7 +13,8 @@ use Rattle.graph.specs.Lists.{each, list, below, ascending, Ascending}
 use Rattle.graph_laws.specs.Members.{mem-each, each-mem, mem-below, ascending-asc, ascending-mem, mem-ascending, past}
 use Rattle.listings.specs.Listing.{Listing}
 use Rattle.graph.specs.Nodes.{Node}
-use Rattle.graph.specs.Reach.{Reach, here, on, Reach·join, reaches, reaches-exact}
+use Rattle.graph.specs.Reach.{Reach, here, on, reaches}
+use Rattle.graph_laws.specs.ReachLaws.{Reach·join, reaches-exact}
 use Rattle.graph.specs.Graph.{roleOf, Role, call, returns, forgets, steps, noNode, Wired, wire, role, fallFrom, base, continuationBy, continuation, calleesBy, callees, skipStepsBy, skipSteps, someReaches, returnFrom, regionReturnEdges, returnTargets, returnEdges, successorsBy, successorsIn, successors}
 
 either : (x y : Bool) → T (elim x [ true ↦ true | false ↦ y ]) → T x ⊎ T y

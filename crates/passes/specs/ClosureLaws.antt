@@ -12,7 +12,8 @@ use Rattle.listings.specs.WordTable.{zeros}
 use Rattle.passes.specs.Compare.{eq-or}
 use Rattle.graph_laws.specs.EdgeBounds.{Ids}
 use Rattle.graph_laws.specs.Members.{all-mem}
-use Rattle.graph.specs.Reach.{Reach, here, on, Reach·join}
+use Rattle.graph.specs.Reach.{Reach, here, on}
+use Rattle.graph_laws.specs.ReachLaws.{Reach·join}
 use Rattle.passes.specs.Sets.{bit, In, inserted, joined, membersOf}
 use Rattle.passes.specs.SetLaws.{none-in, in-inserted, inserted-length, joined-at, joined-length, in-joined, members-in}
 use Rattle.passes.specs.ReturnSets.{returnWord, setOf}

@@ -3,13 +3,13 @@ use Prim.Native.Nat.{ℕ, zero, suc, _+_, _-_, _<_, _≤_}
 use mathlib.Core.Path.{_≡_, refl, ap, sym, _∙_}
 use mathlib.Core.List.{List, [], _∷_, _++_, append-nil}
 use mathlib.Core.Logic.{⊎-elim}
-use mathlib.Core.Option.{Option, none}
+use mathlib.Core.Option.{Option, none, some}
 use mathlib.Core.Bool.{Bool, true, false}
 use native.Mathlib.Omega.{arith}
 use native.Mathlib.Numerals.{add-one, sub-one}
 use borrow.Author.Tests.{eq-eqb, ne-eqb}
 use lib.Dec.{eqb}
-use lib.ListN.{length, getD, take, replicate, length-append, length-take, List·getD-append, List·getD-eq-default}
+use lib.ListN.{length, getD, getElem?, take, replicate, length-append, length-take, List·getD-append, List·getD-eq-default}
 use lib.Seq.{getD-take, take-at}
 use Rattle.listings.specs.Bytes.{pick}
 use Rattle.listings.specs.Listing.{Lines, nolines, line, total}
@@ -119,6 +119,13 @@ pub record EntryTable (es : Entries) (lines entries : List ℕ) (n : ℕ) : Type
   pub numbers : lines ≡ numbersOf es ++ more
   pub rest : List ℕ
   pub nodes : entries ≡ entryNumbers es ++ rest
+
+-- line l, as both tables list it
+pub entry-at : (es : Entries) (more rest : List ℕ) (l : ℕ) (d : ℕ × Option ℕ) → getElem? es l ≡ some d → (getD (numbersOf es ++ more) l 0 ≡ d .0) × (getD (entryNumbers es ++ rest) l 0 ≡ nodeNumber (d .1))
+unfolding numbersOf entryNumbers
+entry-at [] more rest l d e = absurd (let z : _≡_ {A = ℕ} 0 1 = cc in omega arith)
+entry-at (c ∷ es) more rest zero d e = let q : c ≡ d = cc in (ap (λ (x : ℕ × Option ℕ). x .0) q, ap (λ (x : ℕ × Option ℕ). nodeNumber (x .1)) q)
+entry-at (c ∷ es) more rest (suc l) d e = entry-at es more rest l d e
 
 abbrev pub EntryFound : (lines entries : List ℕ) (n number r : ℕ) → Type 0
 EntryFound lines entries n number r = (es : Entries) → EntryTable es lines entries n → r ≡ nodeNumber (entryOf es number)

@@ -16,7 +16,7 @@ use Rattle.graph_laws.specs.Adding.{decode}
 use Rattle.passes.specs.Compare.{eq-or}
 use Rattle.graph_laws.specs.Members.{all-map, all-mem, mem-each, each-mem}
 use Rattle.passes.specs.Growing.{each-snoc}
-use Rattle.graph.specs.Reach.{has→mem, mem→has}
+use Rattle.graph_laws.specs.ReachLaws.{has→mem, mem→has}
 use Rattle.graph.specs.Graph.{Wired, skipSteps, regionReturnEdges}
 use Rattle.graph_laws.specs.ReturnLists.{conts-inside, region-sound, region-complete, region-asc}
 use Rattle.passes.specs.Walk.{Reached}

@@ -18,12 +18,8 @@ use Rattle.graph_laws.specs.Adding.{Added, decode, added-none, added-both, adde
 use Rattle.graph.specs.Graph.{Wired, continuation, returnTargets}
 use Rattle.passes.specs.Compare.{eq-or}
 use Rattle.passes.specs.Growing.{each-snoc}
-use Rattle.tables.specs.Columns.{callWord, wordOf, fallEntry}
+use Rattle.tables.specs.Columns.{callWord, wordOf, fallEntry, continuationEntry}
 use Rattle.passes.specs.Prepared.{Roles}
-
--- where node i continues, if it is a call
-unfoldable pub continuationEntry : List ℕ → List ℕ → ℕ → List ℕ
-continuationEntry stmts falls i = pick (callWord (wordOf stmts i)) (fallEntry falls i) []
 
 -- as an entry: one more than the node, or 0
 unfoldable pub continuationNumber : List ℕ → List ℕ → ℕ → ℕ

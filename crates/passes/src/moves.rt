@@ -4,9 +4,9 @@ ghost use Rattle.passes.specs.Frames.{loopMove, doMove};
 ghost use Rattle.passes.specs.FramePass.{moveOf, movesStack};
 
 // The words that move one of the two stacks follow each other in the table of opening words.
-pub const REPEAT: u16 = 15;
+pub(crate) const REPEAT: u16 = 15;
 
-pub const UNTIL: u16 = 17;
+pub(crate) const UNTIL: u16 = 17;
 
 pub const EXIT: u16 = 19;
 
@@ -16,7 +16,7 @@ pub const DOIF: u16 = 21;
 
 pub const ELSE: u16 = 22;
 
-pub const DONE: u16 = 23;
+pub(crate) const DONE: u16 = 23;
 
 // What a statement does to a stack.
 pub enum FrameMove {

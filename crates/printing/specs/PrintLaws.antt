@@ -10,14 +10,13 @@ use Rattle.listings.specs.Bytes.{pick, bytes}
 use Rattle.listings.specs.Listing.{Listing}
 use Rattle.graph.specs.Lists.{each, list, below}
 use Rattle.graph_laws.specs.Adding.{nodeNumber, decode-number}
-use Rattle.graph.specs.Nodes.{Node, Entries, nodes}
+use Rattle.graph.specs.Nodes.{Node, nodes}
 use Rattle.graph.specs.NodeWords.{stmtNumber}
 use Rattle.graph.specs.Graph.{Wired, wire, allSuccessors, predecessorsIn, returnTargets}
 use Rattle.graph.specs.Print.{spaced, joined, nodeRow, nodeRows, entryRow, backRow, printed}
 use Rattle.tables.specs.Columns.{callWord, wordOf}
 use Rattle.passes.specs.OpenerLaws.{in-range}
-use Rattle.passes.specs.LineEntries.{entryNumbers}
-use Rattle.passes.specs.LineSearch.{numbersOf, entry-table, entries-held}
+use Rattle.passes.specs.LineSearch.{entry-at, entry-table, entries-held}
 use Rattle.passes.specs.Held.{lines-held}
 use Rattle.passes.specs.TableReads.{fall-of}
 use Rattle.formatting.specs.Printing.{Puts, puts-both, each-snoc, pairText}
@@ -59,12 +58,6 @@ unfolding headText listsText nodeRow
 row-is i d ss ps = simp append-assoc
 
 -- ---- line entries
-
-entry-at : (es : Entries) (more rest : List ℕ) (l : ℕ) (d : ℕ × Option ℕ) → getElem? es l ≡ some d → (getD (numbersOf es ++ more) l 0 ≡ d .0) × (getD (entryNumbers es ++ rest) l 0 ≡ nodeNumber (d .1))
-unfolding numbersOf entryNumbers
-entry-at [] more rest l d e = absurd (let z : _≡_ {A = ℕ} 0 1 = cc in omega arith)
-entry-at (c ∷ es) more rest zero d e = let q : c ≡ d = cc in (ap (λ (x : ℕ × Option ℕ). x .0) q, ap (λ (x : ℕ × Option ℕ). nodeNumber (x .1)) q)
-entry-at (c ∷ es) more rest (suc l) d e = entry-at es more rest l d e
 
 entry-is : (lines entries : List ℕ) (l : ℕ) (d : ℕ × Option ℕ) → getD lines l 0 ≡ d .0 → getD entries l 0 ≡ nodeNumber (d .1) → entryText lines entries l ≡ entryRow d
 unfolding entryText someText pairText entryRow

@@ -1,4 +1,4 @@
-// The printed graph, as the program `flowlist` writes them.
+// The printed graph, as the program `flowlist` writes it.
 pub mod list;
 pub mod print;
 pub mod print_nodes;

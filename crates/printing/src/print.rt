@@ -1,4 +1,4 @@
-// The printed graph and the printed refusal, into a lent part. Bytes that do not fit are dropped; each routine answers where the next byte would go.
+// The printed graph, into a lent part. Bytes that do not fit are dropped; each routine answers where the next byte would go.
 use crate::print_nodes::put_nodes;
 use formatting::print_numbers::put_bytes;
 use formatting::print_numbers::put_pair;

@@ -23,14 +23,13 @@ use Rattle.graph.specs.Nodes.{NodeStmt, simple, cond, Node, nodes, nodesBefore}
 use Rattle.graph.specs.Targets.{onFor, onNext, onSimple}
 use Rattle.wiring.specs.WrittenLaws.{graph-held, listing-held, counts-held, nodes-total, held-succ, held-continuation}
 use Rattle.wiring.specs.Refusals.{LongEnough}
-use Rattle.tables.specs.Columns.{succStart, succCount, callWord, wordOf, fallEntry, succPart}
+use Rattle.tables.specs.Columns.{succStart, succCount, callWord, wordOf, fallEntry, continuationEntry, succPart}
 use Rattle.passes.specs.GraphHeld.{GraphHeld}
 use Rattle.wiring.specs.GraphTables.{Sizes, Tables, Written}
 use Rattle.passes.specs.HoldsListing.{HoldsListing, holds-listed}
 use Rattle.passes.specs.ListedNodes.{SimpleListed, StmtListed, Listed, key-same}
 use Rattle.passes.specs.OpenerLaws.{some-at}
 use Rattle.passes.specs.GraphReads.{nodes-readable}
-use Rattle.passes.specs.ReturnTargets.{continuationEntry}
 use Rattle.passes.specs.TableReads.{fall-of}
 use Rattle.passes.specs.LateLaws.{number-below}
 use Rattle.graph.specs.Questions.{refused, kept, frameSimple, frameBy, frameOf, frameList, ifNode, ifRoom, askFrame}

@@ -16,8 +16,7 @@ use Rattle.graph.specs.Graph.{wire, successors, predecessors, continuation, ret
 use Rattle.graph.specs.Build.{BuildNumber, edgeCount}
 use Rattle.graph.specs.Demand3.{Demand3}
 use Rattle.graph.specs.Questions.{Reply, answer, refused, askSuccessors, askPredecessors, askEntry, askStatement, askPath, askFrame}
-use Rattle.tables.specs.Columns.{wordOf, lineOf, pathIn, succPart, predPart, entriesIn}
-use Rattle.passes.specs.ReturnTargets.{continuationEntry}
+use Rattle.tables.specs.Columns.{wordOf, lineOf, continuationEntry, pathIn, succPart, predPart, entriesIn}
 use Rattle.wiring.specs.GraphTables.{Sizes, Tables, BuildWrote, Written, AllZero}
 use Rattle.wiring.specs.Refusals.{ListingOf, LongEnough, Refusal}
 use Rattle.wiring.specs.declared.build.Built.{Built as BuiltAnswer}
@@ -111,6 +110,8 @@ pub record Mission (text : List ℕ) (s : Sizes) (T : Tables) (x : BuiltAnswer) 
   pub questions : (L : Listing) → ListingOf text L → x ≡ built.Graph → Questions L T
   -- "For every accepted listing that says that it has no handlers", of the successor lists that stand in the tables
   pub third : (L : Listing) → ListingOf text L → x ≡ built.Graph → L .handlers ≡ false → Demand3 L (succPart (T .lists) (T .succ))
+  -- "For a listing in form that is refused its graph, it holds of the lists that the rules give."
+  pub third-of-rules : (L : Listing) → ListingOf text L → L .handlers ≡ false → Demand3 L (successors L)
 
 -- what `build` promises, for every text, all tables that may be lent and every answer, is enough
 abbrev pub MissionMet : Type 0

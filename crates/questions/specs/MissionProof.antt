@@ -13,7 +13,7 @@ use Rattle.graph.specs.Questions.{Reply, answer, refused}
 use Rattle.graph.specs.Demand3.{Demand3}
 use Rattle.graph_laws.specs.GraphLaws.{nodeCount}
 use Rattle.graph_laws.specs.RunLaws.{demand3-of}
-use Rattle.graph_laws.specs.Theorems.{numbers}
+use Rattle.graph_laws.specs.Theorems.{numbers, demand-three}
 use Rattle.tables.specs.Columns.{wordOf, succPart, entriesIn}
 use Rattle.passes.specs.OpenerLaws.{in-range}
 use Rattle.passes.specs.GraphHeld.{GraphHeld}
@@ -94,4 +94,5 @@ mission text s T x wrote =
       second = λ L h e. demand2 L s T (h .in-form) (long-enough text s T x wrote L h e) (written L h e);
       questions = λ L h e. questions L s T (h .in-form) (long-enough text s T x wrote L h e) (written L h e);
       third = λ L h e. demand3 L s T (h .in-form) (long-enough text s T x wrote L h e) (written L h e);
+      third-of-rules = λ L h. demand-three L;
     }

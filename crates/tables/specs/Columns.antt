@@ -5,6 +5,7 @@ use mathlib.Core.List.{List, [], _∷_, _++_}
 use mathlib.Core.Option.{Option, none, some}
 use lib.Dec.{eqb}
 use lib.ListN.{length, getD, take, drop}
+use Rattle.listings.specs.Bytes.{pick}
 use Rattle.graph_laws.specs.Adding.{decode}
 use Rattle.graph.specs.Nodes.{Entries}
 
@@ -21,6 +22,10 @@ wordOf stmts i = getD stmts (i * 12) 0
 -- where it falls: one more than the node, or 0
 unfoldable pub fallEntry : List ℕ → ℕ → List ℕ
 fallEntry falls i = decode (getD falls (i * 3) 0)
+
+-- where a statement continues, if it is a call
+unfoldable pub continuationEntry : List ℕ → List ℕ → ℕ → List ℕ
+continuationEntry stmts falls i = pick (callWord (wordOf stmts i)) (fallEntry falls i) []
 
 -- the IF that holds it: one more than its node, or 0
 abbrev pub holderOf : List ℕ → ℕ → ℕ

@@ -20,13 +20,12 @@ use Rattle.graph_laws.specs.GraphLaws.{nodeCount}
 use Rattle.graph.specs.Build.{edgeCount}
 use Rattle.passes.specs.EdgeTable.{startOf, length-rows, listRows, lists-at}
 use Rattle.passes.specs.Predecessors.{predsOf, preds-total, successor-lists, all-lists}
-use Rattle.passes.specs.ReturnTargets.{continuationEntry}
 use Rattle.passes.specs.LineEntries.{entryNumbers, entryRows, numbers-length, entries-length}
 use Rattle.passes.specs.LineSearch.{numbersOf, EntryTable, entry-table, entries-held}
 use Rattle.passes.specs.Held.{lines-held}
 use Rattle.passes.specs.FallLaws.{rows-length}
 use Rattle.passes.specs.TableReads.{fall-of}
-use Rattle.tables.specs.Columns.{fallEntry, wordOf, succPart, predPart, entryNode, entriesIn}
+use Rattle.tables.specs.Columns.{fallEntry, continuationEntry, wordOf, succPart, predPart, entryNode, entriesIn}
 use Rattle.wiring.specs.GraphTables.{Sizes, Tables, Written, count-table, line-table, stmt-table, arg-table, entries-table, fall-table, list-table, return-table, succ-table, pred-table}
 use Rattle.wiring.specs.Refusals.{LongEnough}
 use Rattle.passes.specs.GraphHeld.{GraphHeld}

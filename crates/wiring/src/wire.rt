@@ -25,10 +25,10 @@ struct Counted {
 }
 
 // Whether the graph was written; if not, document 01's number and place.
-pub struct Wiring {
-    pub written: bool,
-    pub number: u8,
-    pub place: usize,
+pub(crate) struct Wiring {
+    pub(crate) written: bool,
+    pub(crate) number: u8,
+    pub(crate) place: usize,
 }
 
 // Room for as many edges as a graph may have and one more for each call, whose continuation need not be among them.

@@ -5,7 +5,8 @@ use mathlib.Core.Path.{_≡_, ap, _∙_}
 use native.Mathlib.Omega.{arith}
 use Rattle.graph.specs.Lists.{each, below}
 use Rattle.graph_laws.specs.Adding.{decode}
-use Rattle.passes.specs.ReturnTargets.{continuationEntry, TargetsAdded, continuation-decoded, continuation-le, one-more, targets-none, targets-more, targets-listed}
+use Rattle.tables.specs.Columns.{continuationEntry}
+use Rattle.passes.specs.ReturnTargets.{TargetsAdded, continuation-decoded, continuation-le, one-more, targets-none, targets-more, targets-listed}
 use Rattle.wiring.proofs.return_targets.put_targets.Statement.{statement}
 use Rattle.wiring.proofs.return_targets.put_targets.Tie as tie
 
