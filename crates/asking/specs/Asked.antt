@@ -11,7 +11,7 @@ use lib.ListN.{length, getD, getElem?, take, drop}
 use Rattle.listings.specs.Bytes.{bytes, pick, same}
 use Rattle.listings.specs.Listing.{Listing}
 use Rattle.listings.specs.Rows.{split, openingWords}
-use Rattle.listings.specs.Read.{Outcome, taken}
+use Rattle.listings.specs.Read.{Outcome, taken, read}
 use Rattle.listings.specs.WordTable.{words, first, wordIndex}
 use Rattle.listings.specs.Scan.{rest-all}
 use Rattle.listings.specs.WordText.{same-equal}
@@ -21,7 +21,7 @@ use Rattle.graph.specs.Print.{printedRefusal}
 use Rattle.graph.specs.Build.{Built, graph, build}
 use Rattle.wiring.specs.GraphTables.{Sizes, Tables, tablesOf, capacity, BuildWrote, Answered}
 use Rattle.formatting.specs.Printing.{Puts, puts-none, puts-is}
-use Rattle.wiring.specs.BuildAnswers.{accepted-built, refused-by}
+use Rattle.wiring.specs.BuildAnswers.{text-read, accepted-built, refused-by}
 use Rattle.wiring.specs.declared.build.Built.{Built as BuiltAnswer}
 use Rattle.wiring.specs.declared.build.Built.the-variants as built
 use Rattle.graph.specs.Questions.{Reply, answer, askStatement, askPath, foundOr, statementOf, nodeFrom}
@@ -96,12 +96,12 @@ module _ (L : Listing) (T : Tables) (m : Questions L T) where
   answer-is (ofPath l p) = ap (replyRow numberedRow) (m .path l p) ∙ path-row 0 l p (nodes (L .lines))
   answer-is (ofFrame a i v flag) = ap (replyRow _) (m .frame a i v flag 4096)
 
-pub build-answers : (text : List ℕ) (s : Sizes) (T : Tables) (x : BuiltAnswer) → BuildWrote text s T x → x ≡ built.Graph
+pub build-answers : (text : List ℕ) (s : Sizes) (T : Tables) (x : BuiltAnswer) → BuildWrote (read text) s T x → x ≡ built.Graph
     → (L : Listing) × (build (capacity s) text ≡ graph L) × ((q : Question) → answerAt (T .counts) (T .lines) (T .stmts) (T .args) (T .entries) (T .falls) (T .lists) (T .succ) (T .pred) q ≡ answerRow L q)
 build-answers text s T x wrote e =
     let M = mission text s T x wrote in
     let d = M .first .graph-of e in
-    (d .0, accepted-built text s (d .0) (d .1) (d .2), answer-is (d .0) T (M .questions (d .0) (d .1) e))
+    (d .0, accepted-built (text-read text) s (d .0) (d .1) (d .2), answer-is (d .0) T (M .questions (d .0) (d .1) e))
 
 -- ---- the rows, by answers that are the same
 
@@ -153,7 +153,7 @@ module _ (text : List ℕ) (s : Sizes) (n : ℕ) (cut : CutAt text n) (c l t a e
   pub listing-refused : (out out′ : List ℕ) (j number place : ℕ) → x ≡ built.Refused number place → Puts out 0 out′ j (printedRefusal number place) → TextAsked text s c l t a e f k i r u p out out′ j
   unfolding answers
   listing-refused out out′ j number place q z =
-      asked-as out out′ j (puts-is (sym (ap (λ (b : Built). answers b (parts (split 10 text) .1)) (refused-by (take n text) s T x w number place q .1))) z)
+      asked-as out out′ j (puts-is (sym (ap (λ (b : Built). answers b (parts (split 10 text) .1)) (refused-by (text-read (take n text)) s T x w number place q .1))) z)
 
   pub questions-asked : (out out′ : List ℕ) (j : ℕ) → x ≡ built.Graph → QuestionsAnswered text (answerAt c l t a e f i u p) out out′ j → TextAsked text s c l t a e f k i r u p out out′ j
   unfolding answers

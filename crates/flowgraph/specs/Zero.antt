@@ -38,7 +38,7 @@ unfolding numberOf
 zero-graph c t e = go (build c t) refl e
   where
     above : {n : ℕ} → BuildNumber n → 0 < n
-    above (ofInput h g) = omega arith
+    above (ofInput h) = omega arith
     above ofLines = omega arith
     above ofNodes = omega arith
     above ofEdges = omega arith

@@ -44,12 +44,17 @@ unfoldable pub builtOf : Capacity → Answer → Built
 builtOf c (listing L) = fitted c L
 builtOf c (refusal n p) = refused n p
 
-unfoldable pub build : Capacity → List ℕ → Built
+-- of a text
+abbrev pub build : Capacity → List ℕ → Built
 build c t = builtOf c (read t)
 
--- the numbers that a refused build can have: "1 text too long" to "8 a 65th number or slot"; "21 line tables too short, 22 node tables too short, 23 either edge table too short or over 32,768 edges"
+-- the numbers that an input can be refused by: "1 text too long" to "8 a 65th number or slot"
+abbrev pub InputNumber : ℕ → Type 0
+InputNumber n = (1 ≤ n) × (n ≤ 8)
+
+-- the numbers that a refused build can have; "21 line tables too short, 22 node tables too short, 23 either edge table too short or over 32,768 edges"
 pub data BuildNumber : ℕ → Type 0 where
-  ofInput : {n : ℕ} → 1 ≤ n → n ≤ 8 → BuildNumber n
+  ofInput : {n : ℕ} → InputNumber n → BuildNumber n
   ofLines : BuildNumber 21
   ofNodes : BuildNumber 22
   ofEdges : BuildNumber 23

@@ -9,8 +9,8 @@ use Rattle.graph.specs.Reach.{reaches}
 use Rattle.graph.specs.Graph.{simpleRole, stmtRole, wire, roleOf, role, fallOf, fallFrom, base, continuationBy, continuation, calleesBy, callees, skipStepsBy, skipSteps, someReaches, returnFrom, regionReturnEdges, returnTargets, returnEdges, successorsBy, successorsIn, successors, allSuccessors, predecessorsIn, predecessors}
 use Rattle.graph.specs.Run.{toward, mayFall, closeCall, movesBy, moves, runFrom, run}
 use Rattle.graph.specs.Print.{spaced, joined, nodeRow, nodeRows, entryRow, backRow, printed, printedRefusal}
-use Rattle.graph.specs.Build.{lengths, edgeCount, fitted, builtOf, build, written, limits, flowlist}
+use Rattle.graph.specs.Build.{lengths, edgeCount, fitted, builtOf, written, limits, flowlist}
 
 unfoldable pub opened : ℕ
-unfolding listings.opened has add addAll below keep each list insertBy insert ascending branchTarget allocate lineEntry nodesBefore entriesBefore nodes entries entryOf targetEntries firstEntry allEntries branchEdges onFor onNext onSimple dispatchTarget dispatchTargets selectable orphanTargets orphanEdges emptyStacks noMoves onFors onLoops onDos movesOf nodeMoves findFor underOr foundOr popFor popped left forsAfter framesAfter stacksAfter frameBody poppedBodies closedBody closerEdges ownSimple own jumpsOr sent fromNode toFall wired orphans edges ends reaches simpleRole stmtRole wire roleOf role fallOf fallFrom base continuationBy continuation calleesBy callees skipStepsBy skipSteps someReaches returnFrom regionReturnEdges returnTargets returnEdges successorsBy successorsIn successors allSuccessors predecessorsIn predecessors toward mayFall closeCall movesBy moves runFrom run spaced joined nodeRow nodeRows entryRow backRow printed printedRefusal lengths edgeCount fitted builtOf build written limits flowlist
+unfolding listings.opened has add addAll below keep each list insertBy insert ascending branchTarget allocate lineEntry nodesBefore entriesBefore nodes entries entryOf targetEntries firstEntry allEntries branchEdges onFor onNext onSimple dispatchTarget dispatchTargets selectable orphanTargets orphanEdges emptyStacks noMoves onFors onLoops onDos movesOf nodeMoves findFor underOr foundOr popFor popped left forsAfter framesAfter stacksAfter frameBody poppedBodies closedBody closerEdges ownSimple own jumpsOr sent fromNode toFall wired orphans edges ends reaches simpleRole stmtRole wire roleOf role fallOf fallFrom base continuationBy continuation calleesBy callees skipStepsBy skipSteps someReaches returnFrom regionReturnEdges returnTargets returnEdges successorsBy successorsIn successors allSuccessors predecessorsIn predecessors toward mayFall closeCall movesBy moves runFrom run spaced joined nodeRow nodeRows entryRow backRow printed printedRefusal lengths edgeCount fitted builtOf written limits flowlist
 opened = 0

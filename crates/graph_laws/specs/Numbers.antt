@@ -11,21 +11,21 @@ use Rattle.listings.specs.Bytes.{pick}
 use Rattle.listings.specs.Listing.{CondWord, Stmts, Listing, total, count}
 use Rattle.listings.specs.Rows.{Parse, malformed, invalid, parsed, Content, noForm, endRow, stmtsRow, moduleRow, lineRow, toRow, simpleRow, condRow, split, onFirst, rowOf, contentOf}
 use Rattle.listings.specs.Read.{OpenCond, Branches, Position, begin, inModule, ended, inStmts, inCond, Reading, start, Outcome, taken, refused, orRefused, check, atBegin, ascends, readLine, atModule, readSimple, readCond, atStmts, NextBranch, noMore, mayFollow, nextBranch, condStmt, endCond, readTo, readStmts, atCond, readRow, Answer, listing, refusal, finish, readRows, read}
-use Rattle.graph.specs.Build.{BuildNumber, ofInput, ofLines, ofNodes, ofEdges, Capacity, Built, graph, refused as notBuilt, edgeCount, fitted, builtOf, build}
+use Rattle.graph.specs.Build.{InputNumber, BuildNumber, ofInput, ofLines, ofNodes, ofEdges, Capacity, Built, graph, refused as notBuilt, edgeCount, fitted, builtOf, build}
 
 -- ---- a row
 
-abbrev InputNumber : {A : Type 0} → Outcome A → Type 0
-InputNumber (taken a) = Unit {0}
-InputNumber (refused n) = (1 ≤ n) × (n ≤ 8)
+abbrev RefusedBy : {A : Type 0} → Outcome A → Type 0
+RefusedBy (taken a) = Unit {0}
+RefusedBy (refused n) = (1 ≤ n) × (n ≤ 8)
 
-parse-number : {A B : Type 0} (p : Parse A) (f : A → Outcome B) → ((a : A) → InputNumber (f a)) → InputNumber (orRefused p f)
+parse-number : {A B : Type 0} (p : Parse A) (f : A → Outcome B) → ((a : A) → RefusedBy (f a)) → RefusedBy (orRefused p f)
 unfolding orRefused
 parse-number malformed f h = (omega arith, omega arith)
 parse-number invalid f h = (omega arith, omega arith)
 parse-number (parsed a) f h = h a
 
-check-number : {A : Type 0} (b : Bool) (n : ℕ) (o : Outcome A) → 1 ≤ n → n ≤ 8 → InputNumber o → InputNumber (check b n o)
+check-number : {A : Type 0} (b : Bool) (n : ℕ) (o : Outcome A) → 1 ≤ n → n ≤ 8 → RefusedBy o → RefusedBy (check b n o)
 unfolding check
 check-number true n o x y h = h
 check-number false n o x y h = (x, y)
@@ -33,11 +33,11 @@ check-number false n o x y h = (x, y)
 two : ((1 ≤ 2) × (2 ≤ 8))
 two = (omega arith, omega arith)
 
-line-number : (r : Reading) (n : ℕ) → InputNumber (readLine r n)
+line-number : (r : Reading) (n : ℕ) → RefusedBy (readLine r n)
 unfolding readLine
 line-number r n = check-number (ascends n (r .last)) 4 _ (omega arith) (omega arith) (check-number (ltb (r .lineCount) 1024) 5 _ (omega arith) (omega arith) tt)
 
-begin-number : (r : Reading) (d : Content) → InputNumber (atBegin r d)
+begin-number : (r : Reading) (d : Content) → RefusedBy (atBegin r d)
 unfolding atBegin
 begin-number r noForm = two
 begin-number r endRow = two
@@ -48,7 +48,7 @@ begin-number r (toRow n) = two
 begin-number r (simpleRow o) = two
 begin-number r (condRow k) = two
 
-module-number : (r : Reading) (d : Content) → InputNumber (atModule r d)
+module-number : (r : Reading) (d : Content) → RefusedBy (atModule r d)
 unfolding atModule
 module-number r noForm = two
 module-number r endRow = tt
@@ -59,7 +59,7 @@ module-number r (toRow n) = two
 module-number r (simpleRow o) = two
 module-number r (condRow k) = two
 
-stmts-number : (r : Reading) (s : Stmts) (fs : List OpenCond) (d : Content) → InputNumber (atStmts r s fs d)
+stmts-number : (r : Reading) (s : Stmts) (fs : List OpenCond) (d : Content) → RefusedBy (atStmts r s fs d)
 unfolding atStmts readSimple readCond
 stmts-number r s fs noForm = two
 stmts-number r s fs endRow = tt
@@ -74,22 +74,22 @@ stmts-number r s fs (simpleRow o) =
 stmts-number r s fs (condRow k) =
     check-number (ltb (r .stmtCount) 4096) 6 _ (omega arith) (omega arith) (check-number (leb (length fs) 16) 7 _ (omega arith) (omega arith) tt)
 
-end-number : (r : Reading) (fs : List OpenCond) (o : Option Stmts) → InputNumber (endCond r fs o)
+end-number : (r : Reading) (fs : List OpenCond) (o : Option Stmts) → RefusedBy (endCond r fs o)
 unfolding endCond
 end-number r fs none = two
 end-number r fs (some s) = tt
 
-to-number : (r : Reading) (s : Stmts) (k : CondWord) (fs : List OpenCond) (b : NextBranch) (n : Parse ℕ) → InputNumber (readTo r s k fs b n)
+to-number : (r : Reading) (s : Stmts) (k : CondWord) (fs : List OpenCond) (b : NextBranch) (n : Parse ℕ) → RefusedBy (readTo r s k fs b n)
 unfolding readTo
 to-number r s k fs noMore n = two
 to-number r s k fs (mayFollow a) n = parse-number n _ (λ m. tt)
 
-branch-number : (r : Reading) (s : Stmts) (k : CondWord) (fs : List OpenCond) (b : NextBranch) → InputNumber (readStmts r s k fs b)
+branch-number : (r : Reading) (s : Stmts) (k : CondWord) (fs : List OpenCond) (b : NextBranch) → RefusedBy (readStmts r s k fs b)
 unfolding readStmts
 branch-number r s k fs noMore = two
 branch-number r s k fs (mayFollow a) = tt
 
-cond-number : (r : Reading) (s : Stmts) (k : CondWord) (bs : Branches) (fs : List OpenCond) (d : Content) → InputNumber (atCond r s k bs fs d)
+cond-number : (r : Reading) (s : Stmts) (k : CondWord) (bs : Branches) (fs : List OpenCond) (d : Content) → RefusedBy (atCond r s k bs fs d)
 unfolding atCond
 cond-number r s k bs fs noForm = two
 cond-number r s k bs fs endRow = end-number r fs (condStmt s k bs)
@@ -100,7 +100,7 @@ cond-number r s k bs fs (toRow n) = to-number r s k fs (nextBranch k bs) n
 cond-number r s k bs fs (simpleRow o) = two
 cond-number r s k bs fs (condRow w) = two
 
-row-number : (r : Reading) (p : Position) (d : Content) → InputNumber (readRow r p d)
+row-number : (r : Reading) (p : Position) (d : Content) → RefusedBy (readRow r p d)
 unfolding readRow
 row-number r begin d = begin-number r d
 row-number r inModule d = module-number r d
@@ -130,7 +130,7 @@ rows-number r i m (w ∷ []) h = finish-number r i m (r .position) w (omega arit
 rows-number r i m (w ∷ v ∷ ws) h =
     go (readRow r (r .position) (contentOf (rowOf w))) (row-number r (r .position) (contentOf (rowOf w))) (λ q. rows-number q (suc i) m (v ∷ ws) (omega arith))
   where
-    go : (o : Outcome Reading) → InputNumber o → ((q : Reading) → Numbered m (readRows q (suc i) (v ∷ ws)))
+    go : (o : Outcome Reading) → RefusedBy o → ((q : Reading) → Numbered m (readRows q (suc i) (v ∷ ws)))
         → Numbered m (elim o [ refused n ↦ refusal n i | taken q ↦ readRows q (suc i) (v ∷ ws) ])
     go (taken q) g f = f q
     go (refused n) g f = (g .0, g .1, omega arith)
@@ -172,11 +172,10 @@ fitted-number c L = go (leb (count (L .lines)) (c .lines)) (leb (total (L .lines
     go true false z = ofNodes
     go false y z = ofLines
 
-answer-number : (c : Capacity) (a : Answer) → Numbered 65537 a → Given (builtOf c a)
+pub answer-number : (c : Capacity) (a : Answer) → ((n p : ℕ) → a ≡ refusal n p → InputNumber n) → (n p : ℕ) → builtOf c a ≡ notBuilt n p → BuildNumber n
 unfolding builtOf
-answer-number c (listing L) h = fitted-number c L
-answer-number c (refusal n p) h = ofInput (h .0) (h .1)
+answer-number c (listing L) h n p e = subst Given e (fitted-number c L)
+answer-number c (refusal m q) h n p e = let x : m ≡ n = cc in ofInput (h n q (ap (λ (k : ℕ). refusal k q) x))
 
 pub build-number : (c : Capacity) (t : List ℕ) (n p : ℕ) → build c t ≡ notBuilt n p → BuildNumber n
-unfolding build
-build-number c t n p e = subst Given e (answer-number c (read t) (read-number t))
+build-number c t = answer-number c (read t) (λ n p e. let r = read-refusal t n p e in (r .0, r .1))

@@ -251,9 +251,13 @@ unfoldable pub LinesOk : Lines → Type 0
 LinesOk nolines = Unit {0}
 LinesOk (line ls n s) = LinesOk ls × NumberOk n × Above n (lastNumber ls) × StmtsOk 0 s
 
--- a listing in form: "At most 65,536 bytes, 1,024 lines with ascending numbers, 4,096 statements"
-pub record InForm (L : Listing) : Type 0 where
+-- a listing within the limits, whatever it was read from: "1,024 lines with ascending numbers, 4,096 statements"
+pub record Within (L : Listing) : Type 0 where
   pub lines : LinesOk (L .lines)
   pub lineCount : count (L .lines) ≤ 1024
   pub stmtCount : total (L .lines) ≤ 4096
+
+-- a listing in form, as a text: "At most 65,536 bytes" too
+pub record InForm (L : Listing) : Type 0 where
+  pub within : Within L
   pub byteCount : length (listingText L) ≤ 65536

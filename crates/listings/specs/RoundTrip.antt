@@ -7,10 +7,10 @@ use native.Mathlib.Omega.{arith}
 use lib.Dec.{T, leb, le→leb, leb→le}
 use lib.ListN.{length}
 use Rattle.listings.specs.Bytes.{pick}
-use Rattle.listings.specs.Listing.{Listing, total, count}
+use Rattle.listings.specs.Listing.{Listing}
 use Rattle.listings.specs.Rows.{split, rowOf, contentOf}
 use Rattle.listings.specs.Read.{Position, begin, inModule, ended, inStmts, inCond, Reading, start, Outcome, taken, refused, readRow, Answer, listing, refusal, finish, readRows, read}
-use Rattle.listings.specs.ListingText.{listingRows, textOf, listingText, LinesOk, InForm}
+use Rattle.listings.specs.ListingText.{listingRows, textOf, listingText, Within, InForm}
 use Rattle.listings.specs.RowForms.{split-text, text-split}
 use Rattle.listings.specs.RowText.{content-text}
 use Rattle.listings.specs.RowsTaken.{steps-plain, steps-read, listing-steps}
@@ -22,15 +22,9 @@ pick-true : {A : Type 0} (b : Bool) (x y : A) → T b → pick b x y ≡ x
 pick-true true x y t = refl
 pick-true false x y t = absurd t
 
--- the limits but that of bytes
-record Limits (L : Listing) : Type 0 where
-  lines : LinesOk (L .lines)
-  lineCount : count (L .lines) ≤ 1024
-  stmtCount : total (L .lines) ≤ 4096
-
 -- of an answer to the pieces ps, after the rows vs: if it is a listing, it is in form, and its rows are vs and all pieces but the last, which is empty
 Answered : List (List ℕ) → List (List ℕ) → Answer → Type 0
-Answered vs ps (listing L) = Limits L × ((ws : List (List ℕ)) × (ps ≡ ws ++ ([] ∷ [])) × (vs ++ ws ≡ listingRows L))
+Answered vs ps (listing L) = Within L × ((ws : List (List ℕ)) × (ps ≡ ws ++ ([] ∷ [])) × (vs ++ ws ≡ listingRows L))
 Answered vs ps (refusal n i) = Unit {0}
 
 finish-read : (r : Reading) (i : ℕ) (p : Position) (w : List ℕ) → Good r p → Answered (shown r p) (w ∷ []) (finish r i p w)
@@ -51,7 +45,7 @@ more-read vs us ps w (refusal n i) e x = tt
 pub in-form-accepted : (L : Listing) → InForm L → read (listingText L) ≡ listing L
 unfolding read listingText
 in-form-accepted L ok =
-    let h = listing-steps L ok in
+    let h = listing-steps L (ok .within) in
     pick-true (leb (length (listingText L)) 65536) _ _ (le→leb (length (listingText L)) 65536 (ok .byteCount))
     ∙ ap (readRows start 0) (split-text (listingRows L) (steps-plain (h .1)))
     ∙ steps-read (h .1) 0 (h .2)
@@ -73,7 +67,7 @@ rows-accepted : (t : List ℕ) (L : Listing) → length t ≤ 65536 → Answered
 unfolding Answered listingText
 rows-accepted t L few x =
     let e : t ≡ listingText L = text-split t (x .1 .0) (x .1 .1) ∙ ap textOf (x .1 .2) in
-    (record { lines = x .0 .lines; lineCount = x .0 .lineCount; stmtCount = x .0 .stmtCount; byteCount = subst (λ (l : List ℕ). length l ≤ 65536) e few }, e)
+    (record { within = x .0; byteCount = subst (λ (l : List ℕ). length l ≤ 65536) e few }, e)
 
 pub accepted-in-form : (t : List ℕ) (L : Listing) → read t ≡ listing L → InForm L × (t ≡ listingText L)
 unfolding read start positionRows

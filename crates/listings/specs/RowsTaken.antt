@@ -10,7 +10,7 @@ use lib.ListN.{length}
 use Rattle.listings.specs.Listing.{Simple, CondWord, if, ifelse, rcomp, BranchForm, to, stmts, absent, Stmts, ∅, _▸_, branching, Lines, nolines, line, Listing, size, total, count}
 use Rattle.listings.specs.Rows.{rowOf, parsed, Content, endRow, stmtsRow, moduleRow, lineRow, toRow, simpleRow, condRow, contentOf}
 use Rattle.listings.specs.Read.{OpenCond, Branches, noBranch, oneBranch, twoBranches, Position, begin, inModule, ended, inStmts, inCond, Reading, start, goTo, oneMore, Outcome, taken, orRefused, check, atBegin, ascends, readLine, atModule, readSimple, readCond, numberOf, branched, endStmts, atStmts, mayFollow, nextBranch, condStmt, endCond, readTo, readStmts, atCond, readRow, listing, finish, readRows}
-use Rattle.listings.specs.ListingText.{endForm, simpleText, condText, branchRows, stmtRows, lineRows, listingRows, listed, SimpleOk, BranchOk, NoBranch, SecondOk, BranchesOk, StmtsOk, lastNumber, Above, LinesOk, InForm, stmtsText, toText}
+use Rattle.listings.specs.ListingText.{endForm, simpleText, condText, branchRows, stmtRows, lineRows, listingRows, listed, SimpleOk, BranchOk, NoBranch, SecondOk, BranchesOk, StmtsOk, lastNumber, Above, LinesOk, Within, stmtsText, toText}
 use Rattle.listings.specs.Every.{All, all[], all∷, noNewline}
 use Rattle.listings.specs.RowText.{cond-newline, cond-row, end-newline, end-row, line-newline, line-row, module-newline, module-row, simple-newline, simple-row, stmts-newline, stmts-row, to-newline, to-row}
 
@@ -180,7 +180,7 @@ module _ (h : Bool) where
       steps-append (stmt-steps (record { handlers = h; lines = ls; last = some n; lineCount = suc (count ls); stmtCount = 0; position = begin }) s [] (total ls) (ok .3) little)
       (one endRow (end-newline) (end-row) refl)))
 
-pub listing-steps : (L : Listing) → InForm L → (q : Reading) × Steps start (listingRows L) q × (q .position ≡ ended) × (L ≡ record { handlers = q .handlers; lines = q .lines })
+pub listing-steps : (L : Listing) → Within L → (q : Reading) × Steps start (listingRows L) q × (q .position ≡ ended) × (L ≡ record { handlers = q .handlers; lines = q .lines })
 unfolding listingRows start readRow atBegin atModule goTo lastNumber count total
 listing-steps L ok = (
   goTo (after (L .handlers) (L .lines)) ended,

@@ -4,7 +4,7 @@ use mathlib.Core.Path.{_≡_}
 use mathlib.Core.List.{List}
 use lib.ListN.{length}
 use Rattle.listings.specs.Listing.{Listing, total, count as lineCount}
-use Rattle.listings.specs.ListingText.{InForm}
+use Rattle.listings.specs.ListingText.{Within}
 use Rattle.listings.specs.Records.{lineNumbers, lineRecs, recRows, padded}
 use Rattle.graph.specs.Graph.{wire, allSuccessors, returnTargets}
 use Rattle.passes.specs.LineEntries.{entryRows}
@@ -14,7 +14,7 @@ use Rattle.passes.specs.Predecessors.{predsOf}
 
 -- the tables hold the graph of L, which has so many lines, nodes and return targets; 0 stands past the used parts
 pub record GraphHeld (L : Listing) (lines stmts entries falls lists returns succ pred : List ℕ) (count n targets : ℕ) : Type 0 where
-  pub in-form : InForm L
+  pub within : Within L
   pub count-is : count ≡ lineCount (L .lines)
   pub nodes-are : n ≡ total (L .lines)
   pub targets-are : targets ≡ length (returnTargets (wire L))

@@ -80,7 +80,7 @@ module _ {L : Listing} {lines stmts entries falls lists returns succ pred : List
 
   pub reads : (i : ℕ) (d : Node) → getElem? (wire L .nodes) i ≡ some d → NodeRead (L .lines) lines stmts i d
   unfolding wire nodes padded
-  reads i d e = node-read (L .lines) (g .in-form .lines) lines stmts _ _ (g .lines-are) (g .stmts-are) i d e
+  reads i d e = node-read (L .lines) (g .within .lines) lines stmts _ _ (g .lines-are) (g .stmts-are) i d e
 
   list-count : length (allSuccessors L) ≡ n
   list-count = successor-lists L .size ∙ node-count

@@ -8,7 +8,7 @@ use lib.ListN.{length, getD, take, drop, replicate}
 use lib.Seq.{getD-take, getD-drop}
 use Rattle.listings.specs.Every.{All, all[], all∷, all-append}
 use Rattle.listings.specs.Listing.{Stmts, ∅, _▸_, branching, Lines, nolines, line, Listing, size, len, total, count}
-use Rattle.listings.specs.ListingText.{SimpleOk, StmtsOk, LinesOk, InForm}
+use Rattle.listings.specs.ListingText.{SimpleOk, StmtsOk, LinesOk, Within}
 use Rattle.listings.specs.Records.{Rec, lineRecs, lineNumbers, recRow, recRows, argRow, argRows, padded}
 use Rattle.listings.specs.RecordLaws.{rec-at}
 use Rattle.reader.specs.ReadBack.{lines-wide}
@@ -22,9 +22,9 @@ use Rattle.passes.specs.ListedNodes.{StmtListed, NodeListed, Listed}
 use Rattle.passes.specs.Held.{LinesHeld, StmtsHeld, ArgsHeld, lines-held, stmts-held, args-held}
 use Rattle.passes.specs.JumpLaws.{args-row, few-at}
 
--- the tables hold the listing L, which is in form: c lines, n statements
+-- the tables hold the listing L, which lies within the limits: c lines, n statements
 pub record HoldsListing (L : Listing) (lines stmts args : List ℕ) (c n : ℕ) : Type 0 where
-  pub in-form : InForm L
+  pub within : Within L
   pub count-is : c ≡ count (L .lines)
   pub nodes-are : n ≡ total (L .lines)
   pub lines-are : lines ≡ padded (length lines) (lineNumbers (L .lines))
@@ -99,14 +99,14 @@ module _ (stmts args : List ℕ) (i : ℕ) (r : Rec) (entry : (c : ℕ) → c < 
 
 module _ {L : Listing} {lines stmts args : List ℕ} {c n : ℕ} (h : HoldsListing L lines stmts args c n) where
   pub holds-few : n ≤ 4096
-  holds-few = omega (arith, (h .in-form) .stmtCount, h .nodes-are)
+  holds-few = omega (arith, h .within .stmtCount, h .nodes-are)
 
   pub holds-length : n ≡ length (wire L .nodes)
   unfolding wire nodes
   holds-length = h .nodes-are ∙ sym (length-nodes none (L .lines))
 
   pub holds-lines : LinesHeld (L .lines) lines c
-  holds-lines = rw (h .count-is) (lines-held (L .lines) (length lines) lines ((h .in-form) .lines) (h .lines-are))
+  holds-lines = rw (h .count-is) (lines-held (L .lines) (length lines) lines (h .within .lines) (h .lines-are))
 
   pub holds-stmts : StmtsHeld (L .lines) stmts n
   holds-stmts = rw (h .nodes-are) (stmts-held (L .lines) (length stmts) stmts (h .stmts-are))
@@ -118,7 +118,7 @@ module _ {L : Listing} {lines stmts args : List ℕ} {c n : ℕ} (h : HoldsListi
   unfolding wire nodes
   holds-listed i d e =
       let ls = L .lines in
-      let ok = (h .in-form) .lines in
+      let ok = h .within .lines in
       let m = match-at (lines-match none ls) i d e in
       let r = m .0 in
       let wide = lines-wide ls ok in

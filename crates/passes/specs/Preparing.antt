@@ -155,7 +155,7 @@ module _ {lines stmts args entries falls links : List ℕ} {c n : ℕ} (ready : 
           let en = entered h entries entries′ (ready .zero-entries) long-entries computed in
           let fa = falling h entries′ en falls falls′ ok (ready .zero-falls) long-falls connected in
           record {
-            in-form = (h .in-form) .lines;
+            in-form = h .within .lines;
             lines-are = h .count-is;
             nodes-are = holds-length h;
             few = holds-few h;

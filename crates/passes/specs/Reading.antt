@@ -15,7 +15,7 @@ use Rattle.listings.specs.ReadingRecords.{numbers-count, lines-length}
 use Rattle.listings.specs.RecordLaws.{recs-length}
 use Rattle.reader.specs.Tables.{joined-length}
 use Rattle.reader.specs.ReadBack.{lines-wide}
-use Rattle.listings.specs.ListingText.{InForm}
+use Rattle.listings.specs.ListingText.{Within}
 use Rattle.listings.specs.RoundTrip.{accepted-in-form}
 use borrow.Author.Tests.{leb-true}
 use Rattle.reader.specs.Answer.{listedOf}
@@ -38,16 +38,16 @@ table-wider f (refusal n p) k t h g =
     rw (z, replicate-append-replicate, e)
 
 -- what the reader answers where all tables hold kl lines and kn statements
-abbrev pub readBy : ℕ → ℕ → List ℕ → Answer
-readBy kl kn text = answerOf kl (kn * 12) (kn * 64) (read text)
+abbrev pub readBy : ℕ → ℕ → Answer → Answer
+readBy kl kn q = answerOf kl (kn * 12) (kn * 64) q
 
--- the answer and every entry, of tables with nl, ns and na entries
-pub record FittingRead (text : List ℕ) (kl kn nl ns na : ℕ) (c l t a : List ℕ) (r : Listed) : Type 0 where
-  pub answer : r ≡ listedOf (readBy kl kn text)
-  pub counts : c ≡ tableOf countsOf (readBy kl kn text) 5
-  pub lines : l ≡ tableOf lineEntries (readBy kl kn text) nl
-  pub stmts : t ≡ tableOf stmtEntries (readBy kl kn text) ns
-  pub args : a ≡ tableOf argEntries (readBy kl kn text) na
+-- the answer and every entry, of tables with nl, ns and na entries; q: what was read
+pub record FittingRead (q : Answer) (kl kn nl ns na : ℕ) (c l t a : List ℕ) (r : Listed) : Type 0 where
+  pub answer : r ≡ listedOf (readBy kl kn q)
+  pub counts : c ≡ tableOf countsOf (readBy kl kn q) 5
+  pub lines : l ≡ tableOf lineEntries (readBy kl kn q) nl
+  pub stmts : t ≡ tableOf stmtEntries (readBy kl kn q) ns
+  pub args : a ≡ tableOf argEntries (readBy kl kn q) na
 
 -- ---- what was accepted fits
 
@@ -66,46 +66,52 @@ fits-counts kl kn L M e = go (leb (count (L .lines)) kl) (leb (total (L .lines))
     go true false z a b q = absurd (let z : _≡_ {A = ℕ} 0 1 = cc in omega arith)
     go false y z a b q = absurd (let z : _≡_ {A = ℕ} 0 1 = cc in omega arith)
 
-pub record Fits (text : List ℕ) (kl kn : ℕ) (L : Listing) : Type 0 where
-  pub reads : read text ≡ listing L
-  pub in-form : InForm L
+pub record Fits (q : Answer) (kl kn : ℕ) (L : Listing) : Type 0 where
+  pub reads : q ≡ listing L
+  pub within : Within L
   pub lines : count (L .lines) ≤ kl
   pub stmts : total (L .lines) ≤ kn
   pub line-entries : length (lineEntries L) ≡ count (L .lines)
   pub stmt-entries : length (stmtEntries L) ≡ total (L .lines) * 12
   pub arg-entries : length (argEntries L) ≡ total (L .lines) * 64
 
-pub read-fits : (text : List ℕ) (kl kn : ℕ) (L : Listing) → readBy kl kn text ≡ listing L → Fits text kl kn L
+-- whatever was read is a listing within the limits
+abbrev pub ReadWithin : Answer → Type 0
+ReadWithin q = (L : Listing) → q ≡ listing L → Within L
+
+pub text-within : (text : List ℕ) → ReadWithin (read text)
+text-within text L e = accepted-in-form text L e .0 .within
+
+pub read-fits : (q : Answer) → ReadWithin q → (kl kn : ℕ) (L : Listing) → readBy kl kn q ≡ listing L → Fits q kl kn L
 unfolding answerOf lineEntries stmtEntries argEntries
-read-fits text kl kn L e = go (read text) refl e
+read-fits q ok kl kn L e = go q refl e
   where
-    go : (b : Answer) → read text ≡ b → answerOf kl (kn * 12) (kn * 64) b ≡ listing L → Fits text kl kn L
-    go (listing M) r q =
-        let f = fits-counts kl kn M L q in
-        let m : read text ≡ listing L = r ∙ ap listing (f .0) in
-        let i = accepted-in-form text L m .0 in
-        record { reads = m; in-form = i; lines = f .1; stmts = f .2; line-entries = numbers-count (L .lines); stmt-entries = rw (← (lines-length (L .lines))) (recs-length (lineRecs (L .lines))); arg-entries = rw (← (lines-length (L .lines))) (joined-length argRow 64 (lines-wide (L .lines) (i .lines))) }
-    go (refusal n p) r q = absurd (let z : _≡_ {A = ℕ} 0 1 = cc in omega arith)
+    go : (b : Answer) → q ≡ b → answerOf kl (kn * 12) (kn * 64) b ≡ listing L → Fits q kl kn L
+    go (listing M) r s =
+        let f = fits-counts kl kn M L s in
+        let m : q ≡ listing L = r ∙ ap listing (f .0) in
+        let i = ok L m in
+        record { reads = m; within = i; lines = f .1; stmts = f .2; line-entries = numbers-count (L .lines); stmt-entries = rw (← (lines-length (L .lines))) (recs-length (lineRecs (L .lines))); arg-entries = rw (← (lines-length (L .lines))) (joined-length argRow 64 (lines-wide (L .lines) (i .lines))) }
+    go (refusal n p) r s = absurd (let z : _≡_ {A = ℕ} 0 1 = cc in omega arith)
 
 -- ---- the whole: from the front parts
 
 pub front-length : (k : ℕ) (t u : List ℕ) → k ≤ length t → u ≡ clearedBehind k t → k ≡ length (take k u)
 front-length k t u h e = sym (length-take-le k u (omega (arith, ap length e, cleared-length t k h)))
 
-module _ (text : List ℕ) (kl kn : ℕ) (lines stmts args : List ℕ) (hl : kl ≤ length lines) (hs : kn * 12 ≤ length stmts) (ha : kn * 64 ≤ length args) where
+module _ (b : Answer) (ok : ReadWithin b) (kl kn : ℕ) (lines stmts args : List ℕ) (hl : kl ≤ length lines) (hs : kn * 12 ≤ length stmts) (ha : kn * 64 ≤ length args) where
   pub fitting-read : (l₀ t₀ a₀ : List ℕ) → l₀ ≡ clearedBehind kl lines → t₀ ≡ clearedBehind (kn * 12) stmts → a₀ ≡ clearedBehind (kn * 64) args → (c l t a : List ℕ) (r : Listed)
-      → Written text (length (take kl l₀)) (length (take (kn * 12) t₀)) (length (take (kn * 64) a₀)) c l t a r
-      → FittingRead text kl kn (length lines) (length stmts) (length args) c (l ++ drop kl l₀) (t ++ drop (kn * 12) t₀) (a ++ drop (kn * 64) a₀) r
+      → Written b (length (take kl l₀)) (length (take (kn * 12) t₀)) (length (take (kn * 64) a₀)) c l t a r
+      → FittingRead b kl kn (length lines) (length stmts) (length args) c (l ++ drop kl l₀) (t ++ drop (kn * 12) t₀) (a ++ drop (kn * 64) a₀) r
   fitting-read l₀ t₀ a₀ el et ea c l t a r w₀ =
-      let w : Written text kl (kn * 12) (kn * 64) c l t a r = rw (← (front-length kl lines l₀ hl el), ← (front-length (kn * 12) stmts t₀ hs et), ← (front-length (kn * 64) args a₀ ha ea)) at w₀ in
-      let b = readBy kl kn text in
+      let w : Written b kl (kn * 12) (kn * 64) c l t a r = rw (← (front-length kl lines l₀ hl el), ← (front-length (kn * 12) stmts t₀ hs et), ← (front-length (kn * 64) args a₀ ha ea)) at w₀ in
       record {
         answer = w .answer;
         counts = w .counts;
-        lines = ap (λ (q : List ℕ). q ++ drop kl l₀) (w .lines) ∙ ap (λ (q : List ℕ). tableOf lineEntries b kl ++ drop kl q) el
-            ∙ table-wider lineEntries b kl lines hl (λ L e. let f = read-fits text kl kn L e in omega (arith, f .line-entries, f .lines));
-        stmts = ap (λ (q : List ℕ). q ++ drop (kn * 12) t₀) (w .stmts) ∙ ap (λ (q : List ℕ). tableOf stmtEntries b (kn * 12) ++ drop (kn * 12) q) et
-            ∙ table-wider stmtEntries b (kn * 12) stmts hs (λ L e. let f = read-fits text kl kn L e in omega (arith, f .stmt-entries, f .stmts));
-        args = ap (λ (q : List ℕ). q ++ drop (kn * 64) a₀) (w .args) ∙ ap (λ (q : List ℕ). tableOf argEntries b (kn * 64) ++ drop (kn * 64) q) ea
-            ∙ table-wider argEntries b (kn * 64) args ha (λ L e. let f = read-fits text kl kn L e in omega (arith, f .arg-entries, f .stmts));
+        lines = ap (λ (q : List ℕ). q ++ drop kl l₀) (w .lines) ∙ ap (λ (q : List ℕ). tableOf lineEntries (readBy kl kn b) kl ++ drop kl q) el
+            ∙ table-wider lineEntries (readBy kl kn b) kl lines hl (λ L e. let f = read-fits b ok kl kn L e in omega (arith, f .line-entries, f .lines));
+        stmts = ap (λ (q : List ℕ). q ++ drop (kn * 12) t₀) (w .stmts) ∙ ap (λ (q : List ℕ). tableOf stmtEntries (readBy kl kn b) (kn * 12) ++ drop (kn * 12) q) et
+            ∙ table-wider stmtEntries (readBy kl kn b) (kn * 12) stmts hs (λ L e. let f = read-fits b ok kl kn L e in omega (arith, f .stmt-entries, f .stmts));
+        args = ap (λ (q : List ℕ). q ++ drop (kn * 64) a₀) (w .args) ∙ ap (λ (q : List ℕ). tableOf argEntries (readBy kl kn b) (kn * 64) ++ drop (kn * 64) q) ea
+            ∙ table-wider argEntries (readBy kl kn b) (kn * 64) args ha (λ L e. let f = read-fits b ok kl kn L e in omega (arith, f .arg-entries, f .stmts));
       }

@@ -11,7 +11,7 @@ use Rattle.formatting.specs.Printing.{Puts, puts-is}
 use Rattle.passes.specs.GraphHeld.{GraphHeld}
 use Rattle.printing.specs.PrintedTables.{SomeGraph, GraphPrinted}
 use Rattle.wiring.specs.WrittenLaws.{graph-held, counts-held}
-use Rattle.wiring.specs.BuildAnswers.{accepted-built, graph-of, refused-by}
+use Rattle.wiring.specs.BuildAnswers.{text-read, accepted-built, graph-of, refused-by}
 use Rattle.wiring.specs.declared.build.Built.{Built as BuiltAnswer}
 use Rattle.wiring.specs.declared.build.Built.the-variants as answer
 
@@ -30,11 +30,11 @@ module _ (text : List ℕ) (s : Sizes) (c l t a e f k i r u p : List ℕ) (x : B
   -- the graph of the listing that the text is
   listing-held : x ≡ answer.Graph → (L : Listing) × (build (capacity s) text ≡ graph L) × GraphHeld L l t e f i r u p (getD c 0 0) (getD c 1 0) (getD c 4 0)
   listing-held q =
-      let g = graph-of text s T x w q in
+      let g = graph-of (text-read text) s T x w q in
       let L = g .0 in
       let n = counts-held L s T (g .3) in
-      let h = graph-held L s T (g .1 .in-form) (g .2) (g .3) in
-      (L, accepted-built text s L (g .1) (g .2), rw (n .lines, n .stmts, n .targets) h)
+      let h = graph-held L s T (g .1 .in-form .within) (g .2) (g .3) in
+      (L, accepted-built (text-read text) s L (g .1) (g .2), rw (n .lines, n .stmts, n .targets) h)
 
   pub some-graph : x ≡ answer.Graph → SomeGraph l t e f i r u p (getD c 0 0) (getD c 1 0) (getD c 4 0)
   some-graph q = let h = listing-held q in (h .0, h .2)
@@ -46,4 +46,4 @@ module _ (text : List ℕ) (s : Sizes) (c l t a e f k i r u p : List ℕ) (x : B
 
   pub refusal-listed : (out out′ : List ℕ) (n j y : ℕ) → x ≡ answer.Refused j y → Puts out 0 out′ n (printedRefusal j y) → GraphListed text s c l t a e f k i r u p out out′ n
   unfolding written
-  refusal-listed out out′ n j y q z = record { answer = x; built = w; listed = puts-is (sym (ap written (refused-by text s T x w j y q .1))) z }
+  refusal-listed out out′ n j y q z = record { answer = x; built = w; listed = puts-is (sym (ap written (refused-by (text-read text) s T x w j y q .1))) z }

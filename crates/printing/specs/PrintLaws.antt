@@ -103,7 +103,7 @@ module _ {L : Listing} {lines stmts entries falls lists returns succ pred : List
   entries-text : each (entryText lines entries) (below count) ≡ each entryRow (wire L .entries)
   unfolding wire
   entries-text =
-      let t = entry-table (L .lines) lines entries _ (lines-held (L .lines) (length lines) lines (g .in-form .lines) (g .lines-are)) (entries-held (L .lines) (length entries) entries (g .entries-are)) in
+      let t = entry-table (L .lines) lines entries _ (lines-held (L .lines) (length lines) lines (g .within .lines) (g .lines-are)) (entries-held (L .lines) (length entries) entries (g .entries-are)) in
       let k : count ≡ length (wire L .entries) = g .count-is ∙ t .counted in
       ap (λ (k : ℕ). each (entryText lines entries) (below k)) k
       ∙ each-index entryRow (entryText lines entries) (wire L .entries) (λ l d e.

@@ -305,11 +305,11 @@ fitted-length c L ok hc ht =
     by-lines true true true true e = printed-length L ok hc ht (leb→le (edgeCount L) 32768 (rw e tt))
 
 pub written-length : (c : Capacity) (t : List ℕ) → length (written (build c t)) ≤ 1048576
-unfolding build builtOf written
+unfolding builtOf written
 written-length c t = go (read t) refl
   where
     go : (a : Answer) → read t ≡ a → length (written (builtOf c a)) ≤ 1048576
-    go (listing L) e = let f = in-form t L e .0 in fitted-length c L (f .lines) (f .lineCount) (f .stmtCount)
+    go (listing L) e = let f = in-form t L e .0 .within in fitted-length c L (f .lines) (f .lineCount) (f .stmtCount)
     go (refusal n p) e = let h = read-refusal t n p e in omega (arith, refusal-length n p (omega (arith, h .1)) (omega (arith, h .2)))
 
 pub flowlist-length : (t : List ℕ) → length (flowlist t) ≤ 1048576

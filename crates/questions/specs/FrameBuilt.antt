@@ -10,7 +10,7 @@ use lib.Dec.{eqb, ltb}
 use lib.ListN.{length, getD, getElem?}
 use Rattle.listings.specs.Bytes.{same, bytes, pick}
 use Rattle.listings.specs.Listing.{Name, Tier, Simple, goto, gosub, return, run, runto, ongoto, ongosub, for, next, repeat, loop, until, endloop, exit, exitif, doif, else, done, clr, stop, any, if, ifelse, rcomp, Listing, total, count}
-use Rattle.listings.specs.ListingText.{simpleWord, condWord, SimpleOk, InForm}
+use Rattle.listings.specs.ListingText.{simpleWord, condWord, SimpleOk, Within}
 use Rattle.listings.specs.Rows.{isName, openingWords}
 use Rattle.listings.specs.Records.{nameKey, argsOf, padded}
 use Rattle.listings.specs.Scan.{same-sym}
@@ -159,7 +159,7 @@ module _ {L : Listing} {lines n : ℕ} {stmts args falls lists succ : List ℕ} 
 
 -- ---- the tables that a build wrote
 
-module _ (L : Listing) (s : Sizes) (T : Tables) (ok : InForm L) (f : LongEnough s L) (w : Written L s T) where
+module _ (L : Listing) (s : Sizes) (T : Tables) (ok : Within L) (f : LongEnough s L) (w : Written L s T) where
   held : GraphHeld L (T .lines) (T .stmts) (T .entries) (T .falls) (T .lists) (T .returns) (T .succ) (T .pred) (count (L .lines)) (total (L .lines)) (length (returnTargets (wire L)))
   held = graph-held L s T ok f w
 

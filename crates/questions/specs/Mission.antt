@@ -1,5 +1,5 @@
--- The mission (00-mission.md) as one theorem: what holds for every text and all lent tables once `build` has returned, and of every question asked of the tables
--- that it left. Statements alone, to be read beside 00-mission.md; quotes are its words and document 01's. The proof is in MissionProof. Assumes nothing.
+-- The mission (00-mission.md) as one theorem: what holds for every input and all lent tables once `build` has returned, and of every question asked of the tables
+-- that it left. `Means L`: the input is one that gives the listing L; a text means the listing that it is the text of (`ListingOf`). q: what is read of it. Statements alone, to be read beside 00-mission.md; quotes are its words and document 01's. The proof is in MissionProof. Assumes nothing.
 use Prim.Native.Nat.{ℕ}
 use mathlib.Core.Path.{_≡_}
 use mathlib.Core.Bool.{Bool, false}
@@ -8,6 +8,7 @@ use mathlib.Core.Logic.{_⊎_}
 use mathlib.Core.Option.{some}
 use lib.ListN.{length, getD, getElem?, take}
 use Rattle.listings.specs.Listing.{Name, Listing}
+use Rattle.listings.specs.Read.{Answer, read}
 use Rattle.listings.specs.Records.{handlerNumber}
 use Rattle.listings.specs.WordTable.{wordIndex}
 use Rattle.graph.specs.Nodes.{Node, nodes}
@@ -30,16 +31,16 @@ use Rattle.frame_slices.specs.declared.slices.Framed.{Framed}
 
 -- ---- demand 1
 
-pub record Demand1 (text : List ℕ) (s : Sizes) (T : Tables) (x : BuiltAnswer) : Type 0 where
+pub record Demand1 (Means : Listing → Type 0) (q : Answer) (s : Sizes) (T : Tables) (x : BuiltAnswer) : Type 0 where
   -- "A listing that follows the bracket form and the limits of document 01, with long enough tables lent, is accepted, and its graph is written."
-  pub accepts : (L : Listing) → ListingOf text L → LongEnough s L → (x ≡ built.Graph) × Written L s T
+  pub accepts : (L : Listing) → Means L → LongEnough s L → (x ≡ built.Graph) × Written L s T
   -- "A call meets the refusals of document 01 or is carried out"
-  pub decides : ((n p : ℕ) × Refusal text s n p) ⊎ ((L : Listing) × ListingOf text L × LongEnough s L)
+  pub decides : ((n p : ℕ) × Refusal Means q s n p) ⊎ ((L : Listing) × Means L × LongEnough s L)
   -- "each refusal has the number and place fixed there; a refused build leaves every entry of its tables zero"
-  pub refuses : (n p : ℕ) → Refusal text s n p → (x ≡ built.Refused n p) × AllZero s T
+  pub refuses : (n p : ℕ) → Refusal Means q s n p → (x ≡ built.Refused n p) × AllZero s T
   -- and no answer has another reason
-  pub refused-by : (n p : ℕ) → x ≡ built.Refused n p → Refusal text s n p × AllZero s T
-  pub graph-of : x ≡ built.Graph → (L : Listing) × ListingOf text L × LongEnough s L × Written L s T
+  pub refused-by : (n p : ℕ) → x ≡ built.Refused n p → Refusal Means q s n p × AllZero s T
+  pub graph-of : x ≡ built.Graph → (L : Listing) × Means L × LongEnough s L × Written L s T
   -- no number but those of the input and of the tables, 1 to 8 and 21 to 23
   pub numbers : (n p : ℕ) → x ≡ built.Refused n p → BuildNumber n
 
@@ -103,16 +104,16 @@ pub record Questions (L : Listing) (T : Tables) : Type 0 where
 
 -- ---- the mission
 
-pub record Mission (text : List ℕ) (s : Sizes) (T : Tables) (x : BuiltAnswer) : Type 0 where
-  pub first : Demand1 text s T x
+pub record Mission (Means : Listing → Type 0) (q : Answer) (s : Sizes) (T : Tables) (x : BuiltAnswer) : Type 0 where
+  pub first : Demand1 Means q s T x
   -- of every listing whose graph is written
-  pub second : (L : Listing) → ListingOf text L → x ≡ built.Graph → Demand2 L T
-  pub questions : (L : Listing) → ListingOf text L → x ≡ built.Graph → Questions L T
+  pub second : (L : Listing) → Means L → x ≡ built.Graph → Demand2 L T
+  pub questions : (L : Listing) → Means L → x ≡ built.Graph → Questions L T
   -- "For every accepted listing that says that it has no handlers", of the successor lists that stand in the tables
-  pub third : (L : Listing) → ListingOf text L → x ≡ built.Graph → L .handlers ≡ false → Demand3 L (succPart (T .lists) (T .succ))
+  pub third : (L : Listing) → Means L → x ≡ built.Graph → L .handlers ≡ false → Demand3 L (succPart (T .lists) (T .succ))
   -- "For a listing in form that is refused its graph, it holds of the lists that the rules give."
-  pub third-of-rules : (L : Listing) → ListingOf text L → L .handlers ≡ false → Demand3 L (successors L)
+  pub third-of-rules : (L : Listing) → Means L → L .handlers ≡ false → Demand3 L (successors L)
 
 -- what `build` promises, for every text, all tables that may be lent and every answer, is enough
 abbrev pub MissionMet : Type 0
-MissionMet = (text : List ℕ) (s : Sizes) (T : Tables) (x : BuiltAnswer) → BuildWrote text s T x → Mission text s T x
+MissionMet = (text : List ℕ) (s : Sizes) (T : Tables) (x : BuiltAnswer) → BuildWrote (read text) s T x → Mission (ListingOf text) (read text) s T x

@@ -6,25 +6,27 @@ use mathlib.Core.List.{List}
 use mathlib.Core.Option.{some}
 use lib.ListN.{length, getElem?, take}
 use Rattle.listings.specs.Listing.{Listing, total, count}
-use Rattle.listings.specs.ListingText.{InForm}
+use Rattle.listings.specs.Read.{Answer, read}
+use Rattle.listings.specs.ListingText.{Within}
 use Rattle.graph.specs.Nodes.{Node, nodes}
 use Rattle.graph.specs.Graph.{wire, returnTargets}
 use Rattle.graph.specs.Questions.{Reply, answer, refused}
 use Rattle.graph.specs.Demand3.{Demand3}
 use Rattle.graph_laws.specs.GraphLaws.{nodeCount}
 use Rattle.graph_laws.specs.RunLaws.{demand3-of}
-use Rattle.graph_laws.specs.Theorems.{numbers, demand-three}
+use Rattle.graph_laws.specs.Theorems.{demand-three}
 use Rattle.tables.specs.Columns.{wordOf, succPart, entriesIn}
 use Rattle.passes.specs.OpenerLaws.{in-range}
 use Rattle.passes.specs.GraphHeld.{GraphHeld}
 use Rattle.passes.specs.GraphReads.{reads, returns-are}
-use Rattle.wiring.specs.GraphTables.{Sizes, Tables, Written, capacity}
-use Rattle.wiring.specs.Refusals.{ListingOf, LongEnough}
+use Rattle.wiring.specs.GraphTables.{Sizes, Tables, BuildWrote, Written}
+use Rattle.wiring.specs.Refusals.{ListingOf, ReadAs, LongEnough}
 use Rattle.wiring.specs.WrittenLaws.{graph-held, counts-held, nodes-total, held-entries, held-succ, held-pred, held-continuation}
-use Rattle.wiring.specs.BuildAnswers.{decided, refuses, refused-by, carries-out, graph-of, long-enough}
+use Rattle.wiring.specs.BuildAnswers.{text-read, decided, refuses, refused-by, carries-out, graph-of, long-enough, number-of}
+use Rattle.wiring.specs.declared.build.Built.{Built as BuiltAnswer}
 use Rattle.wiring.specs.declared.build.Built.the-variants as built
 use Rattle.adjacency.specs.ListsAt.{listReply, partOf}
-use Rattle.questions.specs.Mission.{NodeWritten, Demand2, listOf, Questions, MissionMet}
+use Rattle.questions.specs.Mission.{NodeWritten, Demand2, listOf, Questions, Mission, MissionMet}
 use Rattle.questions.specs.TableAnswers.{successors-are, predecessors-are, entry-is}
 use Rattle.questions.specs.StatementAnswers.{path-answer, node-answer}
 use Rattle.questions.specs.FrameBuilt.{frame-built, frame-told}
@@ -36,7 +38,7 @@ part-list (refused n p) t = refl
 
 -- ---- of the tables that were written for L
 
-module _ (L : Listing) (s : Sizes) (T : Tables) (ok : InForm L) (g : LongEnough s L) (w : Written L s T) where
+module _ (L : Listing) (s : Sizes) (T : Tables) (ok : Within L) (g : LongEnough s L) (w : Written L s T) where
   held : GraphHeld L (T .lines) (T .stmts) (T .entries) (T .falls) (T .lists) (T .returns) (T .succ) (T .pred) (count (L .lines)) (total (L .lines)) (length (returnTargets (wire L)))
   held = graph-held L s T ok g w
 
@@ -77,22 +79,28 @@ module _ (L : Listing) (s : Sizes) (T : Tables) (ok : InForm L) (g : LongEnough 
   demand3 : L .handlers ≡ false → Demand3 L (succPart (T .lists) (T .succ))
   demand3 h = demand3-of L h (succPart (T .lists) (T .succ)) (held-succ held)
 
--- ---- of every text and all tables
+-- ---- of every input that was read, and all tables
 
-pub mission : MissionMet
-mission text s T x wrote =
-    let written : (L : Listing) → ListingOf text L → x ≡ built.Graph → Written L s T = λ L h e. carries-out text s T x wrote L h (long-enough text s T x wrote L h e) .1 in
+pub mission-of : (Means : Listing → Type 0) (q : Answer) → ReadAs Means q → (s : Sizes) (T : Tables) (x : BuiltAnswer) → BuildWrote q s T x → Mission Means q s T x
+mission-of Means q ok s T x wrote =
+    let within : (L : Listing) → Means L → Within L = λ L h. ok .within L (ok .reads L h) in
+    let fits : (L : Listing) → Means L → x ≡ built.Graph → LongEnough s L = long-enough ok s T x wrote in
+    let written : (L : Listing) → Means L → x ≡ built.Graph → Written L s T = λ L h e. carries-out ok s T x wrote L h (fits L h e) .1 in
     record {
       first = record {
-        accepts = carries-out text s T x wrote;
-        decides = decided text s;
-        refuses = refuses text s T x wrote;
-        refused-by = λ n p e. let r = refused-by text s T x wrote n p e in (r .0, r .2);
-        graph-of = graph-of text s T x wrote;
-        numbers = λ n p e. numbers (capacity s) text n p (refused-by text s T x wrote n p e .1);
+        accepts = carries-out ok s T x wrote;
+        decides = decided ok s;
+        refuses = refuses ok s T x wrote;
+        refused-by = λ n p e. let r = refused-by ok s T x wrote n p e in (r .0, r .2);
+        graph-of = graph-of ok s T x wrote;
+        numbers = number-of ok s T x wrote;
       };
-      second = λ L h e. demand2 L s T (h .in-form) (long-enough text s T x wrote L h e) (written L h e);
-      questions = λ L h e. questions L s T (h .in-form) (long-enough text s T x wrote L h e) (written L h e);
-      third = λ L h e. demand3 L s T (h .in-form) (long-enough text s T x wrote L h e) (written L h e);
+      second = λ L h e. demand2 L s T (within L h) (fits L h e) (written L h e);
+      questions = λ L h e. questions L s T (within L h) (fits L h e) (written L h e);
+      third = λ L h e. demand3 L s T (within L h) (fits L h e) (written L h e);
       third-of-rules = λ L h. demand-three L;
     }
+
+-- of every text
+pub mission : MissionMet
+mission text = mission-of (ListingOf text) (read text) (text-read text)

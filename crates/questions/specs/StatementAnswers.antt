@@ -8,7 +8,7 @@ use native.Mathlib.Omega.{arith}
 use borrow.Author.Tests.{lt-ltb, le-ltb}
 use lib.ListN.{length, getD, getElem?}
 use Rattle.listings.specs.Listing.{Listing, total, count}
-use Rattle.listings.specs.ListingText.{InForm}
+use Rattle.listings.specs.ListingText.{Within}
 use Rattle.listings.specs.Records.{padded}
 use Rattle.graph.specs.Nodes.{Node, nodes, nodesBefore}
 use Rattle.graph_laws.specs.NodeLaws.{length-nodes}
@@ -36,7 +36,7 @@ none-past (a ∷ l) (suc i) h = none-past l i (omega arith)
 
 -- ---- the answers
 
-module _ (L : Listing) (s : Sizes) (T : Tables) (ok : InForm L) (g : LongEnough s L) (w : Written L s T) where
+module _ (L : Listing) (s : Sizes) (T : Tables) (ok : Within L) (g : LongEnough s L) (w : Written L s T) where
   abbrev ns : List Node
   ns = nodesBefore none (L .lines)
 

@@ -8,7 +8,7 @@ use native.Mathlib.Decide.{decLt}
 use borrow.Author.Tests.{lt-ltb, le-ltb, le-leb}
 use lib.ListN.{length, getD, take, drop}
 use Rattle.listings.specs.Listing.{Listing, total, count}
-use Rattle.listings.specs.ListingText.{InForm}
+use Rattle.listings.specs.ListingText.{Within}
 use Rattle.graph.specs.Nodes.{entryOf}
 use Rattle.graph_laws.specs.NodeLaws.{Below, entry-fits}
 use Rattle.graph.specs.Graph.{wire, successors, predecessors, returnTargets}
@@ -53,7 +53,7 @@ node-in n (some i) b = rw (lt-ltb i n b) refl
 
 -- ---- all of them
 
-module _ (L : Listing) (s : Sizes) (T : Tables) (ok : InForm L) (fits : LongEnough s L) (w : Written L s T) where
+module _ (L : Listing) (s : Sizes) (T : Tables) (ok : Within L) (fits : LongEnough s L) (w : Written L s T) where
   held : GraphHeld L (T .lines) (T .stmts) (T .entries) (T .falls) (T .lists) (T .returns) (T .succ) (T .pred) (count (L .lines)) (total (L .lines)) (length (returnTargets (wire L)))
   held = graph-held L s T ok fits w
 

@@ -9,6 +9,7 @@ use super::tables::zero16;
 use super::tables::zero64;
 ghost use mathlib.Core.Path.{_≡_};
 ghost use lib.ListN.{length};
+ghost use Rattle.listings.specs.Read.{read};
 ghost use Rattle.listings.specs.Records.{handlerNumber};
 ghost use Rattle.reader.specs.Listed.{Judged, Written};
 
@@ -46,7 +47,7 @@ fn write_listing(
     ns: usize,
 ) -> Listed
     requires { ⌜ Judged (now text) (now counts) (now lines) (now stmts) (now args) handlers nl ns ⌝ }
-    ensures { λ r. ⌜ Written (now (text .entry)) (length (now (lines .entry))) (length (now (stmts .entry))) (length (now (args .entry))) (now (counts .exit)) (now (lines .exit)) (now (stmts .exit)) (now (args .exit)) r ⌝ }
+    ensures { λ r. ⌜ Written (read (now (text .entry))) (length (now (lines .entry))) (length (now (stmts .entry))) (length (now (args .entry))) (now (counts .exit)) (now (lines .exit)) (now (stmts .exit)) (now (args .exit)) r ⌝ }
 {
     if lines.len() < nl {
         return Listed::Refused {
@@ -83,7 +84,7 @@ pub fn read_listing(
     stmts: &mut [u16],
     args: &mut [u64],
 ) -> Listed
-    ensures { λ r. ⌜ Written (now (text .entry)) (length (now (lines .entry))) (length (now (stmts .entry))) (length (now (args .entry))) (now (counts .exit)) (now (lines .exit)) (now (stmts .exit)) (now (args .exit)) r ⌝ }
+    ensures { λ r. ⌜ Written (read (now (text .entry))) (length (now (lines .entry))) (length (now (stmts .entry))) (length (now (args .entry))) (now (counts .exit)) (now (lines .exit)) (now (stmts .exit)) (now (args .exit)) r ⌝ }
 {
     put_counts(counts, 0, 0, 0);
     zero16(lines);

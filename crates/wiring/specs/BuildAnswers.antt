@@ -1,4 +1,4 @@
--- What a build answers, from what it promises: every text and all tables, accepted or refused. Assumes nothing.
+-- What a build answers, from what it promises: every input and all tables, accepted or refused. Assumes nothing.
 use Prim.Native.Nat.{ℕ, _≤_}
 use mathlib.Core.Path.{_≡_, refl, sym, ap, subst, _∙_}
 use mathlib.Core.Bool.{Bool, true, false, _&&_}
@@ -11,11 +11,12 @@ use borrow.Author.Tests.{leb-true, le-leb}
 use lib.Dec.{leb}
 use Rattle.listings.specs.Listing.{Listing, total, count}
 use Rattle.listings.specs.Read.{Answer, listing, refusal, read}
-use Rattle.graph.specs.Build.{Capacity, Built, graph, refused, edgeCount, fitted, build, builtOf}
+use Rattle.graph.specs.Build.{Capacity, Built, graph, refused, edgeCount, fitted, builtOf, BuildNumber}
 use Rattle.graph_laws.specs.Theorems.{accepted, in-form}
+use Rattle.graph_laws.specs.Numbers.{read-refusal, answer-number}
 use Rattle.passes.specs.Room.{room-fits, fits-room}
 use Rattle.wiring.specs.GraphTables.{Sizes, capacity, capacity-is, Tables, Writes, BuildWrote, Written, AllZero, writes-graph, writes-refusal}
-use Rattle.wiring.specs.Refusals.{ListingOf, LinesFit, NodesFit, EdgesFit, LongEnough, Refusal, input, noLines, noNodes, noEdges}
+use Rattle.wiring.specs.Refusals.{ListingOf, ReadAs, LinesFit, NodesFit, EdgesFit, LongEnough, Refusal, input, noLines, noNodes, noEdges}
 use Rattle.wiring.specs.declared.build.Built.{Built as BuiltAnswer}
 use Rattle.wiring.specs.declared.build.Built.the-variants as answer
 
@@ -72,30 +73,37 @@ module _ (s : Sizes) (L : Listing) where
       rw (capacity-is s)
       (λ h. (le-min (h .0) (h .1), h .2), λ h. (omega (arith, h .0, min-le-left (s .succ) (s .pred)), omega (arith, h .0, min-le-right (s .succ) (s .pred)), h .1))
 
-module _ (text : List ℕ) (s : Sizes) where
-  pub listing-read : (L : Listing) → ListingOf text L → read text ≡ listing L
-  listing-read L h = ap read (h .text-is) ∙ accepted L (h .in-form)
+-- a text means the listing that it is the text of
+pub text-read : (text : List ℕ) → ReadAs (ListingOf text) (read text)
+text-read text =
+    record {
+      reads = λ L h. ap read (h .text-is) ∙ accepted L (h .in-form);
+      meant = λ L e. let q = in-form text L e in record { in-form = q .0; text-is = q .1 };
+      within = λ L e. in-form text L e .0 .within;
+      numbers = λ n p e. let r = read-refusal text n p e in (r .0, r .1);
+    }
 
-  by-listing : (L : Listing) → ListingOf text L → (b : Built) → fitted (capacity s) L ≡ b → build (capacity s) text ≡ b
-  unfolding build builtOf
-  by-listing L h b e = ap (builtOf (capacity s)) (listing-read L h) ∙ e
+module _ {Means : Listing → Type 0} {q : Answer} (ok : ReadAs Means q) (s : Sizes) where
+  by-listing : (L : Listing) → Means L → (b : Built) → fitted (capacity s) L ≡ b → builtOf (capacity s) q ≡ b
+  unfolding builtOf
+  by-listing L h b e = ap (builtOf (capacity s)) (ok .reads L h) ∙ e
 
-  pub accepted-built : (L : Listing) → ListingOf text L → LongEnough s L → build (capacity s) text ≡ graph L
+  pub accepted-built : (L : Listing) → Means L → LongEnough s L → builtOf (capacity s) q ≡ graph L
   accepted-built L h g =
       let e = edges-fit s L .0 (g .edges) in
       by-listing L h _ (fitted-graph (capacity s) L (lines-fit s L .0 (g .lines)) (nodes-fit s L .0 (g .nodes)) (e .0) (e .1))
 
-  refused-built : {n p : ℕ} → Refusal text s n p → build (capacity s) text ≡ refused n p
-  unfolding build builtOf
+  refused-built : {n p : ℕ} → Refusal Means q s n p → builtOf (capacity s) q ≡ refused n p
+  unfolding builtOf
   refused-built (input n p e) = ap (builtOf (capacity s)) e
   refused-built (noLines L h a) = by-listing L h _ (fitted-21 (capacity s) L (λ b. a (lines-fit s L .1 b)))
   refused-built (noNodes L h a b) = by-listing L h _ (fitted-22 (capacity s) L (lines-fit s L .0 a) (λ c. b (nodes-fit s L .1 c)))
   refused-built (noEdges L h a b c) = by-listing L h _ (fitted-23 (capacity s) L (lines-fit s L .0 a) (nodes-fit s L .0 b) (λ d. c (edges-fit s L .1 d)))
 
   abbrev pub Decided : Type 0
-  Decided = ((n p : ℕ) × Refusal text s n p) ⊎ ((L : Listing) × ListingOf text L × LongEnough s L)
+  Decided = ((n p : ℕ) × Refusal Means q s n p) ⊎ ((L : Listing) × Means L × LongEnough s L)
 
-  by-edges : (L : Listing) → ListingOf text L → LinesFit s L → NodesFit s L → Decided
+  by-edges : (L : Listing) → Means L → LinesFit s L → NodesFit s L → Decided
   by-edges L h a b =
       elim (decLe (edgeCount L) (capacity s .edges)) [
         | no f ↦ inl (23, edgeCount L, noEdges L h a b (λ c. f (edges-fit s L .0 c .0)))
@@ -106,13 +114,12 @@ module _ (text : List ℕ) (s : Sizes) where
       ]
 
   pub decided : Decided
-  decided = go (read text) refl
+  decided = go q refl
     where
-      go : (b : Answer) → read text ≡ b → Decided
+      go : (b : Answer) → q ≡ b → Decided
       go (refusal n p) e = inl (n, p, input n p e)
       go (listing L) e =
-          let q = in-form text L e in
-          let h : ListingOf text L = record { in-form = q .0; text-is = q .1 } in
+          let h = ok .meant L e in
           elim (decLe (count (L .lines)) (capacity s .lines)) [
             | no f ↦ inl (21, count (L .lines), noLines L h (λ a. f (lines-fit s L .0 a)))
             | yes a ↦ elim (decLe (total (L .lines)) (capacity s .nodes)) [
@@ -121,9 +128,9 @@ module _ (text : List ℕ) (s : Sizes) where
             ]
           ]
 
-  -- a text has one listing
-  pub one-listing : (L M : Listing) → ListingOf text L → ListingOf text M → M ≡ L
-  one-listing L M h g = let e : listing L ≡ listing M = sym (listing-read L h) ∙ listing-read M g in let q : M ≡ L = cc in q
+  -- an input means one listing
+  one-listing : (L M : Listing) → Means L → Means M → M ≡ L
+  one-listing L M h g = let e : listing L ≡ listing M = sym (ok .reads L h) ∙ ok .reads M g in let z : M ≡ L = cc in z
 
 -- an answer is one of the two
 not-both : (x : BuiltAnswer) (n p : ℕ) → x ≡ answer.Refused n p → x ≡ answer.Graph → ⊥
@@ -131,37 +138,41 @@ not-both x n p e f = let z : _≡_ {A = ℕ} 0 1 = cc in omega arith
 
 -- ---- what was promised
 
-module _ (text : List ℕ) (s : Sizes) (T : Tables) (x : BuiltAnswer) (wrote : BuildWrote text s T x) where
-  wrote-as : (b : Built) → build (capacity s) text ≡ b → Writes b s T x
+module _ {Means : Listing → Type 0} {q : Answer} (ok : ReadAs Means q) (s : Sizes) (T : Tables) (x : BuiltAnswer) (wrote : BuildWrote q s T x) where
+  wrote-as : (b : Built) → builtOf (capacity s) q ≡ b → Writes b s T x
   wrote-as b e = subst (λ (d : Built). Writes d s T x) e wrote
 
-  pub refuses : (n p : ℕ) → Refusal text s n p → (x ≡ answer.Refused n p) × AllZero s T
-  refuses n p r = writes-refusal n p s T x (wrote-as (refused n p) (refused-built text s r))
+  pub refuses : (n p : ℕ) → Refusal Means q s n p → (x ≡ answer.Refused n p) × AllZero s T
+  refuses n p r = writes-refusal n p s T x (wrote-as (refused n p) (refused-built ok s r))
 
-  pub carries-out : (L : Listing) → ListingOf text L → LongEnough s L → (x ≡ answer.Graph) × Written L s T
-  carries-out L h g = writes-graph L s T x (wrote-as (graph L) (accepted-built text s L h g))
+  pub carries-out : (L : Listing) → Means L → LongEnough s L → (x ≡ answer.Graph) × Written L s T
+  carries-out L h g = writes-graph L s T x (wrote-as (graph L) (accepted-built ok s L h g))
 
-  pub refused-by : (n p : ℕ) → x ≡ answer.Refused n p → Refusal text s n p × (build (capacity s) text ≡ refused n p) × AllZero s T
+  pub refused-by : (n p : ℕ) → x ≡ answer.Refused n p → Refusal Means q s n p × (builtOf (capacity s) q ≡ refused n p) × AllZero s T
   refused-by n p e =
-      elim (decided text s) [
+      elim (decided ok s) [
         | inl d ↦ same (d .0) (d .1) (d .2)
         | inr d ↦ absurd (not-both x n p e (carries-out (d .0) (d .1) (d .2) .0))
       ]
     where
-      same : (m q : ℕ) → Refusal text s m q → Refusal text s n p × (build (capacity s) text ≡ refused n p) × AllZero s T
-      same m q r =
-          let f : x ≡ answer.Refused m q = refuses m q r .0 in
+      same : (m k : ℕ) → Refusal Means q s m k → Refusal Means q s n p × (builtOf (capacity s) q ≡ refused n p) × AllZero s T
+      same m k r =
+          let f : x ≡ answer.Refused m k = refuses m k r .0 in
           let a : m ≡ n = cc in
-          let b : q ≡ p = cc in
-          let r′ : Refusal text s n p = rw (a, b) at r in
-          (r′, refused-built text s r′, refuses n p r′ .1)
+          let b : k ≡ p = cc in
+          let r′ : Refusal Means q s n p = rw (a, b) at r in
+          (r′, refused-built ok s r′, refuses n p r′ .1)
 
-  pub graph-of : x ≡ answer.Graph → (L : Listing) × ListingOf text L × LongEnough s L × Written L s T
+  pub graph-of : x ≡ answer.Graph → (L : Listing) × Means L × LongEnough s L × Written L s T
   graph-of e =
-      elim (decided text s) [
+      elim (decided ok s) [
         | inl d ↦ absurd (not-both x (d .0) (d .1) (refuses (d .0) (d .1) (d .2) .0) e)
         | inr d ↦ (d .0, d .1, d .2, carries-out (d .0) (d .1) (d .2) .1)
       ]
 
-  pub long-enough : (L : Listing) → ListingOf text L → x ≡ answer.Graph → LongEnough s L
-  long-enough L h e = let d = graph-of e in subst (λ (M : Listing). LongEnough s M) (one-listing text s L (d .0) h (d .1)) (d .2)
+  pub long-enough : (L : Listing) → Means L → x ≡ answer.Graph → LongEnough s L
+  long-enough L h e = let d = graph-of e in subst (λ (M : Listing). LongEnough s M) (one-listing ok s L (d .0) h (d .1)) (d .2)
+
+  -- no number but those of the input and of the tables
+  pub number-of : (n p : ℕ) → x ≡ answer.Refused n p → BuildNumber n
+  number-of n p e = answer-number (capacity s) q (ok .numbers) n p (refused-by n p e .1)

@@ -9,16 +9,16 @@ use lib.Dec.{leb}
 use lib.ListN.{length, replicate, length-replicate}
 use Rattle.listings.specs.Bytes.{pick}
 use Rattle.listings.specs.Listing.{Listing, total, count}
-use Rattle.listings.specs.Read.{Answer, listing, refusal, read}
+use Rattle.listings.specs.Read.{Answer, listing, refusal}
 use Rattle.listings.specs.Records.{lineNumbers, lineRecs, recRows, argRows, padded, countsOf, fitted as readFitted, answerOf as readAnswer, tableOf as readTable}
 use Rattle.reader.specs.Tables.{padded-length}
 use Rattle.reader.specs.Listed.{lineEntries, stmtEntries, argEntries}
 use Rattle.reader.specs.declared.listing.Listed.{Listed}
 use Rattle.reader.specs.Answer.{was-accepted, was-refused}
 use Rattle.reader.specs.declared.listing.Listed.the-variants as listed
-use Rattle.graph.specs.Build.{Capacity, Built, graph, refused, edgeCount, fitted, builtOf, build}
+use Rattle.graph.specs.Build.{Capacity, Built, graph, refused, edgeCount, fitted, builtOf}
 use Rattle.passes.specs.HoldsListing.{HoldsListing}
-use Rattle.passes.specs.Reading.{readBy, FittingRead, Fits, read-fits}
+use Rattle.passes.specs.Reading.{readBy, FittingRead, Fits, ReadWithin, read-fits}
 use Rattle.passes.specs.Room.{stmtRoom, StmtsFit, room-fits}
 use Rattle.wiring.specs.GraphTables.{Sizes, sizesOf, tablesOf, capacity, capacity-is, Answered, edgesFitted, Zeroed, refusal-writes}
 use Rattle.wiring.specs.declared.build.Built.{Built as BuiltAnswer}
@@ -30,9 +30,9 @@ abbrev pub afterReading : ℕ → Answer → Built
 afterReading k (listing L) = edgesFitted k L
 afterReading k (refusal n p) = refused n p
 
-pub build-read : (c : Capacity) (text : List ℕ) → build c text ≡ afterReading (c .edges) (readBy (c .lines) (c .nodes) text)
-unfolding build builtOf readAnswer fitted readFitted edgesFitted
-build-read c text = go (read text)
+pub build-read : (c : Capacity) (q : Answer) → builtOf c q ≡ afterReading (c .edges) (readBy (c .lines) (c .nodes) q)
+unfolding builtOf readAnswer fitted readFitted edgesFitted
+build-read c q = go q
   where
     by : (L : Listing) (x y : Bool)
         → pick x (pick y (pick (leb (edgeCount L) (c .edges) && leb (edgeCount L) 32768) (graph L) (refused 23 (edgeCount L))) (refused 22 (total (L .lines)))) (refused 21 (count (L .lines)))
@@ -95,7 +95,7 @@ all-zero n at l t a e f k i r u p c′ l′ t′ a′ e′ f′ k′ i′ r′ u
 
 -- ---- the whole, from tables of these lengths: line and statement tables are cut to what all hold
 
-module _ (text lines stmts args entries falls links lists returns succ pred : List ℕ) where
+module _ (q : Answer) (ok : ReadWithin q) (lines stmts args entries falls links lists returns succ pred : List ℕ) where
   abbrev S : Sizes
   S = sizesOf lines stmts args entries falls links lists returns succ pred
 
@@ -105,8 +105,8 @@ module _ (text lines stmts args entries falls links lists returns succ pred : Li
   abbrev N : ℕ
   N = stmtRoom (length stmts) (length args) (length falls) (length links) (length lists) (length returns)
 
-  by-reading : (b : Answer) → readBy K N text ≡ b → build (capacity S) text ≡ afterReading (min (length succ) (length pred)) b
-  by-reading b e = ap (λ (c : Capacity). build c text) (capacity-is S) ∙ build-read _ text ∙ ap (afterReading (min (length succ) (length pred))) e
+  by-reading : (b : Answer) → readBy K N q ≡ b → builtOf (capacity S) q ≡ afterReading (min (length succ) (length pred)) b
+  by-reading b e = ap (λ (c : Capacity). builtOf c q) (capacity-is S) ∙ build-read _ q ∙ ap (afterReading (min (length succ) (length pred))) e
 
   pub rooms-fit : (K ≤ length lines) × (N * 12 ≤ length stmts) × (N * 64 ≤ length args)
   rooms-fit =
@@ -115,17 +115,17 @@ module _ (text lines stmts args entries falls links lists returns succ pred : Li
 
   module _ (c l t a e f k i r u p : List ℕ) (ze : Zeroed entries e) (zf : Zeroed falls f) (zk : Zeroed links k)
       (zi : Zeroed lists i) (zr : Zeroed returns r) (zu : Zeroed succ u) (zp : Zeroed pred p) where
-    pub build-refused : (n at : ℕ) → FittingRead text K N (length lines) (length stmts) (length args) c l t a (listed.Refused n at)
-        → Answered (build (capacity S) text) S c l t a e f k i r u p (answer.Refused n at)
+    pub build-refused : (n at : ℕ) → FittingRead q K N (length lines) (length stmts) (length args) c l t a (listed.Refused n at)
+        → Answered (builtOf (capacity S) q) S c l t a e f k i r u p (answer.Refused n at)
     unfolding readTable
     build-refused n at w =
-        let q = was-refused (readBy K N text) n at (w .answer) in
-        let b : build (capacity S) text ≡ refused n at = by-reading (refusal n at) q in
+        let d = was-refused (readBy K N q) n at (w .answer) in
+        let b : builtOf (capacity S) q ≡ refused n at = by-reading (refusal n at) d in
         rw b (refusal-writes n at S (tablesOf c l t a e f k i r u p) (record {
-          counts = w .counts ∙ ap (λ (z : Answer). readTable countsOf z 5) q;
-          lines = w .lines ∙ ap (λ (z : Answer). readTable lineEntries z (length lines)) q;
-          stmts = w .stmts ∙ ap (λ (z : Answer). readTable stmtEntries z (length stmts)) q;
-          args = w .args ∙ ap (λ (z : Answer). readTable argEntries z (length args)) q;
+          counts = w .counts ∙ ap (λ (z : Answer). readTable countsOf z 5) d;
+          lines = w .lines ∙ ap (λ (z : Answer). readTable lineEntries z (length lines)) d;
+          stmts = w .stmts ∙ ap (λ (z : Answer). readTable stmtEntries z (length stmts)) d;
+          args = w .args ∙ ap (λ (z : Answer). readTable argEntries z (length args)) d;
           entries = ze;
           falls = zf;
           links = zk;
@@ -135,10 +135,10 @@ module _ (text lines stmts args entries falls links lists returns succ pred : Li
           pred = zp;
         }))
 
-    module _ (h : Bool) (x n : ℕ) (w : FittingRead text K N (length lines) (length stmts) (length args) c l t a (listed.Accepted h x n)) (L₀ : Listing)
-        (found : (readBy K N text ≡ listing L₀) × (h ≡ L₀ .handlers) × (x ≡ count (L₀ .lines)) × (n ≡ total (L₀ .lines))) where
-      fits : Fits text K N L₀
-      fits = read-fits text K N L₀ (found .0)
+    module _ (h : Bool) (x n : ℕ) (w : FittingRead q K N (length lines) (length stmts) (length args) c l t a (listed.Accepted h x n)) (L₀ : Listing)
+        (found : (readBy K N q ≡ listing L₀) × (h ≡ L₀ .handlers) × (x ≡ count (L₀ .lines)) × (n ≡ total (L₀ .lines))) where
+      fits : Fits q K N L₀
+      fits = read-fits q ok K N L₀ (found .0)
 
       l-is : l ≡ padded (length lines) (lineNumbers (L₀ .lines))
       unfolding readTable lineEntries
@@ -175,18 +175,18 @@ module _ (text lines stmts args entries falls links lists returns succ pred : Li
       zeros-long t₀ t₁ z = ap length z ∙ length-replicate (length t₀) 0
 
       zeros-again : (t₀ t₁ : List ℕ) → Zeroed t₀ t₁ → t₁ ≡ replicate (length t₁) 0
-      zeros-again t₀ t₁ z = z ∙ ap (λ (q : ℕ). replicate q 0) (sym (zeros-long t₀ t₁ z))
+      zeros-again t₀ t₁ z = z ∙ ap (λ (z : ℕ). replicate z 0) (sym (zeros-long t₀ t₁ z))
 
       holds : HoldsListing L₀ l t a x n
       holds =
           let b = fits .stmts in
           record {
-            in-form = fits .in-form;
+            within = fits .within;
             count-is = found .2;
             nodes-are = found .3;
-            lines-are = l-is ∙ ap (λ (q : ℕ). padded q (lineNumbers (L₀ .lines))) (sym l-long);
-            stmts-are = t-is ∙ ap (λ (q : ℕ). padded q (recRows (lineRecs (L₀ .lines)))) (sym t-long);
-            args-are = a-is ∙ ap (λ (q : ℕ). padded q (argRows (lineRecs (L₀ .lines)))) (sym a-long);
+            lines-are = l-is ∙ ap (λ (z : ℕ). padded z (lineNumbers (L₀ .lines))) (sym l-long);
+            stmts-are = t-is ∙ ap (λ (z : ℕ). padded z (recRows (lineRecs (L₀ .lines)))) (sym t-long);
+            args-are = a-is ∙ ap (λ (z : ℕ). padded z (argRows (lineRecs (L₀ .lines)))) (sym a-long);
             lines-fit = omega (arith, found .2, fits .lines, l-long, min-le-left (length lines) (length entries));
             stmts-fit = omega (arith, found .3, b, t-long, room .in-stmts);
             args-fit = omega (arith, found .3, b, a-long, room .in-args);
@@ -224,44 +224,44 @@ module _ (text lines stmts args entries falls links lists returns succ pred : Li
           rw (l-long, t-long, a-long, zeros-long entries e ze, zeros-long falls f zf, zeros-long links k zk, zeros-long lists i zi, zeros-long returns r zr, zeros-long succ u zu, zeros-long pred p zp)
 
       made : (c′ l′ t′ a′ e′ f′ k′ i′ r′ u′ p′ : List ℕ) (y : BuiltAnswer) → GraphMade h x n l t a (sizesOf l t a e f k i r u p) c′ l′ t′ a′ e′ f′ k′ i′ r′ u′ p′ y
-          → Answered (build (capacity S) text) S c′ l′ t′ a′ e′ f′ k′ i′ r′ u′ p′ y
+          → Answered (builtOf (capacity S) q) S c′ l′ t′ a′ e′ f′ k′ i′ r′ u′ p′ y
       made c′ l′ t′ a′ e′ f′ k′ i′ r′ u′ p′ y g =
-          let b : build (capacity S) text ≡ edgesFitted (min (length succ) (length pred)) L₀ = by-reading (listing L₀) (found .0) in
+          let b : builtOf (capacity S) q ≡ edgesFitted (min (length succ) (length pred)) L₀ = by-reading (listing L₀) (found .0) in
           rw b (subst (λ (s : Sizes). Answered (edgesFitted (min (s .succ) (s .pred)) L₀) s c′ l′ t′ a′ e′ f′ k′ i′ r′ u′ p′ y) same-sizes (g L₀ holds (found .1)))
 
-    module _ (h : Bool) (x n : ℕ) (w : FittingRead text K N (length lines) (length stmts) (length args) c l t a (listed.Accepted h x n)) where
+    module _ (h : Bool) (x n : ℕ) (w : FittingRead q K N (length lines) (length stmts) (length args) c l t a (listed.Accepted h x n)) where
       pub build-ready : GraphReady h x n c l t a e f k i r u p
-      build-ready = let g = was-accepted (readBy K N text) h x n (w .answer) in ready h x n w (g .0) (g .1, g .2, g .3, g .4)
+      build-ready = let g = was-accepted (readBy K N q) h x n (w .answer) in ready h x n w (g .0) (g .1, g .2, g .3, g .4)
 
       pub build-accepted : (c′ l′ t′ a′ e′ f′ k′ i′ r′ u′ p′ : List ℕ) (y : BuiltAnswer) → GraphMade h x n l t a (sizesOf l t a e f k i r u p) c′ l′ t′ a′ e′ f′ k′ i′ r′ u′ p′ y
-          → Answered (build (capacity S) text) S c′ l′ t′ a′ e′ f′ k′ i′ r′ u′ p′ y
-      build-accepted = let g = was-accepted (readBy K N text) h x n (w .answer) in made h x n w (g .0) (g .1, g .2, g .3, g .4)
+          → Answered (builtOf (capacity S) q) S c′ l′ t′ a′ e′ f′ k′ i′ r′ u′ p′ y
+      build-accepted = let g = was-accepted (readBy K N q) h x n (w .answer) in made h x n w (g .0) (g .1, g .2, g .3, g .4)
 
 -- ---- with the rooms and the reader's answer as they come
 
-module _ (text lines stmts args entries falls links lists returns succ pred : List ℕ) (kl kn : ℕ) (ek : kl ≡ min (length lines) (length entries))
+module _ (b : Answer) (ok : ReadWithin b) (lines stmts args entries falls links lists returns succ pred : List ℕ) (kl kn : ℕ) (ek : kl ≡ min (length lines) (length entries))
     (en : kn ≡ stmtRoom (length stmts) (length args) (length falls) (length links) (length lists) (length returns)) where
   pub rooms : (kl ≤ length lines) × (kn * 12 ≤ length stmts) × (kn * 64 ≤ length args)
-  rooms = rw (ek, en) (rooms-fit text lines stmts args entries falls links lists returns succ pred)
+  rooms = rw (ek, en) (rooms-fit b ok lines stmts args entries falls links lists returns succ pred)
 
   module _ {c l t a e f k i r u p : List ℕ} {v : Listed} (ze : Zeroed entries e × Zeroed falls f × Zeroed links k)
-      (zi : Zeroed lists i × Zeroed returns r × Zeroed succ u × Zeroed pred p) (w : FittingRead text kl kn (length lines) (length stmts) (length args) c l t a v) where
+      (zi : Zeroed lists i × Zeroed returns r × Zeroed succ u × Zeroed pred p) (w : FittingRead b kl kn (length lines) (length stmts) (length args) c l t a v) where
     pub refused-build : (n at : ℕ) → v ≡ listed.Refused n at
-        → Answered (build (capacity (sizesOf lines stmts args entries falls links lists returns succ pred)) text) (sizesOf lines stmts args entries falls links lists returns succ pred)
+        → Answered (builtOf (capacity (sizesOf lines stmts args entries falls links lists returns succ pred)) b) (sizesOf lines stmts args entries falls links lists returns succ pred)
         c l t a e f k i r u p (answer.Refused n at)
     refused-build n at q =
-        build-refused text lines stmts args entries falls links lists returns succ pred c l t a e f k i r u p
+        build-refused b ok lines stmts args entries falls links lists returns succ pred c l t a e f k i r u p
         (ze .0) (ze .1) (ze .2) (zi .0) (zi .1) (zi .2) (zi .3) n at (rw (ek, en, q) at w)
 
     module _ (h : Bool) (x n : ℕ) (q : v ≡ listed.Accepted h x n) where
       pub ready-build : GraphReady h x n c l t a e f k i r u p
       ready-build =
-          build-ready text lines stmts args entries falls links lists returns succ pred c l t a e f k i r u p
+          build-ready b ok lines stmts args entries falls links lists returns succ pred c l t a e f k i r u p
           (ze .0) (ze .1) (ze .2) (zi .0) (zi .1) (zi .2) (zi .3) h x n (rw (ek, en, q) at w)
 
       pub accepted-build : {c′ l′ t′ a′ e′ f′ k′ i′ r′ u′ p′ : List ℕ} {y : BuiltAnswer} → GraphMade h x n l t a (sizesOf l t a e f k i r u p) c′ l′ t′ a′ e′ f′ k′ i′ r′ u′ p′ y
-          → Answered (build (capacity (sizesOf lines stmts args entries falls links lists returns succ pred)) text) (sizesOf lines stmts args entries falls links lists returns succ pred)
+          → Answered (builtOf (capacity (sizesOf lines stmts args entries falls links lists returns succ pred)) b) (sizesOf lines stmts args entries falls links lists returns succ pred)
           c′ l′ t′ a′ e′ f′ k′ i′ r′ u′ p′ y
       accepted-build {c′} {l′} {t′} {a′} {e′} {f′} {k′} {i′} {r′} {u′} {p′} {y} g =
-          build-accepted text lines stmts args entries falls links lists returns succ pred c l t a e f k i r u p
+          build-accepted b ok lines stmts args entries falls links lists returns succ pred c l t a e f k i r u p
           (ze .0) (ze .1) (ze .2) (zi .0) (zi .1) (zi .2) (zi .3) h x n (rw (ek, en, q) at w) c′ l′ t′ a′ e′ f′ k′ i′ r′ u′ p′ y g

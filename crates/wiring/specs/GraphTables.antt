@@ -8,10 +8,11 @@ use lib.Dec.{leb}
 use lib.ListN.{length, replicate}
 use Rattle.listings.specs.Bytes.{pick}
 use Rattle.listings.specs.Listing.{Listing, total, count}
+use Rattle.listings.specs.Read.{Answer}
 use Rattle.listings.specs.Records.{lineRecs, lineNumbers, recRows, argRows, handlerNumber, padded}
 use Rattle.graph.specs.Graph.{wire, allSuccessors, returnTargets}
 use Rattle.graph_laws.specs.GraphLaws.{nodeCount}
-use Rattle.graph.specs.Build.{Capacity, Built, graph, refused, edgeCount, build}
+use Rattle.graph.specs.Build.{Capacity, Built, graph, refused, edgeCount, builtOf}
 use Rattle.passes.specs.LineEntries.{entryRows}
 use Rattle.passes.specs.Falls.{fallRows}
 use Rattle.passes.specs.EdgeTable.{joinedLists, listRows}
@@ -158,9 +159,9 @@ tablesOf c l t a e f k i r u p =
 abbrev pub Writes : Built → Sizes → Tables → BuiltAnswer → Type 0
 Writes b s T x = Answered b s (T .counts) (T .lines) (T .stmts) (T .args) (T .entries) (T .falls) (T .links) (T .lists) (T .returns) (T .succ) (T .pred) x
 
--- what `build` promises for a text and tables of these sizes
-abbrev pub BuildWrote : List ℕ → Sizes → Tables → BuiltAnswer → Type 0
-BuildWrote text s T x = Writes (build (capacity s) text) s T x
+-- what `build` promises for what it read, q, and tables of these sizes
+abbrev pub BuildWrote : Answer → Sizes → Tables → BuiltAnswer → Type 0
+BuildWrote q s T x = Writes (builtOf (capacity s) q) s T x
 
 -- "its graph is written": every entry of every table, zeros past the used parts
 pub record Written (L : Listing) (s : Sizes) (T : Tables) : Type 0 where

@@ -4,9 +4,9 @@ use Prim.Native.Nat.{ℕ, _≤_}
 use mathlib.Core.Path.{_≡_}
 use mathlib.Core.List.{List}
 use Rattle.listings.specs.Listing.{Listing, total, count}
-use Rattle.listings.specs.ListingText.{InForm, listingText}
-use Rattle.listings.specs.Read.{refusal, read}
-use Rattle.graph.specs.Build.{edgeCount}
+use Rattle.listings.specs.ListingText.{Within, InForm, listingText}
+use Rattle.listings.specs.Read.{Answer, listing, refusal}
+use Rattle.graph.specs.Build.{InputNumber, edgeCount}
 use Rattle.passes.specs.Room.{StmtsFit}
 use Rattle.wiring.specs.GraphTables.{Sizes}
 
@@ -14,6 +14,14 @@ use Rattle.wiring.specs.GraphTables.{Sizes}
 pub record ListingOf (text : List ℕ) (L : Listing) : Type 0 where
   pub in-form : InForm L
   pub text-is : text ≡ listingText L
+
+-- What was read of an input, q, of which `Means L` says that it gives the listing L: q is that listing exactly where the input means it, it lies within the
+-- limits, and an input that means none is refused by a number of the input.
+pub record ReadAs (Means : Listing → Type 0) (q : Answer) : Type 0 where
+  pub reads : (L : Listing) → Means L → q ≡ listing L
+  pub meant : (L : Listing) → q ≡ listing L → Means L
+  pub within : (L : Listing) → q ≡ listing L → Within L
+  pub numbers : (n p : ℕ) → q ≡ refusal n p → InputNumber n
 
 -- "A table is too short if it cannot hold its fixed number of entries .. for each of these": the tables of 21, 22 and 23 hold the lines, statements and edges of L
 abbrev pub LinesFit : Sizes → Listing → Type 0
@@ -34,11 +42,11 @@ pub record LongEnough (s : Sizes) (L : Listing) : Type 0 where
   pub edges : EdgesFit s L
 
 -- "the refusals of document 01", each with its number and place. 27 is not among them: no listing that was read lacks an inner statement.
-pub data Refusal (text : List ℕ) (s : Sizes) : (number place : ℕ) → Type 0 where
+pub data Refusal (Means : Listing → Type 0) (q : Answer) (s : Sizes) : (number place : ℕ) → Type 0 where
   -- 1 to 8, as the definition of the reader has them
-  input : (n p : ℕ) → read text ≡ refusal n p → Refusal text s n p
+  input : (n p : ℕ) → q ≡ refusal n p → Refusal Means q s n p
   -- "Checked after the input": "21 line tables too short, 22 node tables too short, 23 either edge table too short or over 32,768 edges; in this order,
   -- place the count of lines, statements or edges"
-  noLines : (L : Listing) → ListingOf text L → (LinesFit s L → ⊥) → Refusal text s 21 (count (L .lines))
-  noNodes : (L : Listing) → ListingOf text L → LinesFit s L → (NodesFit s L → ⊥) → Refusal text s 22 (total (L .lines))
-  noEdges : (L : Listing) → ListingOf text L → LinesFit s L → NodesFit s L → (EdgesFit s L → ⊥) → Refusal text s 23 (edgeCount L)
+  noLines : (L : Listing) → Means L → (LinesFit s L → ⊥) → Refusal Means q s 21 (count (L .lines))
+  noNodes : (L : Listing) → Means L → LinesFit s L → (NodesFit s L → ⊥) → Refusal Means q s 22 (total (L .lines))
+  noEdges : (L : Listing) → Means L → LinesFit s L → NodesFit s L → (EdgesFit s L → ⊥) → Refusal Means q s 23 (edgeCount L)

@@ -6,7 +6,7 @@ use mathlib.Core.Option.{Option, none, some}
 use native.Mathlib.Omega.{arith}
 use lib.ListN.{length, getD, getElem?}
 use Rattle.listings.specs.Listing.{Lines, Listing, total, count}
-use Rattle.listings.specs.ListingText.{InForm}
+use Rattle.listings.specs.ListingText.{Within}
 use Rattle.listings.specs.Records.{padded, lineRecs, argRow, handlerNumber}
 use Rattle.listings.specs.ReadingRecords.{numbers-count, lines-length}
 use Rattle.listings.specs.RecordLaws.{recs-length}
@@ -47,7 +47,7 @@ unfolding entryRows entries
 entry-count ls = numbers-length (entriesBefore none ls) ∙ entries-length none ls
 
 -- the tables that a printed graph is read from, after an accepted build
-pub graph-held : (L : Listing) (s : Sizes) (T : Tables) → InForm L → LongEnough s L → Written L s T
+pub graph-held : (L : Listing) (s : Sizes) (T : Tables) → Within L → LongEnough s L → Written L s T
     → GraphHeld L (T .lines) (T .stmts) (T .entries) (T .falls) (T .lists) (T .returns) (T .succ) (T .pred) (count (L .lines)) (total (L .lines)) (length (returnTargets (wire L)))
 unfolding listRows
 graph-held L s T ok g w =
@@ -67,7 +67,7 @@ graph-held L s T ok g w =
     let xu = again (s .succ) _ (T .succ) (omega (arith, b, he .0)) (w .succ ∙ succ-table L (s .succ)) in
     let xp = again (s .pred) _ (T .pred) (omega (arith, preds-total (successor-lists L), b, he .1)) (w .pred ∙ pred-table L (s .pred)) in
     record {
-      in-form = ok;
+      within = ok;
       count-is = refl;
       nodes-are = refl;
       targets-are = refl;
@@ -91,12 +91,12 @@ graph-held L s T ok g w =
     }
 
 -- and the reader's records
-pub listing-held : (L : Listing) (s : Sizes) (T : Tables) → InForm L → LongEnough s L → Written L s T → HoldsListing L (T .lines) (T .stmts) (T .args) (count (L .lines)) (total (L .lines))
+pub listing-held : (L : Listing) (s : Sizes) (T : Tables) → Within L → LongEnough s L → Written L s T → HoldsListing L (T .lines) (T .stmts) (T .args) (count (L .lines)) (total (L .lines))
 listing-held L s T ok g w =
     let h = graph-held L s T ok g w in
     let x = again (s .args) _ (T .args) (omega (arith, joined-length argRow 64 (lines-wide (L .lines) (ok .lines)), lines-length (L .lines), g .nodes .in-args)) (w .args ∙ arg-table L (s .args)) in
     record {
-      in-form = ok;
+      within = ok;
       count-is = refl;
       nodes-are = refl;
       lines-are = h .lines-are;
@@ -149,7 +149,7 @@ module _ {L : Listing} {lines stmts entries falls lists returns succ pred : List
   held-entries =
       ap (λ (k : ℕ). entriesIn k lines entries) (g .count-is)
       ∙ entries-read (wire L .entries) lines entries (count (L .lines))
-      (entry-table (L .lines) lines entries _ (lines-held (L .lines) (length lines) lines (g .in-form .lines) (g .lines-are)) (entries-held (L .lines) (length entries) entries (g .entries-are)))
+      (entry-table (L .lines) lines entries _ (lines-held (L .lines) (length lines) lines (g .within .lines) (g .lines-are)) (entries-held (L .lines) (length entries) entries (g .entries-are)))
 
   pub held-continuation : (i : ℕ) (d : Node) → getElem? (wire L .nodes) i ≡ some d → continuationEntry stmts falls i ≡ continuation (wire L) i
   unfolding continuationEntry fallEntry wordOf
