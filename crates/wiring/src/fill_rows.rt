@@ -1,10 +1,10 @@
 // The rows of arguments, filled with where the nodes step on a skipping path, for the closure.
-use crate::closure::put_row;
 use crate::fors::NEXT;
 use crate::list_of::list_of;
-use crate::return_sets::RETURN;
 use crate::skip_lists::put_fall;
 use tables::calls::is_call;
+use walks::closure::put_row;
+use walks::return_sets::RETURN;
 ghost use mathlib.Core.Path.{_≡_};
 ghost use Prim.Native.Nat.{_*_, _<_};
 ghost use lib.ListN.{length};

@@ -1,11 +1,11 @@
 // The successor lists of the graph, in node order.
 use crate::list_of::list_of;
-use crate::return_sets::RETURN;
-use crate::sets::members;
 use crate::store::append_list;
 use crate::store::move_list;
 use crate::store::store_list;
 use tables::calls::is_call;
+use walks::return_sets::RETURN;
+use walks::sets::members;
 ghost use mathlib.Core.Path.{_≡_};
 ghost use mathlib.Core.Bool.{true};
 ghost use Prim.Native.Nat.{_+_, _*_, _≤_, _<_};

@@ -1,11 +1,11 @@
 // The FOR stack in reading order, and the dispatched FORs.
 use crate::reading::clear_behind;
-use crate::sets::insert;
 use crate::stacks::FrameStack;
 use crate::stacks::below;
 use crate::stacks::newest;
 use crate::widths::narrow;
 use tables::widths::wide;
+use walks::sets::insert;
 ghost use mathlib.Core.Path.{_≡_};
 ghost use mathlib.Core.Bool.{true};
 ghost use Prim.Native.Nat.{_+_, _*_, _/_, _≤_, _<_};

@@ -1,7 +1,5 @@
 // The wiring: the records of a listing to its graph.
 pub mod build;
-pub mod clearing;
-pub mod closure;
 pub mod entries;
 pub mod falls;
 pub mod fill_rows;
@@ -16,18 +14,12 @@ pub mod nexts;
 pub mod predecessors;
 pub mod prepare;
 pub mod reading;
-pub mod regions;
-pub mod return_sets;
 pub mod return_targets;
-pub mod return_totals;
 pub mod room;
-pub mod sets;
 pub mod skip_lists;
-pub mod spans;
 pub mod spread;
 pub mod stacks;
 pub mod store;
-pub mod walk;
 pub mod widths;
 pub mod wire;
 pub mod write_graph;

@@ -1,7 +1,7 @@
 // The return targets: where the calls continue, in the order in which the calls stand, each once.
-use crate::walk::no_marks;
 use tables::calls::is_call;
 use tables::widths::wide;
+use walks::walk::no_marks;
 ghost use mathlib.Core.Path.{_≡_};
 ghost use Prim.Native.Nat.{_+_, _*_, _≤_, _<_};
 ghost use lib.ListN.{length};

@@ -1,14 +1,14 @@
 // Where each RETURN goes back to, where all lists together are too long to store: regions by closed rows of bits in place of walks.
-use crate::clearing::clear_sets;
-use crate::closure::close_rows;
-use crate::closure::list_row;
 use crate::fill_rows::fill_rows;
-use crate::regions::join_region;
-use crate::regions::list_calls;
-use crate::spans::no_spans;
-use crate::spans::span_calls;
-use crate::walk::no_work;
 use tables::widths::wide;
+use walks::clearing::clear_sets;
+use walks::closure::close_rows;
+use walks::closure::list_row;
+use walks::regions::join_region;
+use walks::regions::list_calls;
+use walks::spans::no_spans;
+use walks::spans::span_calls;
+use walks::walk::no_work;
 ghost use mathlib.Core.Path.{_≡_};
 ghost use Prim.Native.Nat.{_<_};
 ghost use lib.ListN.{length};

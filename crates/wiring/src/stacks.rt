@@ -1,6 +1,6 @@
 // A stack of frames by value. The openers of the frames ascend, so that a stack is a set of marks and its top the highest mark.
-use crate::sets::bit;
-use crate::sets::no_words;
+use walks::sets::bit;
+use walks::sets::no_words;
 ghost use mathlib.Core.Path.{_≡_};
 ghost use Prim.Native.Nat.{suc, _-_, _≤_, _<_};
 ghost use lib.Count.{leadingZeros};

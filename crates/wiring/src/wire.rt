@@ -1,14 +1,14 @@
 // Frames and dispatched FORs; then the lists of the nodes: counted, and written where they fit.
 use crate::fors::list_dispatched;
 use crate::frames::stack_frames;
-use crate::regions::region_return_edges;
 use crate::return_targets::list_return_targets;
-use crate::return_totals::count_returns;
 use crate::skip_lists::MOST_EDGES;
 use crate::skip_lists::store_skip_lists;
 use crate::spread::spread_return_edges;
-use crate::walk::no_work;
 use crate::write_graph::write_graph;
+use walks::regions::region_return_edges;
+use walks::return_totals::count_returns;
+use walks::walk::no_work;
 ghost use mathlib.Core.Path.{_≡_};
 ghost use mathlib.Core.Bool.{true, _&&_};
 ghost use Prim.Native.Nat.{min};

@@ -1,7 +1,7 @@
 // The last stage of a build: the graph goes into its tables.
-use crate::clearing::clear_sets;
 use crate::final_lists::write_lists;
 use crate::predecessors::write_predecessors;
+use walks::clearing::clear_sets;
 ghost use mathlib.Core.Path.{_≡_};
 ghost use Prim.Native.Nat.{_<_};
 ghost use lib.ListN.{length, set};

@@ -1,0 +1,70 @@
+-- `join_entries`: the entries before e are done, whatever listing the tables hold. Assumes nothing.
+use borrow.Author.Needs.{needs}
+use Prim.Native.Nat.{_-_, _≤_}
+use mathlib.Core.Path.{_≡_, refl}
+use native.Mathlib.Omega.{arith}
+use lib.ListN.{length}
+use Rattle.passes.specs.Regions.{EntriesJoined}
+use Rattle.passes.specs.RegionLaws.{regions-none, regions-more, entries-again}
+use Rattle.walks.proofs.regions.join_entries.Statement.{statement}
+use Rattle.walks.proofs.regions.join_entries.Tie as tie
+
+abbrev Inv-loop : tie.InvT-loop
+Inv-loop stmts falls links lists edges n calls spans work₀ sets₀ e₀ work sets e = (e ≤ n) × (length work ≡ length work₀) × (length sets ≡ length sets₀) × EntriesJoined stmts falls links lists edges n e sets₀ sets
+
+abbrev μ-loop : tie.MeasureT-loop
+μ-loop stmts falls links lists edges n calls spans work₀ sets₀ e₀ work sets e = n - e
+
+loop-holds : tie.Need-loop-holds Inv-loop μ-loop
+loop-holds c =
+    let at-start : tie.Start Inv-loop μ-loop = search in
+    let a = at-start .args in
+    (omega arith, refl, refl, λ W s t. regions-none W (a .stmts .now) (a .n) (a .sets .now))
+
+join-called-requires : tie.Need-join-called-requires Inv-loop μ-loop
+join-called-requires c κs =
+    let at-start : tie.Start Inv-loop μ-loop = search in
+    let l = c .before .before .before .loop in
+    (entries-again _ (l .inv .2) (at-start .pre .0), c .before .before .loop-test .taken, omega (arith, l .inv .1, at-start .pre .1))
+
+add-e : tie.Need-add-e Inv-loop μ-loop
+add-e c = search needs
+
+loop-less : tie.Need-loop-less Inv-loop μ-loop
+loop-less c = search needs
+
+loop-again : tie.Need-loop-again Inv-loop μ-loop
+loop-again c =
+    let at-loop : tie.At-loop Inv-loop μ-loop = search in
+    let at-start : tie.Start Inv-loop μ-loop = search in
+    let a = at-start .args in
+    let l = at-loop .loop in
+    (omega arith, search needs, search needs, λ W s t. regions-more W (a .stmts .now) (a .n) (l .e) (a .sets .now) (l .sets) _ (l .inv .3 W s t) (c .before .before .before .before .join-called .ensures W s t))
+
+same-length : tie.Need-same-length Inv-loop μ-loop
+same-length c = search needs
+
+same-length-2 : tie.Need-same-length-2 Inv-loop μ-loop
+same-length-2 c = search needs
+
+returns : tie.Need-returns Inv-loop μ-loop
+returns c =
+    let at-start : tie.Start Inv-loop μ-loop = search in
+    let l = c .before .loop in
+    let q : l .e ≡ at-start .args .n = omega arith in
+    rw q at (l .inv .3)
+
+pub join-entries-spec : {M : Type 1} → statement M
+join-entries-spec =
+    tie.close
+    (tie.spec
+    Inv-loop
+    μ-loop
+    loop-holds
+    join-called-requires
+    add-e
+    loop-less
+    loop-again
+    same-length
+    same-length-2
+    returns)

@@ -1,0 +1,14 @@
+-- `bit`: a power of two below the word's size. Assumes nothing.
+use Rattle.passes.specs.SetLaws.{one-bit}
+use borrow.Author.Needs.{needs}
+use Rattle.walks.proofs.sets.bit.Statement.{statement}
+use Rattle.walks.proofs.sets.bit.Tie as tie
+
+shl-result : tie.Need-shl-result
+shl-result c = search needs
+
+returns : tie.Need-returns
+returns c = one-bit (c .args .r) (c .pre)
+
+pub bit-spec : {M : Type 1} → statement M
+bit-spec = tie.close (tie.spec shl-result returns)

@@ -1,0 +1,31 @@
+// The RETURNs' rows of arguments, which held their sets, become zero again.
+use crate::return_sets::RETURN;
+use reader::tables::zero64;
+ghost use Prim.Native.Nat.{_+_, _*_, _≤_, _<_};
+ghost use lib.ListN.{length};
+ghost use Rattle.passes.specs.Clearing.{SetCleared, SetsCleared};
+
+// Clears the set of node i, where that is a RETURN.
+fn clear_set(stmts: &[u16], i: usize, sets: &mut [u64])
+    requires { ⌜ (i < 4096) × (i * 12 + 12 ≤ length (now stmts)) × (i * 64 + 64 ≤ length (now sets)) ⌝ }
+    ensures { λ _. ⌜ SetCleared (now (stmts .entry)) i (now (sets .entry)) (now (sets .exit)) ⌝ }
+{
+    if stmts[i * 12] != RETURN {
+        return;
+    }
+    let start = i * 64;
+    let end = start + 64;
+    zero64(&mut sets[start..end]);
+}
+
+// Clears the set of each RETURN among the n nodes; all other rows stay.
+pub fn clear_sets(stmts: &[u16], sets: &mut [u64], n: usize)
+    requires { ⌜ (n ≤ 4096) × (n * 12 ≤ length (now stmts)) × (n * 64 ≤ length (now sets)) ⌝ }
+    ensures { λ _. ⌜ SetsCleared (now (stmts .entry)) n (now (sets .entry)) (now (sets .exit)) ⌝ }
+{
+    let mut i: usize = 0;
+    while i < n {
+        clear_set(stmts, i, sets);
+        i += 1;
+    }
+}

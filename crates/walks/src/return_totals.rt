@@ -1,0 +1,39 @@
+// How many edges the RETURNs have: each all the return targets with handlers, each its own set without.
+use crate::return_sets::RETURN;
+use crate::sets::size_of;
+ghost use mathlib.Core.Path.{_≡_};
+ghost use Prim.Native.Nat.{_+_, _*_, _≤_, _<_};
+ghost use lib.Dec.{eqb};
+ghost use lib.ListN.{length};
+ghost use Rattle.listings.specs.Bytes.{pick};
+ghost use Rattle.tables.specs.Columns.{wordOf};
+ghost use Rattle.passes.specs.ReturnTotals.{sumWhere, returnSize};
+
+// How many edges node i has as a RETURN: none where it is no RETURN.
+fn return_size(handlers: bool, stmts: &[u16], sets: &[u64], i: usize, targets: usize) -> usize
+    requires { ⌜ (i < 4096) × (i * 12 + 12 ≤ length (now stmts)) × (i * 64 + 64 ≤ length (now sets)) ⌝ }
+    ensures { λ r. ⌜ r ≡ pick (eqb (wordOf (now (stmts .entry)) i) 9) (returnSize handlers targets (now (sets .entry)) i) 0 ⌝ }
+{
+    if stmts[i * 12] != RETURN {
+        return 0;
+    }
+    if handlers {
+        return targets;
+    }
+    let start = i * 64;
+    let end = start + 64;
+    size_of(&sets[start..end])
+}
+
+pub fn count_returns(handlers: bool, stmts: &[u16], sets: &[u64], n: usize, targets: usize) -> usize
+    requires { ⌜ (n ≤ 4096) × (n * 12 ≤ length (now stmts)) × (n * 64 ≤ length (now sets)) × (targets ≤ 4096) ⌝ }
+    ensures { λ r. ⌜ r ≡ sumWhere (λ i. eqb (wordOf (now (stmts .entry)) i) 9) (λ i. returnSize handlers targets (now (sets .entry)) i) n ⌝ }
+{
+    let mut sum: usize = 0;
+    let mut i: usize = 0;
+    while i < n {
+        sum += return_size(handlers, stmts, sets, i, targets);
+        i += 1;
+    }
+    sum
+}
