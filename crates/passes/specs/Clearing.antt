@@ -1,5 +1,6 @@
 -- The RETURNs' sets made empty again; all other rows stay. Assumes nothing.
 use mathlib.Core.Path.{_≡_, refl, sym, ap, _∙_}
+use mathlib.Core.Bool.{true, false}
 use mathlib.Core.List.{List, _++_}
 use mathlib.Core.Logic.{⊎-elim}
 use Prim.Native.Nat.{ℕ, _+_, _*_, _/_, _%_, _≤_, _<_}
@@ -7,6 +8,7 @@ use native.Mathlib.Omega.{arith}
 use lib.ListN.{length, length-drop, length-replicate, getD, getD-replicate, take, drop, replicate}
 use lib.Seq.{length-take-le}
 use Rattle.passes.specs.Compare.{eq-or}
+use Rattle.passes.specs.WalkTables.{setsFit}
 use Rattle.passes.specs.ReturnSets.{returnWord}
 use Rattle.passes.specs.ReturnSetLaws.{put-size, put-in, put-other, row-away}
 
@@ -15,6 +17,11 @@ pub record SetsCleared (stmts : List ℕ) (n : ℕ) (sets sets′ : List ℕ) : 
   pub size : length sets′ ≡ length sets
   pub cleared : (e : ℕ) → e / 64 < n → getD stmts ((e / 64) * 12) 0 ≡ returnWord → getD sets′ e 0 ≡ 0
   pub kept : (e : ℕ) → ((e / 64 < n) × (getD stmts ((e / 64) * 12) 0 ≡ returnWord) → ⊥) → getD sets′ e 0 ≡ getD sets e 0
+
+-- on all tables: where these hold no n statements with their sets, nothing changes
+pub record ClearTold (stmts : List ℕ) (n : ℕ) (sets sets′ : List ℕ) : Type 0 where
+  pub fitting : setsFit stmts n sets ≡ true → SetsCleared stmts n sets sets′
+  pub other : setsFit stmts n sets ≡ false → sets′ ≡ sets
 
 -- the set of node i alone may change
 pub record SetCleared (stmts : List ℕ) (i : ℕ) (sets sets′ : List ℕ) : Type 0 where

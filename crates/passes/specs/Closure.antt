@@ -5,7 +5,6 @@ use mathlib.Core.List.{List, [], List·Memᴰ}
 use mathlib.Core.Logic.{_⊎_, _↔_}
 use Prim.Native.Nat.{ℕ, _*_, _/_, _≤_, _<_}
 use lib.ListN.{length, getD}
-use Rattle.graph_laws.specs.EdgeBounds.{Ids}
 use Rattle.graph.specs.Reach.{Reach}
 use Rattle.passes.specs.Sets.{In}
 use Rattle.passes.specs.ReturnSets.{returnWord, setOf}
@@ -15,7 +14,6 @@ use Rattle.passes.specs.Walk.{Reached}
 
 -- the rows of n nodes hold their steps
 pub record RowsHold (step : ℕ → List ℕ) (n : ℕ) (rows : List ℕ) : Type 0 where
-  pub ids : (i : ℕ) → i < n → Ids n (step i)
   pub row : (i : ℕ) → i < n → (j : ℕ) → In (setOf rows i) j ↔ List·Memᴰ j (step i)
 
 -- a way of one step or more
@@ -28,10 +26,14 @@ pub record Leads (step : ℕ → List ℕ) (i j : ℕ) : Type 0 where
 pub record RowsClosed (step : ℕ → List ℕ) (n : ℕ) (rows : List ℕ) : Type 0 where
   pub row : (i : ℕ) → i < n → (j : ℕ) → In (setOf rows i) j ↔ Leads step i j
 
+-- only nodes below n take steps
+abbrev pub StepsBelow : ℕ → (ℕ → List ℕ) → Type 0
+StepsBelow n step = (i : ℕ) → n ≤ i → step i ≡ []
+
 -- whichever steps the rows held
 pub record Closed (n : ℕ) (rows rows′ : List ℕ) : Type 0 where
   pub size : length rows′ ≡ length rows
-  pub closed : (step : ℕ → List ℕ) → RowsHold step n rows → RowsClosed step n rows′
+  pub closed : (step : ℕ → List ℕ) → StepsBelow n step → RowsHold step n rows → RowsClosed step n rows′
   pub rest : (e : ℕ) → n * 64 ≤ e → getD rows′ e 0 ≡ getD rows e 0
 
 -- a row holds the nodes of a list

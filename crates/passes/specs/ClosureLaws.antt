@@ -9,9 +9,8 @@ use lib.Bits.{bitOr, or-zero-l}
 use lib.ListN.{length, getD, take, drop, replicate, length-replicate}
 use lib.Seq.{take-suc, length-take-le, getD-take, ext-getD}
 use Rattle.listings.specs.WordTable.{zeros}
-use Rattle.passes.specs.Compare.{eq-or}
+use Rattle.passes.specs.Compare.{eq-or, lt-or}
 use Rattle.graph_laws.specs.EdgeBounds.{Ids}
-use Rattle.graph_laws.specs.Members.{all-mem}
 use Rattle.graph.specs.Reach.{Reach, here, on}
 use Rattle.graph_laws.specs.ReachLaws.{Reach·join}
 use Rattle.passes.specs.Sets.{bit, In, inserted, joined, membersOf}
@@ -19,7 +18,7 @@ use Rattle.passes.specs.SetLaws.{none-in, in-inserted, inserted-length, 
 use Rattle.passes.specs.ReturnSets.{returnWord, setOf}
 use Rattle.passes.specs.ReturnSetLaws.{row-length, row-at, row-same, row-part, row-put}
 use Rattle.passes.specs.WalkLaws.{id-at}
-use Rattle.passes.specs.Closure.{Leads, RowsClosed, Closed, RowIs, Way, one, more, RowJoined, RowsJoined, ClosedTo, OthersClosed, RowReached, RowListed}
+use Rattle.passes.specs.Closure.{Leads, RowsHold, RowsClosed, StepsBelow, Closed, RowIs, Way, one, more, RowJoined, RowsJoined, ClosedTo, OthersClosed, RowReached, RowListed}
 
 -- ---- ways
 
@@ -58,15 +57,14 @@ module _ (step : ℕ → List ℕ) where
   way-leads {b = b} (one i) = record { next = b; stepped = i; reach = here }
   way-leads (more w lt i) = let l = way-leads w in record { next = l .next; stepped = l .stepped; reach = on (l .reach) i }
 
-  -- among n nodes every way is one below n
-  module _ (n : ℕ) (ids : (i : ℕ) → i < n → Ids n (step i)) where
-    way-below : {k a b : ℕ} → a < n → Way step k a b → b < n
-    way-below {a = a} {b = b} h (one i) = all-mem (ids a h) b i
-    way-below h (more {b} {c} w lt i) = all-mem (ids b (way-below h w)) c i
+  -- where only nodes below n take steps, every way is one below n
+  module _ (n : ℕ) (none : StepsBelow n step) where
+    steps-in : (b c : ℕ) → List·Memᴰ c (step b) → b < n
+    steps-in b c m = elim (lt-or b n) [ inl h ↦ h | inr h ↦ absurd (List·Memᴰ·not-nil (subst (List·Memᴰ c) (none b h) m)) ]
 
-    reach-way : {a b c : ℕ} → a < n → List·Memᴰ b (step a) → Reach step b c → Way step n a c
-    reach-way h i here = one i
-    reach-way h i (on r m) = let w = reach-way h i r in more w (way-below h w) m
+    reach-way : {a b c : ℕ} → List·Memᴰ b (step a) → Reach step b c → Way step n a c
+    reach-way i here = one i
+    reach-way i (on {b = v} {c = u} r m) = more (reach-way i r) (steps-in v u m) m
 
 -- ---- rows
 
@@ -195,7 +193,7 @@ pub closed-end : (n k : ℕ) (xs ys : List ℕ) → k ≡ n → ClosedTo n k xs 
 closed-end n k xs ys e s =
     record {
       size = s .size;
-      closed = λ step h. record { row = λ i lt j. (λ x. way-leads step (s .ways step h i lt j .0 x), λ l. s .ways step h i lt j .1 (rw e (reach-way step n (h .ids) lt (l .stepped) (l .reach)))) };
+      closed = λ step b h. record { row = λ i lt j. (λ x. way-leads step (s .ways step h i lt j .0 x), λ l. s .ways step h i lt j .1 (rw e (reach-way step n b (l .stepped) (l .reach)))) };
       rest = s .rest;
     }
 

@@ -18,8 +18,7 @@ use Rattle.passes.specs.Prepared.{Prepared, KeysKept, Keys, Roles}
 use Rattle.tables.specs.Columns.{callWord, wordOf, fallEntry}
 use Rattle.passes.specs.NodeList.{ListIs}
 use Rattle.passes.specs.ReturnSets.{setOf}
-use Rattle.passes.specs.Closure.{RowsClosed, RowIs, OthersClosed}
-use Rattle.passes.specs.ClosureLaws.{others-closed}
+use Rattle.passes.specs.Closure.{RowIs}
 use Rattle.passes.specs.ReturnSetLaws.{row-put, row-same}
 use Rattle.passes.specs.FillRows.{SkipReady, SkipMade, Steps, inPass, passes, RowReady, RowFilled, PassReady, PassFilled, FillReady, RowsFilled}
 use Rattle.passes.specs.SkipLists.{skip-ids, list-none}
@@ -196,7 +195,6 @@ module _ (stmts args entries falls links frames dispatched : List ℕ) (lines n 
           size = t .size ∙ s .size;
           rows = λ L P R.
               record {
-                ids = λ i h. rw (P .nodes-are) (skip-ids L i);
                 row = λ i h. go L P R i h (pass-cases (getD stmts (i * 12) 0));
               };
         }
@@ -207,9 +205,3 @@ module _ (stmts args entries falls links frames dispatched : List ℕ) (lines n 
             let same : setOf args₂ i ≡ setOf args₁ i = row-same args₁ args₂ i (omega (arith, P .args-fit, s .size)) (t .size) (λ e f. t .others e (λ lt z. pass-one (getD stmts (i * 12) 0) p (subst (λ (x : ℕ). passes stmts false x ≡ true) f z))) in
             λ j. rw same (s .rows L args P R refl (λ e. refl) i h h p j)
         go L P R i h (inr p) = t .rows L args P R (s .size) (λ e. clash e) i h h p
-
--- ---- closed rows
-
--- once the rows are closed, they serve in place of walks
-pub skips-closed : (W : Wired) (stmts falls links : List ℕ) (n : ℕ) (rows : List ℕ) → Roles W stmts falls links n → RowsClosed (skipSteps W) n rows → OthersClosed (skipSteps W) stmts n rows
-skips-closed W stmts falls links n rows r s = others-closed (skipSteps W) stmts n rows s (λ i h e. skip-none W stmts falls links n i r h e)

@@ -12,7 +12,8 @@ use Rattle.listings.specs.Bytes.{pick}
 use Rattle.listings.specs.Listing.{Listing}
 use Rattle.graph.specs.Graph.{Wired, wire, base, skipSteps, regionReturnEdges, returnTargets, returnEdges, successors, allSuccessors}
 use Rattle.graph_laws.specs.GraphLaws.{nodeCount, lists-ok}
-use Rattle.passes.specs.Sets.{membersOf, Put}
+use Rattle.passes.specs.Sets.{membersOf, membersWithin, Put}
+use Rattle.passes.specs.SetLaws.{within-is}
 use Rattle.passes.specs.ReturnSets.{setOf}
 use Rattle.passes.specs.EdgeTable.{joinedLists, part-within, listsTo, length-lists, lists-at, ListsStored, Appended, stored-none, stored-part}
 use Rattle.tables.specs.Columns.{succStart, succCount, callWord, wordOf, fallEntry}
@@ -131,13 +132,15 @@ module _ (handlers : Bool) (args : List ℕ) (i : ℕ) (returns : List ℕ) (tar
     members-are : membersOf (take m (drop (i * 64) args)) ≡ returnList handlers args i returns targets
     members-are = ap membersOf row-is ∙ sym (back-list e)
 
-    pub back-ready : {room : ℕ} → i * 64 + 64 ≤ length args → length (returnList handlers args i returns targets) ≤ room
+    back-ready : {room : ℕ} → i * 64 + 64 ≤ length args → length (returnList handlers args i returns targets) ≤ room
         → (length (take m (drop (i * 64) args)) ≡ 64) × (length (membersOf (take m (drop (i * 64) args))) ≤ room)
     back-ready h g = (length-take-le m (drop (i * 64) args) (omega (arith, length-drop (i * 64) args)) ∙ k, omega (arith, ap length members-are))
 
-    pub back-done : {part part′ : List ℕ} {r : ℕ} → Put part 0 part′ r (membersOf (take m (drop (i * 64) args))) → length (returnList handlers args i returns targets) ≤ length part → length part′ ≡ length part
+    pub back-done : {part part′ : List ℕ} {r : ℕ} → i * 64 + 64 ≤ length args → Put part 0 part′ r (membersWithin (take m (drop (i * 64) args)) (length part)) → length (returnList handlers args i returns targets) ≤ length part → length part′ ≡ length part
         → ListIs (returnList handlers args i returns targets) part part′ r
-    back-done p g s =
+    back-done {part} {part′} {r} h w g s =
+        let f = back-ready h g in
+        let p : Put part 0 part′ r (membersOf (take m (drop (i * 64) args))) = rw (within-is (take m (drop (i * 64) args)) (length part) (f .0) (f .1)) at w in
         let n = ap length members-are in
         record { count = omega (arith, p .count); list = p .list ∙ members-are; size = s; within = omega (arith, p .count) }
 

@@ -72,6 +72,7 @@ pub mod HoldsListing
 pub mod Preparing
 pub mod Spans
 pub mod Regions
+pub mod WalkTables
 pub mod RegionLaws
 pub mod Paths
 pub mod GraphHeld

@@ -7,7 +7,7 @@ use mathlib.Core.Logic.{_⊎_, inl, inr, ⊎-elim, _↔_}
 use native.Mathlib.Omega.{arith}
 use native.Mathlib.Numerals.{add-one}
 use lib.Dec.{T}
-use lib.ListN.{length, length-append, length-drop, length-replicate, getD, getD-replicate, set, take, drop, replicate}
+use lib.ListN.{length, length-append, length-take, length-drop, length-replicate, getD, getD-replicate, set, take, drop, replicate}
 use lib.Seq.{length-take-le, take-suc, getD-take, getD-drop, ext-getD}
 use Rattle.listings.specs.Bytes.{pick}
 use Rattle.listings.specs.Every.{All, all[], all∷, all-append}
@@ -17,17 +17,22 @@ use Rattle.passes.specs.Compare.{eq-or}
 use Rattle.graph_laws.specs.Members.{all-map, all-mem, mem-each, each-mem}
 use Rattle.passes.specs.Growing.{each-snoc}
 use Rattle.graph_laws.specs.ReachLaws.{has→mem, mem→has}
+use Rattle.graph.specs.Reach.{Reach, here, on}
 use Rattle.graph.specs.Graph.{Wired, skipSteps, regionReturnEdges}
 use Rattle.graph_laws.specs.ReturnLists.{conts-inside, region-sound, region-complete, region-asc}
-use Rattle.passes.specs.Walk.{Reached}
+use Rattle.passes.specs.Walk.{Reached, Stored, storedList}
 use Rattle.passes.specs.Sets.{In, inserted, oneIf, Put}
 use Rattle.passes.specs.SetLaws.{none-in, in-inserted, inserted-length, members-are, put-none, put-both, put-yes}
 use Rattle.passes.specs.ReturnSets.{IsReturn, setOf, ReturnsJoined}
-use Rattle.tables.specs.Columns.{callWord, wordOf, fallEntry}
+use Rattle.tables.specs.Columns.{callWord, wordOf, fallEntry, continuationEntry}
+use Rattle.tables.specs.Readable.{listsReadable, lists-read, read-lists, both-so}
+use Rattle.listings.specs.NumberText.{both-true}
+use Rattle.graph_laws.specs.EdgeBounds.{Ids}
 use Rattle.passes.specs.Prepared.{linkEntries, Roles}
 use Rattle.passes.specs.Spans.{SpansGrow, Spanned, mem-place, mem-take, mem-drop, part-place}
-use Rattle.passes.specs.Regions.{callsBelow, targetRow, backFrom, TargetsFit, CallFits, CallsReady, EntryCalls, SetAdded, CallsBack, ReturnsBy, RegionJoined, RegionsJoined, ReturnRows, SetsClear, ListedJoined, EntriesReady}
-use Rattle.passes.specs.WalkLaws.{mem-getD, all-take}
+use Rattle.passes.specs.Regions.{callsBelow, targetRow, backFrom, TargetsFit, CallFits, CallsReady, EntryCalls, SetAdded, CallsBack, ReturnsBy, RegionJoined, RegionsJoined, SetsFound, ReturnRows, SetsClear, ListedJoined, EntriesReady}
+use Rattle.passes.specs.WalkTables.{CallsRead, callsReadable, walksReadable, read-calls, RegionsTold}
+use Rattle.passes.specs.WalkLaws.{mem-getD, id-at, all-take, stored-own}
 
 -- ---- lists
 
@@ -104,29 +109,29 @@ module _ (stmts : List ℕ) where
   calls-all P (suc n) h =
       all-append (calls-all P n (λ c lt e. h c (omega arith) e)) (one-all P (callWord (wordOf stmts n)) n (h n (omega arith)))
 
--- the calls of a listing's tables can be read
-pub calls-ready : (W : Wired) (stmts falls links : List ℕ) (n : ℕ) (calls : List ℕ) → Roles W stmts falls links n → calls ≡ callsBelow stmts n → CallsReady stmts falls links n calls
-unfolding targetRow
-calls-ready W stmts falls links n calls s q =
-    record { few = s .few; in-stmts = s .stmts-fit; listed = q; fit = rw q (calls-all stmts (CallFits stmts falls links) n (λ c lt e. fits c lt e)) }
-  where
-    row : (c : ℕ) → c < n → callWord (wordOf stmts c) ≡ true → All (λ (t : ℕ). t ≤ 4096) (targetRow stmts links c)
-    row c lt e =
-        all-take (λ (t : ℕ). t ≤ 4096) (getD stmts (c * 12 + 10) 0) (drop (c * 64) links)
-        (λ j h. rw (getD-drop (c * 64) links j 0) (omega (arith, s .link-fits c lt e j h, s .few)))
+-- every element, by its place
+pub all-at : (P : ℕ → Type 0) (l : List ℕ) → ((k : ℕ) → k < length l → P (getD l k 0)) → All P l
+all-at P [] h = all[]
+all-at P (a ∷ l) h = all∷ (h 0 (omega arith)) (all-at P l (λ k lt. h (suc k) (omega arith)))
 
+-- the calls of tables that passed the test
+pub calls-ready : {stmts falls links : List ℕ} {n : ℕ} {calls : List ℕ} → CallsRead stmts falls links n → calls ≡ callsBelow stmts n → CallsReady stmts falls links n calls
+calls-ready {stmts} {falls} {links} {n} r q =
+    record { few = r .few; in-stmts = r .in-stmts; listed = q; fit = rw q (calls-all stmts (CallFits stmts falls links) n (λ c lt e. fits c lt e)) }
+  where
     fits : (c : ℕ) → c < n → callWord (wordOf stmts c) ≡ true → CallFits stmts falls links c
     fits c lt e =
+        let t = r .calls c lt e in
         record {
           targets = record {
-            node = omega (arith, s .few);
-            in-stmts = omega (arith, s .stmts-fit);
-            in-links = omega (arith, s .links-fit);
-            few = s .few-targets c lt e;
-            ids = row c lt e;
+            node = omega (arith, r .few);
+            in-stmts = omega (arith, r .in-stmts);
+            in-links = omega (arith, r .in-links);
+            few = t .few;
+            ids = all-at (λ (x : ℕ). x ≤ 4096) (targetRow stmts links c) (λ k h. omega (arith, t .targets k h, r .few));
           };
-          in-falls = omega (arith, s .falls-fit);
-          continues = omega (arith, s .fall-fits c lt, s .few);
+          in-falls = omega (arith, r .in-falls);
+          continues = omega (arith, t .continues, r .few);
         }
 
 pub targets-fit : {stmts falls links l : List ℕ} → All (CallFits stmts falls links) l → All (TargetsFit stmts links) l
@@ -237,66 +242,55 @@ into : {k : ℕ} (b : Bool) (l : List ℕ) → b ≡ true → List·Memᴰ k l �
 into true l e m = m
 into false l e m = absurd (let z : _≡_ {A = ℕ} 0 1 = cc in omega arith)
 
--- call c of the n nodes has e among its targets and goes on at k
-record BackAt (stmts falls links : List ℕ) (n e k c : ℕ) : Type 0 where
-  node : c < n
-  calls : callWord (wordOf stmts c) ≡ true
-  exists : List·Memᴰ e (linkEntries stmts links c)
-  continues : List·Memᴰ k (fallEntry falls c)
-
-module _ (W : Wired) (stmts falls links : List ℕ) (n : ℕ) (s : Roles W stmts falls links n) (e k : ℕ) where
-  backs-table : List·Memᴰ k (each (backFrom stmts falls links e) (callsBelow stmts n)) → (c : ℕ) × BackAt stmts falls links n e k c
-  unfolding backFrom linkEntries targetRow
+module _ (stmts falls links : List ℕ) (n e k : ℕ) where
+  backs-table : List·Memᴰ k (each (backFrom stmts falls links e) (callsBelow stmts n)) → CallsBack stmts falls links n e k
+  unfolding backFrom linkEntries targetRow continuationEntry
   backs-table m =
       let t = each-mem (backFrom stmts falls links e) (callsBelow stmts n) m in
       let r = calls-mem stmts n (t .0) (t .1) in
       let p = picked (has (e + 1) (targetRow stmts links (t .0))) (fallEntry falls (t .0)) (t .2) in
-      (t .0, record { node = r .0; calls = r .1; exists = has-row e (targetRow stmts links (t .0)) (p .0); continues = p .1 })
-
-  table-backs : (c : ℕ) → BackAt stmts falls links n e k c → List·Memᴰ k (each (backFrom stmts falls links e) (callsBelow stmts n))
-  unfolding backFrom linkEntries targetRow
-  table-backs c b =
-      mem-each (backFrom stmts falls links e) (mem-calls stmts n c (b .node) (b .calls))
-      (into (has (e + 1) (targetRow stmts links c)) (fallEntry falls c) (row-has e (targetRow stmts links c) (b .exists)) (b .continues))
-
-  table-calls : (c : ℕ) → BackAt stmts falls links n e k c → CallsBack W e k
-  table-calls c b =
       record {
-        caller = c;
-        exists = rw (s .targets c (b .node)) (into (callWord (wordOf stmts c)) (linkEntries stmts links c) (b .calls) (b .exists));
-        continues = rw (s .continuing c (b .node)) (into (callWord (wordOf stmts c)) (fallEntry falls c) (b .calls) (b .continues));
+        caller = t .0;
+        node = r .0;
+        exists = has-row e (targetRow stmts links (t .0)) (p .0);
+        continues = into (callWord (wordOf stmts (t .0))) (fallEntry falls (t .0)) (r .1) (p .1);
       }
 
-  calls-table : (b : CallsBack W e k) → BackAt stmts falls links n e k (b .caller)
-  calls-table b =
+  -- a node that goes on somewhere is a call
+  goes-on : (c : ℕ) → List·Memᴰ k (continuationEntry stmts falls c) → (callWord (wordOf stmts c) ≡ true) × List·Memᴰ k (fallEntry falls c)
+  unfolding continuationEntry
+  goes-on c m = picked (callWord (wordOf stmts c)) (fallEntry falls c) m
+
+  table-backs : CallsBack stmts falls links n e k → List·Memᴰ k (each (backFrom stmts falls links e) (callsBelow stmts n))
+  unfolding backFrom linkEntries targetRow
+  table-backs b =
       let c = b .caller in
-      let lt : c < n = omega (arith, conts-inside W c k (b .continues), s .nodes-are) in
-      let p = picked (callWord (wordOf stmts c)) (fallEntry falls c) (rw (s .continuing c lt) at (b .continues)) in
-      let q = picked (callWord (wordOf stmts c)) (linkEntries stmts links c) (rw (s .targets c lt) at (b .exists)) in
-      record { node = lt; calls = p .0; exists = q .1; continues = p .1 }
+      let p = goes-on c (b .continues) in
+      mem-each (backFrom stmts falls links e) (mem-calls stmts n c (b .node) (p .0))
+      (into (has (e + 1) (targetRow stmts links c)) (fallEntry falls c) (row-has e (targetRow stmts links c) (b .exists)) (p .1))
 
   -- the set of the continuations of the calls of e
-  pub backs-are : (none backs calls : List ℕ) → ((a : ℕ) → In none a → ⊥) → EntryCalls stmts falls links n e calls → SetAdded none backs (each (backFrom stmts falls links e) calls) → In backs k ↔ CallsBack W e k
+  pub backs-are : (none backs calls : List ℕ) → ((a : ℕ) → In none a → ⊥) → EntryCalls stmts falls links n e calls → SetAdded none backs (each (backFrom stmts falls links e) calls)
+      → In backs k ↔ CallsBack stmts falls links n e k
   backs-are none backs calls z r a = (
-    λ m. ⊎-elim (λ x. absurd (z k x)) (λ x. let t = backs-table (r .backs k .0 x) in table-calls (t .0) (t .1)) (a .members k .0 m),
-    λ b. a .members k .1 (inr (r .backs k .1 (table-backs (b .caller) (calls-table b)))),
+    λ m. ⊎-elim (λ x. absurd (z k x)) (λ x. backs-table (r .backs k .0 x)) (a .members k .0 m),
+    λ b. a .members k .1 (inr (r .backs k .1 (table-backs b))),
   )
 
   -- an entry that some call has among its targets is one of the nodes, and has a span
-  pub called-node : CallsBack W e k → e < n
-  unfolding linkEntries
-  called-node b =
+  pub called-node : CallsRead stmts falls links n → CallsBack stmts falls links n e k → e < n
+  unfolding linkEntries targetRow
+  called-node s b =
       let c = b .caller in
-      let t = calls-table b in
-      let m = each-mem decode (take (getD stmts (c * 12 + 10) 0) (drop (c * 64) links)) (t .exists) in
-      let h : m .0 ≤ n = all-mem (all-take (λ (x : ℕ). x ≤ n) (getD stmts (c * 12 + 10) 0) (drop (c * 64) links) (λ j lt. rw (getD-drop (c * 64) links j 0) (s .link-fits c (t .node) (t .calls) j lt))) (m .0) (m .1) in
+      let t = s .calls c (b .node) (goes-on c (b .continues) .0) in
+      let m = each-mem decode (targetRow stmts links c) (b .exists) in
+      let h : m .0 ≤ n = all-mem (all-at (λ (x : ℕ). x ≤ n) (targetRow stmts links c) (t .targets)) (m .0) (m .1) in
       omega (arith, decoded e (m .0) (m .2))
 
-  called-spanned : (calls spans : List ℕ) → calls ≡ callsBelow stmts n → Spanned stmts links calls (length calls) spans → CallsBack W e k → 0 < getD spans (e * 2 + 1) 0
+  called-spanned : (calls spans : List ℕ) → calls ≡ callsBelow stmts n → Spanned stmts links calls (length calls) spans → CallsBack stmts falls links n e k → 0 < getD spans (e * 2 + 1) 0
   called-spanned calls spans q p b =
-      let t = calls-table b in
-      let m = mem-place {c = b .caller} calls (rw q (mem-calls stmts n (b .caller) (t .node) (t .calls))) in
-      let i = p .covers (m .0) (m .1) e (rw (m .2) (t .exists)) in
+      let m = mem-place {c = b .caller} calls (rw q (mem-calls stmts n (b .caller) (b .node) (goes-on (b .caller) (b .continues) .0))) in
+      let i = p .covers (m .0) (m .1) e (rw (m .2) (b .exists)) in
       omega (arith, i .below)
 
 -- ---- a span has all calls of its entry
@@ -329,9 +323,9 @@ module _ (stmts falls links : List ℕ) (n e : ℕ) (calls spans : List ℕ) (r 
 
 -- ---- one entry
 
-module _ (W : Wired) (stmts : List ℕ) (n e : ℕ) where
+module _ (stmts falls links : List ℕ) (step : ℕ → List ℕ) (n e : ℕ) where
   -- an entry without calls changes nothing
-  pub region-skipped : (xs : List ℕ) → ((k : ℕ) → CallsBack W e k → ⊥) → RegionJoined W stmts n e xs xs
+  pub region-skipped : (xs : List ℕ) → ((k : ℕ) → CallsBack stmts falls links n e k → ⊥) → RegionJoined stmts falls links step n e xs xs
   region-skipped xs f =
       record {
         size = refl;
@@ -339,32 +333,33 @@ module _ (W : Wired) (stmts : List ℕ) (n e : ℕ) where
         others = λ i h. refl;
       }
 
-  pub region-joined : (l backs xs ys : List ℕ) → ((k : ℕ) → In backs k ↔ CallsBack W e k) → Reached (skipSteps W) e l → ReturnsJoined stmts n l backs xs ys → RegionJoined W stmts n e xs ys
+  pub region-joined : (l backs xs ys : List ℕ) → ((k : ℕ) → In backs k ↔ CallsBack stmts falls links n e k) → Reached step e l → ReturnsJoined stmts n l backs xs ys
+      → RegionJoined stmts falls links step n e xs ys
   region-joined l backs xs ys b w s =
       record {
         size = s .size;
         members = λ r h k. (
-          λ m. ⊎-elim (λ x. inl x) (λ x. inr (record { calls = b k .0 (x .1); skips = w .sound r (x .0) })) (s .members r h k .0 m),
-          λ m. s .members r h k .1 (⊎-elim (λ x. inl x) (λ x. inr (w .complete r (x .skips), b k .1 (x .calls))) m),
+          λ m. ⊎-elim (λ x. inl x) (λ x. inr (record { calls = b k .0 (x .1); path = w .sound r (x .0) })) (s .members r h k .0 m),
+          λ m. s .members r h k .1 (⊎-elim (λ x. inl x) (λ x. inr (w .complete r (x .path), b k .1 (x .calls))) m),
         );
         others = s .others;
       }
 
 pub listed-joined : (stmts falls links : List ℕ) (n e : ℕ) (l none backs calls xs ys : List ℕ) → none ≡ replicate 64 0 → EntryCalls stmts falls links n e calls
     → SetAdded none backs (each (backFrom stmts falls links e) calls) → ReturnsJoined stmts n l backs xs ys → ListedJoined stmts falls links n e l xs ys
-listed-joined stmts falls links n e l none backs calls xs ys z r a j W s w =
+listed-joined stmts falls links n e l none backs calls xs ys z r a j step w =
     let empty : (k : ℕ) → In none k → ⊥ = λ k m. none-in 64 k (rw z at m) in
-    region-joined W stmts n e l backs xs ys (λ k. backs-are W stmts falls links n s e k none backs calls empty r a) w j
+    region-joined stmts falls links step n e l backs xs ys (λ k. backs-are stmts falls links n e k none backs calls empty r a) w j
 
 -- an entry with an empty span has no calls
 pub uncalled-joined : (stmts falls links : List ℕ) (n e : ℕ) (calls spans xs : List ℕ) (b : ℕ) → calls ≡ callsBelow stmts n → Spanned stmts links calls (length calls) spans
-    → b ≡ getD spans (e * 2 + 1) 0 → b ≡ 0 → (W : Wired) → Roles W stmts falls links n → RegionJoined W stmts n e xs xs
-uncalled-joined stmts falls links n e calls spans xs b q p eb z W s = region-skipped W stmts n e xs (λ k c. omega (arith, called-spanned W stmts falls links n s e k calls spans q p c))
+    → b ≡ getD spans (e * 2 + 1) 0 → b ≡ 0 → (step : ℕ → List ℕ) → RegionJoined stmts falls links step n e xs xs
+uncalled-joined stmts falls links n e calls spans xs b q p eb z step = region-skipped stmts falls links step n e xs (λ k c. omega (arith, called-spanned stmts falls links n e k calls spans q p c))
 
 -- ---- entry after entry
 
-module _ (W : Wired) (stmts : List ℕ) (n : ℕ) where
-  pub regions-none : (xs : List ℕ) → RegionsJoined W stmts n 0 xs xs
+module _ (stmts falls links : List ℕ) (step : ℕ → List ℕ) (n : ℕ) where
+  pub regions-none : (xs : List ℕ) → RegionsJoined stmts falls links step n 0 xs xs
   regions-none xs =
       record {
         size = refl;
@@ -372,7 +367,7 @@ module _ (W : Wired) (stmts : List ℕ) (n : ℕ) where
         others = λ i h. refl;
       }
 
-  pub regions-more : (m : ℕ) (xs ys zs : List ℕ) → RegionsJoined W stmts n m xs ys → RegionJoined W stmts n m ys zs → RegionsJoined W stmts n (m + 1) xs zs
+  pub regions-more : (m : ℕ) (xs ys zs : List ℕ) → RegionsJoined stmts falls links step n m xs ys → RegionJoined stmts falls links step n m ys zs → RegionsJoined stmts falls links step n (m + 1) xs zs
   regions-more m xs ys zs s t =
       record {
         size = t .size ∙ s .size;
@@ -384,9 +379,21 @@ module _ (W : Wired) (stmts : List ℕ) (n : ℕ) where
         others = λ i h. t .others i h ∙ s .others i h;
       }
     where
-      earlier : (r : ℕ) (h : IsReturn stmts n r) (k e : ℕ) → e < m + 1 → ReturnsBy W e r k → (e ≡ m) ⊎ (e ≡ m → ⊥) → In (setOf ys r) k ⊎ ReturnsBy W m r k
+      earlier : (r : ℕ) (h : IsReturn stmts n r) (k e : ℕ) → e < m + 1 → ReturnsBy stmts falls links step n e r k → (e ≡ m) ⊎ (e ≡ m → ⊥) → In (setOf ys r) k ⊎ ReturnsBy stmts falls links step n m r k
       earlier r h k e lt b (inl q) = inr (rw q at b)
       earlier r h k e lt b (inr q) = inl (s .members r h k .1 (inr (e, omega arith, b)))
+
+  -- every called entry is one of the nodes
+  pub regions-all : CallsRead stmts falls links n → (xs ys : List ℕ) → RegionsJoined stmts falls links step n n xs ys → SetsFound stmts falls links step n xs ys
+  regions-all c xs ys t =
+      record {
+        size = t .size;
+        members = λ r h k. (
+          λ x. ⊎-elim (λ p. inl p) (λ p. inr (p .0, p .2)) (t .members r h k .0 x),
+          λ x. t .members r h k .1 (⊎-elim (λ p. inl p) (λ p. inr (p .0, called-node stmts falls links n (p .0) k c (p .1 .calls), p .1)) x),
+        );
+        others = t .others;
+      }
 
 -- the same tables, with other sets
 pub entries-again : {stmts falls links lists edges : List ℕ} {n : ℕ} {calls spans xs : List ℕ} (ys : List ℕ) → length ys ≡ length xs
@@ -395,7 +402,7 @@ entries-again ys e r = record { calls-ready = r .calls-ready; spanned = r .spann
 
 -- ---- the RETURNs' lists
 
-set-clear : (stmts : List ℕ) (n : ℕ) (sets : List ℕ) → n * 64 ≤ length sets → SetsClear stmts n sets → (r : ℕ) → IsReturn stmts n r → setOf sets r ≡ replicate 64 0
+pub set-clear : (stmts : List ℕ) (n : ℕ) (sets : List ℕ) → n * 64 ≤ length sets → SetsClear stmts n sets → (r : ℕ) → IsReturn stmts n r → setOf sets r ≡ replicate 64 0
 unfolding setOf
 set-clear stmts n sets fits z r h =
     let l : length (take 64 (drop (r * 64) sets)) ≡ 64 = length-take-le 64 (drop (r * 64) sets) (omega (arith, length-drop (r * 64) sets, h .0)) in
@@ -403,19 +410,117 @@ set-clear stmts n sets fits z r h =
     getD-take 64 (drop (r * 64) sets) q 0 (omega arith) ∙ getD-drop (r * 64) sets q 0 ∙ z r (h .0) (h .1) q (omega arith)
     ∙ sym (getD-replicate {A = ℕ} 64 q 0 0 (omega arith)))
 
-pub regions-end : (W : Wired) (stmts falls links : List ℕ) (n : ℕ) (xs ys : List ℕ) → Roles W stmts falls links n → n * 64 ≤ length xs → SetsClear stmts n xs
-    → RegionsJoined W stmts n n xs ys → ReturnRows W stmts n xs ys
-regions-end W stmts falls links n xs ys s fits z t =
-    record { size = t .size; members = λ r lt w. members-are (setOf ys r) (region-asc W r) (λ k. exactly r (lt, w) k); others = t .others }
-  where
-    exactly : (r : ℕ) → IsReturn stmts n r → (k : ℕ) → List·Memᴰ k (regionReturnEdges W r) ↔ In (setOf ys r) k
-    exactly r h k = (
-      λ m.
-          let b = region-sound W r k m in
-          let u : CallsBack W (b .callee) k = record { caller = b .caller; exists = b .exists; continues = b .continues } in
-          t .members r h k .1 (inr (b .callee, called-node W stmts falls links n s (b .callee) k u, record { calls = u; skips = b .skips })),
-      λ m.
-          ⊎-elim (λ x. absurd (none-in 64 k (rw (set-clear stmts n xs fits z r h) at x)))
-          (λ x. region-complete W r k (record { caller = x .2 .calls .caller; callee = x .0; continues = x .2 .calls .continues; exists = x .2 .calls .exists; skips = x .2 .skips }))
-          (t .members r h k .0 m),
-    )
+-- ---- tables of a listing
+
+-- they pass the test
+pub roles-read : (W : Wired) (stmts falls links : List ℕ) (n : ℕ) → Roles W stmts falls links n → CallsRead stmts falls links n
+unfolding targetRow
+roles-read W stmts falls links n s =
+    record {
+      few = s .few;
+      in-stmts = s .stmts-fit;
+      in-falls = s .falls-fit;
+      in-links = s .links-fit;
+      calls = λ c lt e. record {
+        few = s .few-targets c lt e;
+        continues = s .fall-fits c lt;
+        targets = λ k h.
+            let q : k < getD stmts (c * 12 + 10) 0 = omega (arith, length-take (getD stmts (c * 12 + 10) 0) (drop (c * 64) links)) in
+            rw (getD-take (getD stmts (c * 12 + 10) 0) (drop (c * 64) links) k 0 q, getD-drop (c * 64) links k 0) (s .link-fits c lt e k q);
+      };
+    }
+
+pub stored-read : {lists edges : List ℕ} {n : ℕ} {step : ℕ → List ℕ} → n ≤ 4096 → Stored lists edges n step → listsReadable lists edges n ≡ true
+unfolding storedList
+stored-read {lists} {edges} {n} few s =
+    let o = stored-own s in
+    read-lists lists edges n (record { few = few; rows = s .rows; within = s .within; ids = λ v lt k h. id-at n _ k (o .ids v lt) h })
+
+pub read-stored : (lists edges : List ℕ) (n : ℕ) → listsReadable lists edges n ≡ true → Stored lists edges n (storedList lists edges)
+unfolding storedList
+read-stored lists edges n h =
+    let r = lists-read lists edges n h in
+    record { rows = r .rows; within = r .within; list = λ v lt. refl; ids = λ v lt. all-at (λ (x : ℕ). x < n) _ (r .ids v lt) }
+
+-- steps of nodes below n, all of which the other steps take too
+reach-on : {a b : ℕ → List ℕ} {from v : ℕ} (n : ℕ) → ((v u : ℕ) → v < n → List·Memᴰ u (a v) → (u < n) × List·Memᴰ u (b v)) → from < n → Reach a from v → (v < n) × Reach b from v
+reach-on n same h here = (h, here)
+reach-on n same h (on {b = v} {c = u} r m) =
+    let p = reach-on n same h r in
+    let q = same v u (p .0) m in
+    (q .0, on (p .1) (q .1))
+
+-- the sets that steps give are the lists that the graph has, where the steps are those of skipping paths
+module _ (W : Wired) (stmts falls links : List ℕ) (n : ℕ) (s : Roles W stmts falls links n) (step : ℕ → List ℕ) (ids : (v : ℕ) → v < n → Ids n (skipSteps W v))
+    (skips : (v u : ℕ) → v < n → List·Memᴰ u (step v) ↔ List·Memᴰ u (skipSteps W v)) where
+  back-graph : {e r k : ℕ} → ReturnsBy stmts falls links step n e r k → List·Memᴰ k (regionReturnEdges W r)
+  unfolding continuationEntry
+  back-graph {e} {r} {k} b =
+      let c = b .calls .caller in
+      let lt = b .calls .node in
+      let p = picked (callWord (wordOf stmts c)) (fallEntry falls c) (b .calls .continues) in
+      region-complete W r k
+      (record {
+        caller = c;
+        callee = e;
+        continues = rw (s .continuing c lt) (b .calls .continues);
+        exists = rw (s .targets c lt) (into (callWord (wordOf stmts c)) (linkEntries stmts links c) (p .0) (b .calls .exists));
+        skips = reach-on n (λ v u h m. let q = skips v u h .0 m in (all-mem (ids v h) u q, q)) (called-node stmts falls links n e k (roles-read W stmts falls links n s) (b .calls)) (b .path) .1;
+      })
+
+  graph-back : {r k : ℕ} → List·Memᴰ k (regionReturnEdges W r) → (e : ℕ) × ReturnsBy stmts falls links step n e r k
+  unfolding continuationEntry
+  graph-back {r} {k} m =
+      let b = region-sound W r k m in
+      let c = b .caller in
+      let lt : c < n = omega (arith, conts-inside W c k (b .continues), s .nodes-are) in
+      let q = picked (callWord (wordOf stmts c)) (linkEntries stmts links c) (rw (s .targets c lt) at (b .exists)) in
+      let t : CallsBack stmts falls links n (b .callee) k = record { caller = c; node = lt; exists = q .1; continues = rw (s .continuing c lt) at (b .continues) } in
+      (b .callee, record { calls = t; path = reach-on n (λ v u h m. (all-mem (ids v h) u m, skips v u h .1 m)) (called-node stmts falls links n (b .callee) k (roles-read W stmts falls links n s) t) (b .skips) .1 })
+
+  pub back-exact : (r k : ℕ) → List·Memᴰ k (regionReturnEdges W r) ↔ ((e : ℕ) × ReturnsBy stmts falls links step n e r k)
+  back-exact r k = (λ m. graph-back m, λ b. back-graph (b .1))
+
+  pub sets-graph : (xs ys : List ℕ) → n * 64 ≤ length xs → SetsClear stmts n xs → SetsFound stmts falls links step n xs ys → ReturnRows W stmts n xs ys
+  sets-graph xs ys fits z t =
+      record { size = t .size; members = λ r lt w. members-are (setOf ys r) (region-asc W r) (λ k. exactly r (lt, w) k); others = t .others }
+    where
+      exactly : (r : ℕ) → IsReturn stmts n r → (k : ℕ) → List·Memᴰ k (regionReturnEdges W r) ↔ In (setOf ys r) k
+      exactly r h k = (
+        λ m. t .members r h k .1 (inr (back-exact r k .0 m)),
+        λ m. ⊎-elim (λ x. absurd (none-in 64 k (rw (set-clear stmts n xs fits z r h) at x))) (λ x. back-exact r k .1 x) (t .members r h k .0 m),
+      )
+
+-- stored lists
+pub stored-graph : (W : Wired) (stmts falls links lists edges : List ℕ) (n : ℕ) (xs ys : List ℕ) → Roles W stmts falls links n → Stored lists edges n (skipSteps W) → n * 64 ≤ length xs → SetsClear stmts n xs
+    → SetsFound stmts falls links (storedList lists edges) n xs ys → ReturnRows W stmts n xs ys
+stored-graph W stmts falls links lists edges n xs ys s t fits z f =
+    sets-graph W stmts falls links n s (storedList lists edges) (t .ids)
+    (λ v u h. (λ m. subst (List·Memᴰ u) (t .list v h) m, λ m. subst (List·Memᴰ u) (sym (t .list v h)) m)) xs ys fits z f
+
+-- ---- as the code answers
+
+module _ (stmts falls links lists edges : List ℕ) (n : ℕ) (sets : List ℕ) where
+  pub walks-lists : walksReadable stmts falls links lists edges n sets ≡ true → listsReadable lists edges n ≡ true
+  unfolding walksReadable
+  walks-lists h = both-true (listsReadable lists edges n) (callsReadable stmts falls links n sets) h .0
+
+  pub walks-calls : walksReadable stmts falls links lists edges n sets ≡ true → callsReadable stmts falls links n sets ≡ true
+  unfolding walksReadable
+  walks-calls h = both-true (listsReadable lists edges n) (callsReadable stmts falls links n sets) h .1
+
+  pub walks-refused : listsReadable lists edges n ≡ false → false ≡ walksReadable stmts falls links lists edges n sets
+  unfolding walksReadable
+  walks-refused h = rw h
+
+  pub walks-by : listsReadable lists edges n ≡ true → (good : Bool) → good ≡ callsReadable stmts falls links n sets → good ≡ walksReadable stmts falls links lists edges n sets
+  unfolding walksReadable
+  walks-by h good e = rw h e
+
+  -- what the call leaves, on tables of a listing
+  pub told-graph : (sets′ : List ℕ) (r : Bool) (W : Wired) → Roles W stmts falls links n → Stored lists edges n (skipSteps W) → n * 64 ≤ length sets → SetsClear stmts n sets
+      → RegionsTold stmts falls links lists edges n sets sets′ r → ReturnRows W stmts n sets sets′
+  unfolding walksReadable
+  told-graph sets′ r W s t fits z f =
+      let y = both-so (listsReadable lists edges n) (callsReadable stmts falls links n sets) (stored-read (s .few) t) (read-calls stmts falls links n sets (roles-read W stmts falls links n s) fits) in
+      stored-graph W stmts falls links lists edges n sets sets′ s t fits z (f .found (f .answer ∙ y))

@@ -8,14 +8,14 @@ use lib.ListN.{length, getD, take, drop}
 use Rattle.listings.specs.Bytes.{pick}
 use Rattle.listings.specs.Every.{All}
 use Rattle.graph.specs.Lists.{has, each}
-use Rattle.graph.specs.Graph.{Wired, continuation, callees, skipSteps, regionReturnEdges}
-use Rattle.graph.specs.Demand3.{SkippingPath}
+use Rattle.graph.specs.Reach.{Reach}
+use Rattle.graph.specs.Graph.{Wired, regionReturnEdges}
 use Rattle.passes.specs.Walk.{Reached, Stored, storedList}
 use Rattle.passes.specs.Spans.{Spanned}
 use Rattle.passes.specs.Sets.{In, oneIf, membersOf}
 use Rattle.passes.specs.ReturnSets.{returnWord, IsReturn, setOf}
-use Rattle.tables.specs.Columns.{callWord, wordOf, fallEntry}
-use Rattle.passes.specs.Prepared.{Roles}
+use Rattle.tables.specs.Columns.{callWord, wordOf, fallEntry, continuationEntry}
+use Rattle.passes.specs.Prepared.{linkEntries}
 
 -- ---- calls, by the tables
 
@@ -68,30 +68,38 @@ pub record SetAdded (set set′ l : List ℕ) : Type 0 where
 
 -- ---- what a region gives to the sets of its RETURNs
 
--- k is the continuation of a call that has the entry e among its existing targets
-pub record CallsBack (W : Wired) (e k : ℕ) : Type 0 where
+-- k is the continuation of one of n nodes, a call that has the entry e among its targets
+pub record CallsBack (stmts falls links : List ℕ) (n e k : ℕ) : Type 0 where
   pub caller : ℕ
-  pub exists : List·Memᴰ e (callees W caller)
-  pub continues : List·Memᴰ k (continuation W caller)
+  pub node : caller < n
+  pub exists : List·Memᴰ e (linkEntries stmts links caller)
+  pub continues : List·Memᴰ k (continuationEntry stmts falls caller)
 
--- and a skipping path leads from e to r
-pub record ReturnsBy (W : Wired) (e r k : ℕ) : Type 0 where
-  pub calls : CallsBack W e k
-  pub skips : SkippingPath W e r
+-- and steps lead from e to r
+pub record ReturnsBy (stmts falls links : List ℕ) (step : ℕ → List ℕ) (n e r k : ℕ) : Type 0 where
+  pub calls : CallsBack stmts falls links n e k
+  pub path : Reach step e r
 
 -- the entry e alone
-pub record RegionJoined (W : Wired) (stmts : List ℕ) (n e : ℕ) (sets sets′ : List ℕ) : Type 0 where
+pub record RegionJoined (stmts falls links : List ℕ) (step : ℕ → List ℕ) (n e : ℕ) (sets sets′ : List ℕ) : Type 0 where
   pub size : length sets′ ≡ length sets
-  pub members : (r : ℕ) → IsReturn stmts n r → (k : ℕ) → In (setOf sets′ r) k ↔ (In (setOf sets r) k ⊎ ReturnsBy W e r k)
+  pub members : (r : ℕ) → IsReturn stmts n r → (k : ℕ) → In (setOf sets′ r) k ↔ (In (setOf sets r) k ⊎ ReturnsBy stmts falls links step n e r k)
   pub others : (i : ℕ) → (IsReturn stmts n (i / 64) → ⊥) → getD sets′ i 0 ≡ getD sets i 0
 
 -- all entries below m
-pub record RegionsJoined (W : Wired) (stmts : List ℕ) (n m : ℕ) (sets sets′ : List ℕ) : Type 0 where
+pub record RegionsJoined (stmts falls links : List ℕ) (step : ℕ → List ℕ) (n m : ℕ) (sets sets′ : List ℕ) : Type 0 where
   pub size : length sets′ ≡ length sets
-  pub members : (r : ℕ) → IsReturn stmts n r → (k : ℕ) → In (setOf sets′ r) k ↔ (In (setOf sets r) k ⊎ ((e : ℕ) × (e < m) × ReturnsBy W e r k))
+  pub members : (r : ℕ) → IsReturn stmts n r → (k : ℕ) → In (setOf sets′ r) k ↔ (In (setOf sets r) k ⊎ ((e : ℕ) × (e < m) × ReturnsBy stmts falls links step n e r k))
   pub others : (i : ℕ) → (IsReturn stmts n (i / 64) → ⊥) → getD sets′ i 0 ≡ getD sets i 0
 
--- the set of each RETURN stands in its own row; no other row changes
+-- "RETURN .. the list of demand 3": the set of each RETURN r takes in the continuations of the calls that have an entry from which steps lead
+-- to r; no other row changes
+pub record SetsFound (stmts falls links : List ℕ) (step : ℕ → List ℕ) (n : ℕ) (sets sets′ : List ℕ) : Type 0 where
+  pub size : length sets′ ≡ length sets
+  pub members : (r : ℕ) → IsReturn stmts n r → (k : ℕ) → In (setOf sets′ r) k ↔ (In (setOf sets r) k ⊎ ((e : ℕ) × ReturnsBy stmts falls links step n e r k))
+  pub others : (i : ℕ) → (IsReturn stmts n (i / 64) → ⊥) → getD sets′ i 0 ≡ getD sets i 0
+
+-- for a listing: the set of each RETURN is the list that the graph has for it
 pub record ReturnRows (W : Wired) (stmts : List ℕ) (n : ℕ) (sets sets′ : List ℕ) : Type 0 where
   pub size : length sets′ ≡ length sets
   pub members : (r : ℕ) → r < n → getD stmts (r * 12) 0 ≡ returnWord → membersOf (setOf sets′ r) ≡ regionReturnEdges W r
@@ -103,21 +111,9 @@ pub record ReturnRows (W : Wired) (stmts : List ℕ) (n : ℕ) (sets sets′ : L
 abbrev pub SetsClear : List ℕ → ℕ → List ℕ → Type 0
 SetsClear stmts n sets = (i : ℕ) → i < n → getD stmts (i * 12) 0 ≡ returnWord → (j : ℕ) → j < 64 → getD sets (i * 64 + j) 0 ≡ 0
 
--- whatever listing the tables hold, for a list of the region of entry e, wherever it is from
+-- for a list of the region of entry e, wherever it is from
 abbrev pub ListedJoined : (stmts falls links : List ℕ) (n e : ℕ) (l sets sets′ : List ℕ) → Type 0
-ListedJoined stmts falls links n e l sets sets′ = (W : Wired) → Roles W stmts falls links n → Reached (skipSteps W) e l → RegionJoined W stmts n e sets sets′
-
-abbrev pub EntryJoined : (stmts falls links lists edges : List ℕ) (n e : ℕ) (sets sets′ : List ℕ) → Type 0
-EntryJoined stmts falls links lists edges n e sets sets′ =
-    (W : Wired) → Roles W stmts falls links n → Stored lists edges n (skipSteps W) → RegionJoined W stmts n e sets sets′
-
-abbrev pub EntriesJoined : (stmts falls links lists edges : List ℕ) (n m : ℕ) (sets sets′ : List ℕ) → Type 0
-EntriesJoined stmts falls links lists edges n m sets sets′ =
-    (W : Wired) → Roles W stmts falls links n → Stored lists edges n (skipSteps W) → RegionsJoined W stmts n m sets sets′
-
-abbrev pub RegionReturns : (stmts falls links lists edges : List ℕ) (n : ℕ) (sets sets′ : List ℕ) → Type 0
-RegionReturns stmts falls links lists edges n sets sets′ =
-    (W : Wired) → Roles W stmts falls links n → Stored lists edges n (skipSteps W) → ReturnRows W stmts n sets sets′
+ListedJoined stmts falls links n e l sets sets′ = (step : ℕ → List ℕ) → Reached step e l → RegionJoined stmts falls links step n e sets sets′
 
 -- the walks can start
 pub record EntriesReady (stmts falls links lists edges : List ℕ) (n : ℕ) (calls spans sets : List ℕ) : Type 0 where
@@ -126,10 +122,3 @@ pub record EntriesReady (stmts falls links lists edges : List ℕ) (n : ℕ) (ca
   pub in-spans : length spans ≡ 8192
   pub stored : Stored lists edges n (storedList lists edges)
   pub in-sets : n * 64 ≤ length sets
-
-pub record RegionsReady (stmts falls links lists edges : List ℕ) (n : ℕ) (sets : List ℕ) : Type 0 where
-  pub wired : Wired
-  pub roles : Roles wired stmts falls links n
-  pub stored : Stored lists edges n (skipSteps wired)
-  pub in-sets : n * 64 ≤ length sets
-  pub clear : SetsClear stmts n sets

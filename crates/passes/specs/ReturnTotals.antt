@@ -1,11 +1,11 @@
 -- How many edges the RETURNs have. Assumes nothing.
 use mathlib.Core.Path.{_≡_, refl, ap}
-use mathlib.Core.Bool.{Bool, true, false}
+use mathlib.Core.Bool.{Bool, true, false, _&&_}
 use mathlib.Core.List.{List, [], _∷_, List·Memᴰ, List·Memᴰ·head, List·Memᴰ·tail}
 use Prim.Native.Nat.{ℕ, zero, suc, _+_, _*_, _≤_, _<_}
 use native.Mathlib.Omega.{arith}
-use borrow.Author.Tests.{eq-eqb, ne-eqb}
-use lib.Dec.{eqb}
+use borrow.Author.Tests.{eq-eqb, ne-eqb, le-leb, lt-leb}
+use lib.Dec.{eqb, leb}
 use lib.ListN.{length, length-take, getD, take, drop}
 use Rattle.listings.specs.Bytes.{pick}
 use Rattle.listings.specs.Every.{all[], all∷}
@@ -15,6 +15,7 @@ use Rattle.passes.specs.Sets.{membersOf}
 use Rattle.passes.specs.SetLaws.{members-in, members-asc, in-below}
 use Rattle.passes.specs.ReturnSets.{setOf}
 use Rattle.tables.specs.Columns.{wordOf}
+use Rattle.passes.specs.WalkTables.{setsFit, SetsRead, read-sets}
 
 -- the sum of f over those below n that pass a test
 unfoldable pub sumWhere : (ℕ → Bool) → (ℕ → ℕ) → ℕ → ℕ
@@ -25,6 +26,11 @@ sumWhere p f (suc n) = sumWhere p f n + pick (p n) (f n) 0
 unfoldable pub returnSize : Bool → ℕ → List ℕ → ℕ → ℕ
 returnSize true targets sets i = targets
 returnSize false targets sets i = length (membersOf (setOf sets i))
+
+-- the edges of all RETURNs; 0 where the tables hold no n statements with their sets, or there are more targets than a graph has nodes
+unfoldable pub returnTotal : Bool → List ℕ → List ℕ → ℕ → ℕ → ℕ
+returnTotal handlers stmts sets n targets =
+    pick (setsFit stmts n sets && leb targets 4096) (sumWhere (λ i. eqb (wordOf stmts i) 9) (λ i. returnSize handlers targets sets i) n) 0
 
 -- ---- sums
 
@@ -102,3 +108,22 @@ size-with-handlers handlers targets sets i e = rw e
 pub size-without : (handlers : Bool) (targets : ℕ) (sets : List ℕ) (i k : ℕ) → handlers ≡ false → k ≡ 64 → length (membersOf (take k (drop (i * 64) sets))) ≡ returnSize handlers targets sets i
 unfolding returnSize setOf
 size-without handlers targets sets i k e q = rw (e, q)
+
+-- ---- all of them, as code goes
+
+module _ (handlers : Bool) (stmts sets : List ℕ) (n targets : ℕ) where
+  pub total-by : setsFit stmts n sets ≡ true → targets ≤ 4096 → returnTotal handlers stmts sets n targets ≡ sumWhere (λ i. eqb (wordOf stmts i) 9) (λ i. returnSize handlers targets sets i) n
+  unfolding returnTotal
+  total-by f h = rw (f, le-leb targets 4096 h)
+
+  pub total-none : setsFit stmts n sets ≡ false → 0 ≡ returnTotal handlers stmts sets n targets
+  unfolding returnTotal
+  total-none f = rw f
+
+  pub total-many : setsFit stmts n sets ≡ true → 4096 < targets → 0 ≡ returnTotal handlers stmts sets n targets
+  unfolding returnTotal
+  total-many f h = rw (f, lt-leb targets 4096 h)
+
+  pub total-is : n ≤ 4096 → n * 12 ≤ length stmts → n * 64 ≤ length sets → targets ≤ 4096
+      → returnTotal handlers stmts sets n targets ≡ sumWhere (λ i. eqb (wordOf stmts i) 9) (λ i. returnSize handlers targets sets i) n
+  total-is f s t h = total-by (read-sets stmts n sets (record { few = f; in-stmts = s; in-sets = t })) h

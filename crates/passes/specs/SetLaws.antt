@@ -7,18 +7,18 @@ use Prim.Native.Nat.{ℕ, zero, suc, _+_, _-_, _*_, _/_, _%_, _^_, _≤_, _<_, m
 use native.Mathlib.Omega.{arith}
 use native.Mathlib.Nat.{mod-lt, mod-eq-of-lt, div-self, div-eq-of-lt, mul-mod-left, pow-suc, lt-of-lt-of-le, one-mul}
 use native.Mathlib.Numerals.{add-one, one-add}
-use borrow.Author.Tests.{eq-eqb, ne-eqb, eqb-true}
+use borrow.Author.Tests.{eq-eqb, ne-eqb, eqb-true, le-leb, lt-leb}
 use lib.Bits.{bitOr, or-shr, or-step}
 use lib.Count.{onesIn, ones, ones-cat}
 use lib.Dec.{eqb}
 use lib.ListN.{length, length-set, length-append, getD, set, take, drop, replicate, List·getD-eq-default}
 use lib.Pow.{pow-pos, pow-mono, pow-lt, pow-add, shl-shr, shl-exact, shr-shr, mod-pow-add}
-use lib.Seq.{getD-set-same, getD-set-other, take-suc-set, drop-set-lt, drop-drop}
+use lib.Seq.{set-out, getD-set-same, getD-set-other, take-suc-set, drop-set-lt, drop-drop}
 use Rattle.listings.specs.WordTable.{zeros}
 use Rattle.passes.specs.Compare.{eq-or, lt-or}
 use Rattle.graph.specs.Lists.{Ascending, asc[], asc∷}
 use Rattle.graph_laws.specs.Members.{asc-ext}
-use Rattle.passes.specs.Sets.{bit, In, inserted, joinedTo, joined, oneIf, wordMembers, membersTo, membersOf, Put}
+use Rattle.passes.specs.Sets.{bit, In, inserted, joinedTo, joined, oneIf, wordMembers, membersTo, membersOf, sizeOf, membersWithin, Put}
 
 -- ---- bits
 
@@ -419,3 +419,34 @@ joined-end ws us q e = ap (joinedTo ws us) e
 pub inserted-is : (ws : List ℕ) (i b : ℕ) → b ≡ 2 ^ (i % 64) → set ws (i / 64) (bitOr (getD ws (i / 64) 0) b) ≡ inserted ws i
 unfolding inserted
 inserted-is ws i b e = ap (λ (x : ℕ). set ws (i / 64) (bitOr (getD ws (i / 64) 0) x)) e
+
+-- no word for it
+pub inserted-out : (ws : List ℕ) (i : ℕ) → length ws ≤ i / 64 → ws ≡ inserted ws i
+unfolding inserted
+inserted-out ws i h = sym (set-out ws (i / 64) (bitOr (getD ws (i / 64) 0) (2 ^ (i % 64))) h)
+
+-- ---- sets as they are lent
+
+module _ (ws : List ℕ) where
+  pub own-size : length ws ≡ 64 → sizeOf ws ≡ length (membersOf ws)
+  unfolding sizeOf
+  own-size h = rw (eq-eqb (length ws) 64 h)
+
+  pub no-size : (length ws ≡ 64 → ⊥) → 0 ≡ sizeOf ws
+  unfolding sizeOf
+  no-size h = rw (ne-eqb (length ws) 64 h)
+
+  pub within-is : (k : ℕ) → length ws ≡ 64 → length (membersOf ws) ≤ k → membersWithin ws k ≡ membersOf ws
+  unfolding membersWithin
+  within-is k h g = rw (eq-eqb (length ws) 64 h, le-leb (length (membersOf ws)) k g)
+
+  pub within-no-set : (k : ℕ) → (length ws ≡ 64 → ⊥) → membersWithin ws k ≡ []
+  unfolding membersWithin
+  within-no-set k h = rw (ne-eqb (length ws) 64 h)
+
+  pub within-short : (k : ℕ) → length ws ≡ 64 → k < length (membersOf ws) → membersWithin ws k ≡ []
+  unfolding membersWithin
+  within-short k h g = rw (eq-eqb (length ws) 64 h, lt-leb (length (membersOf ws)) k g)
+
+  pub put-nothing : (part : List ℕ) (k : ℕ) → membersWithin ws k ≡ [] → Put part 0 part 0 (membersWithin ws k)
+  put-nothing part k e = rw e (put-none part 0)

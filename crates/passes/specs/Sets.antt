@@ -1,11 +1,12 @@
 -- Sets of node ids in words of 64 bits: id i is bit i % 64 of word i / 64. Assumes nothing.
 use mathlib.Core.Path.{_≡_}
-use mathlib.Core.Bool.{Bool, true, false}
+use mathlib.Core.Bool.{Bool, true, false, _&&_}
 use mathlib.Core.List.{List, [], _∷_, _++_}
 use Prim.Native.Nat.{ℕ, zero, suc, _+_, _*_, _/_, _%_, _^_}
 use lib.Bits.{bitOr}
-use lib.Dec.{eqb}
+use lib.Dec.{eqb, leb}
 use lib.ListN.{length, getD, set, take, drop}
+use Rattle.listings.specs.Bytes.{pick}
 
 unfoldable pub bit : List ℕ → ℕ → ℕ
 bit ws i = (getD ws (i / 64) 0 / 2 ^ (i % 64)) % 2
@@ -43,6 +44,14 @@ membersTo ws (suc q) = membersTo ws q ++ wordMembers (q * 64) (getD ws q 0) 64
 
 unfoldable pub membersOf : List ℕ → List ℕ
 membersOf ws = membersTo ws (length ws)
+
+-- a set has 64 words: how many members it has; 0 for what is no set
+unfoldable pub sizeOf : List ℕ → ℕ
+sizeOf ws = pick (eqb (length ws) 64) (length (membersOf ws)) 0
+
+-- its members, where a part of k entries holds them; else none
+unfoldable pub membersWithin : List ℕ → ℕ → List ℕ
+membersWithin ws k = pick (eqb (length ws) 64 && leb (length (membersOf ws)) k) (membersOf ws) []
 
 -- l stands in a part behind its first n entries, up to r; what is behind r is as it was
 pub record Put (part : List ℕ) (n : ℕ) (part′ : List ℕ) (r : ℕ) (l : List ℕ) : Type 0 where

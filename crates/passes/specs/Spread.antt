@@ -1,31 +1,31 @@
 -- Where RETURNs go back to, where all lists together are too long to store: regions by closed rows of bits. Assumes nothing.
 use Prim.Native.Nat.{ℕ, _*_, _≤_, _<_}
 use mathlib.Core.Path.{_≡_}
-use mathlib.Core.List.{List}
+use mathlib.Core.Bool.{Bool, true, false, _&&_, not}
+use mathlib.Core.List.{List, []}
+use mathlib.Core.Logic.{_↔_}
+use lib.Dec.{ltb, eqb}
 use lib.ListN.{length, getD}
+use Rattle.listings.specs.Bytes.{pick}
 use Rattle.listings.specs.Listing.{Listing}
-use Rattle.graph.specs.Graph.{Wired, wire, skipSteps, regionReturnEdges}
-use Rattle.passes.specs.Sets.{membersOf}
-use Rattle.passes.specs.ReturnSets.{returnWord, setOf}
-use Rattle.passes.specs.Closure.{OthersClosed}
+use Rattle.graph.specs.Graph.{wire, regionReturnEdges}
+use Rattle.tables.specs.Columns.{wordOf}
+use Rattle.passes.specs.Sets.{In, membersOf}
+use Rattle.passes.specs.ReturnSets.{returnWord, IsReturn, setOf}
+use Rattle.passes.specs.Closure.{Leads, OthersClosed}
 use Rattle.passes.specs.Prepared.{Prepared, Roles}
-use Rattle.passes.specs.Regions.{RegionJoined, RegionsJoined, ReturnRows, SetsClear, CallsReady}
+use Rattle.passes.specs.Regions.{ReturnsBy, RegionJoined, RegionsJoined, CallsReady}
+use Rattle.passes.specs.WalkTables.{callsReadable}
 use Rattle.passes.specs.Spans.{Spanned}
 
 -- ---- entries
 
--- whatever listing the tables hold, if the rows are closed over its steps
+-- whichever steps the rows are closed over
 abbrev pub EntrySpread : (stmts falls links : List ℕ) (n e : ℕ) (rows rows′ : List ℕ) → Type 0
-EntrySpread stmts falls links n e rows rows′ =
-    (W : Wired) → Roles W stmts falls links n → OthersClosed (skipSteps W) stmts n rows → RegionJoined W stmts n e rows rows′
+EntrySpread stmts falls links n e rows rows′ = (step : ℕ → List ℕ) → OthersClosed step stmts n rows → RegionJoined stmts falls links step n e rows rows′
 
 abbrev pub EntriesSpread : (stmts falls links : List ℕ) (n m : ℕ) (rows rows′ : List ℕ) → Type 0
-EntriesSpread stmts falls links n m rows rows′ =
-    (W : Wired) → Roles W stmts falls links n → OthersClosed (skipSteps W) stmts n rows → RegionsJoined W stmts n m rows rows′
-
-abbrev pub RegionsSpread : (stmts falls links : List ℕ) (n : ℕ) (rows rows′ : List ℕ) → Type 0
-RegionsSpread stmts falls links n rows rows′ =
-    (W : Wired) → Roles W stmts falls links n → OthersClosed (skipSteps W) stmts n rows → ReturnRows W stmts n rows rows′
+EntriesSpread stmts falls links n m rows rows′ = (step : ℕ → List ℕ) → OthersClosed step stmts n rows → RegionsJoined stmts falls links step n m rows rows′
 
 -- the calls and their spans are known
 pub record SpreadEntriesReady (stmts falls links : List ℕ) (n : ℕ) (calls spans rows : List ℕ) : Type 0 where
@@ -34,13 +34,26 @@ pub record SpreadEntriesReady (stmts falls links : List ℕ) (n : ℕ) (calls sp
   pub in-spans : length spans ≡ 8192
   pub in-rows : n * 64 ≤ length rows
 
-pub record SpreadRegionsReady (stmts falls links : List ℕ) (n : ℕ) (rows : List ℕ) : Type 0 where
-  pub wired : Wired
-  pub roles : Roles wired stmts falls links n
-  pub in-rows : n * 64 ≤ length rows
-  pub clear : SetsClear stmts n rows
+-- ---- rows that anyone may have written
 
--- ---- the whole
+-- where the row of one of n nodes leads; "a skipping path .. never steps from a RETURN"
+unfoldable pub rowSteps : (stmts rows : List ℕ) (n i : ℕ) → List ℕ
+rowSteps stmts rows n i = pick (ltb i n && not (eqb (wordOf stmts i) 9)) (membersOf (setOf rows i)) []
+
+-- the row of a RETURN becomes its set, any other all that it leads to; what is behind the n rows stays
+pub record SetsSpread (stmts falls links : List ℕ) (n : ℕ) (rows rows′ : List ℕ) : Type 0 where
+  pub size : length rows′ ≡ length rows
+  pub members : (r : ℕ) → IsReturn stmts n r → (k : ℕ) → In (setOf rows′ r) k ↔ ((e : ℕ) × ReturnsBy stmts falls links (rowSteps stmts rows n) n e r k)
+  pub others : (i : ℕ) → i < n → (getD stmts (i * 12) 0 ≡ returnWord → ⊥) → (j : ℕ) → In (setOf rows′ i) j ↔ Leads (rowSteps stmts rows n) i j
+  pub rest : (e : ℕ) → n * 64 ≤ e → getD rows′ e 0 ≡ getD rows e 0
+
+-- on all tables: false stands for refusal 25
+pub record SpreadTold (stmts falls links : List ℕ) (n : ℕ) (rows rows′ : List ℕ) (r : Bool) : Type 0 where
+  pub answer : r ≡ callsReadable stmts falls links n rows
+  pub refused : r ≡ false → rows′ ≡ rows
+  pub found : r ≡ true → SetsSpread stmts falls links n rows rows′
+
+-- ---- the rows of a listing's arguments
 
 -- the set of each RETURN stands in its own row of arguments
 pub record SpreadTo (stmts args entries falls links frames dispatched : List ℕ) (lines n d : ℕ) (args′ : List ℕ) : Type 0 where

@@ -1,9 +1,10 @@
 // The RETURNs' rows of arguments, which held their sets, become zero again.
+use crate::readable::sets_fit;
 use crate::return_sets::RETURN;
 use reader::tables::zero64;
 ghost use Prim.Native.Nat.{_+_, _*_, _≤_, _<_};
 ghost use lib.ListN.{length};
-ghost use Rattle.passes.specs.Clearing.{SetCleared, SetsCleared};
+ghost use Rattle.passes.specs.Clearing.{SetCleared, SetsCleared, ClearTold};
 
 // Clears the set of node i, where that is a RETURN.
 fn clear_set(stmts: &[u16], i: usize, sets: &mut [u64])
@@ -19,7 +20,7 @@ fn clear_set(stmts: &[u16], i: usize, sets: &mut [u64])
 }
 
 // Clears the set of each RETURN among the n nodes; all other rows stay.
-pub fn clear_sets(stmts: &[u16], sets: &mut [u64], n: usize)
+pub(crate) fn clear_returns(stmts: &[u16], sets: &mut [u64], n: usize)
     requires { ⌜ (n ≤ 4096) × (n * 12 ≤ length (now stmts)) × (n * 64 ≤ length (now sets)) ⌝ }
     ensures { λ _. ⌜ SetsCleared (now (stmts .entry)) n (now (sets .entry)) (now (sets .exit)) ⌝ }
 {
@@ -27,5 +28,14 @@ pub fn clear_sets(stmts: &[u16], sets: &mut [u64], n: usize)
     while i < n {
         clear_set(stmts, i, sets);
         i += 1;
+    }
+}
+
+// The same on any tables: where they are too short for n nodes, nothing changes.
+pub fn clear_sets(stmts: &[u16], sets: &mut [u64], n: usize)
+    ensures { λ _. ⌜ ClearTold (now (stmts .entry)) n (now (sets .entry)) (now (sets .exit)) ⌝ }
+{
+    if sets_fit(stmts, sets, n) {
+        clear_returns(stmts, sets, n);
     }
 }

@@ -2,17 +2,14 @@
 use crate::return_sets::RETURN;
 use crate::sets::insert;
 use crate::sets::join;
-use crate::sets::members;
 use crate::sets::no_words;
-use reader::tables::zero64;
-use tables::widths::wide;
+use crate::sets::put_members;
 ghost use mathlib.Core.Path.{_≡_};
 ghost use Prim.Native.Nat.{_+_, _*_, _≤_, _<_};
 ghost use lib.ListN.{length, take};
-ghost use Rattle.graph_laws.specs.EdgeBounds.{Ids};
 ghost use Rattle.passes.specs.Sets.{bit};
 ghost use Rattle.passes.specs.ReturnSets.{setOf};
-ghost use Rattle.passes.specs.Closure.{Closed, RowIs, RowJoined, RowsJoined, RowReached, RowListed};
+ghost use Rattle.passes.specs.Closure.{Closed, RowJoined, RowsJoined, RowReached, RowListed};
 
 // 1 where row i has node j, else 0.
 fn row_bit(rows: &[u64], i: usize, j: usize) -> u64
@@ -31,19 +28,6 @@ fn row_copy(rows: &[u64], i: usize) -> [u64; 64]
     let end = start + 64;
     join(&mut row, &rows[start..end]);
     row
-}
-
-// The first count nodes of a list, and no others, as a row.
-pub fn put_row(row: &mut [u64], list: &[u16], count: usize)
-    requires { ⌜ (length (now row) ≡ 64) × (count ≤ length (now list)) × Ids 4096 (take count (now list)) ⌝ }
-    ensures { λ _. ⌜ RowIs (take count (now (list .entry))) (now (row .exit)) ⌝ }
-{
-    zero64(row);
-    let mut k: usize = 0;
-    while k < count {
-        insert(row, wide(list[k]));
-        k += 1;
-    }
 }
 
 // Joins `row`, which is row k, into row i, where that has node k.
@@ -73,7 +57,7 @@ fn close_round(rows: &mut [u64], n: usize, k: usize)
 }
 
 // Row i says where node i leads; then it has all that can be reached from it in one step or more.
-pub fn close_rows(rows: &mut [u64], n: usize)
+pub(crate) fn close_rows(rows: &mut [u64], n: usize)
     requires { ⌜ (n ≤ 4096) × (n * 64 ≤ length (now rows)) ⌝ }
     ensures { λ _. ⌜ Closed n (now (rows .entry)) (now (rows .exit)) ⌝ }
 {
@@ -102,10 +86,16 @@ fn row_region(stmts: &[u16], rows: &[u64], n: usize, from: usize) -> [u64; 64]
 }
 
 // Lists these, ascending, and answers how many.
-pub fn list_row(stmts: &[u16], rows: &[u64], n: usize, from: usize, work: &mut [u16]) -> usize
+pub(crate) fn list_row(
+    stmts: &[u16],
+    rows: &[u64],
+    n: usize,
+    from: usize,
+    work: &mut [u16],
+) -> usize
     requires { ⌜ (n ≤ 4096) × (n * 12 ≤ length (now stmts)) × (n * 64 ≤ length (now rows)) × (from < n) × (length (now work) ≡ 4096) ⌝ }
     ensures { λ r. ⌜ (r ≤ length (now (work .exit))) × RowListed (now (stmts .entry)) (now (rows .entry)) n from (take r (now (work .exit))) ⌝ }
 {
     let set = row_region(stmts, rows, n, from);
-    members(&set, work)
+    put_members(&set, work)
 }

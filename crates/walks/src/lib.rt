@@ -1,10 +1,12 @@
 // Where RETURNs go back to: sets of nodes, walks through regions, rows of bits that are closed.
 pub mod clearing;
 pub mod closure;
+pub mod readable;
 pub mod regions;
 pub mod return_sets;
 pub mod return_totals;
 pub mod sets;
 pub mod spans;
+pub mod spread;
 pub mod walk;
 pub mod widths;

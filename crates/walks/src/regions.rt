@@ -1,5 +1,6 @@
 // Where RETURNs go back to without handlers: one walk for each entry that is called, and the continuations of its calls joined into
 // the set of each RETURN that the walk lists.
+use crate::readable::walks_readable;
 use crate::return_sets::join_returns;
 use crate::sets::insert;
 use crate::sets::no_words;
@@ -19,7 +20,9 @@ ghost use Rattle.graph.specs.Lists.{each};
 ghost use Rattle.graph_laws.specs.Adding.{decode};
 ghost use Rattle.passes.specs.Sets.{oneIf, Put};
 ghost use Rattle.tables.specs.Columns.{callWord, wordOf};
-ghost use Rattle.passes.specs.Regions.{callsBelow, backFrom, CallFits, EntryCalls, SetAdded, ListedJoined, EntryJoined, EntriesJoined, EntriesReady, RegionsReady, RegionReturns};
+ghost use Rattle.passes.specs.Regions.{callsBelow, backFrom, CallFits, EntryCalls, SetAdded, ListedJoined, RegionJoined, RegionsJoined, SetsFound, EntriesReady};
+ghost use Rattle.passes.specs.Walk.{Stored, storedList};
+ghost use Rattle.passes.specs.WalkTables.{CallsRead, RegionsTold};
 
 // Puts node i behind the first m entries, if it is a call.
 fn list_call(stmts: &[u16], i: usize, calls: &mut [u16], m: usize) -> usize
@@ -34,7 +37,7 @@ fn list_call(stmts: &[u16], i: usize, calls: &mut [u16], m: usize) -> usize
 }
 
 // Lists the calls among the n nodes, ascending, and answers how many: later loops run over these alone.
-pub fn list_calls(stmts: &[u16], n: usize, calls: &mut [u16]) -> usize
+pub(crate) fn list_calls(stmts: &[u16], n: usize, calls: &mut [u16]) -> usize
     requires { ⌜ (n ≤ 4096) × (n * 12 ≤ length (now stmts)) × (n ≤ length (now calls)) ⌝ }
     ensures { λ r. ⌜ Put (now (calls .entry)) 0 (now (calls .exit)) r (callsBelow (now (stmts .entry)) n) ⌝ }
 {
@@ -91,7 +94,7 @@ fn add_backs(
 }
 
 // For the entry e, with its calls and a list of its region: the continuations of the calls are joined into the set of each RETURN there.
-pub fn join_region(
+pub(crate) fn join_region(
     stmts: &[u16],
     falls: &[u16],
     links: &[u16],
@@ -124,7 +127,7 @@ fn join_called(
     sets: &mut [u64],
 )
     requires { ⌜ EntriesReady (now stmts) (now falls) (now links) (now lists) (now edges) n (now calls) (now spans) (now sets) × (e < n) × (length (now work) ≡ 4096) ⌝ }
-    ensures { λ _. ⌜ EntryJoined (now (stmts .entry)) (now (falls .entry)) (now (links .entry)) (now (lists .entry)) (now (edges .entry)) n e (now (sets .entry)) (now (sets .exit)) ⌝ }
+    ensures { λ _. ⌜ RegionJoined (now (stmts .entry)) (now (falls .entry)) (now (links .entry)) (storedList (now (lists .entry)) (now (edges .entry))) n e (now (sets .entry)) (now (sets .exit)) ⌝ }
 {
     let at = e * 2;
     let end = wide(spans[at + 1]);
@@ -159,7 +162,7 @@ fn join_entries(
     sets: &mut [u64],
 )
     requires { ⌜ EntriesReady (now stmts) (now falls) (now links) (now lists) (now edges) n (now calls) (now spans) (now sets) × (length (now work) ≡ 4096) ⌝ }
-    ensures { λ _. ⌜ EntriesJoined (now (stmts .entry)) (now (falls .entry)) (now (links .entry)) (now (lists .entry)) (now (edges .entry)) n n (now (sets .entry)) (now (sets .exit)) ⌝ }
+    ensures { λ _. ⌜ RegionsJoined (now (stmts .entry)) (now (falls .entry)) (now (links .entry)) (storedList (now (lists .entry)) (now (edges .entry))) n n (now (sets .entry)) (now (sets .exit)) ⌝ }
 {
     let mut e: usize = 0;
     while e < n {
@@ -180,8 +183,8 @@ fn join_entries(
     }
 }
 
-// Where each RETURN goes back to: the set of RETURN r, 64 words, stands in its own row of `sets`, which is all zero before.
-pub fn region_return_edges(
+// All entries of all calls.
+fn join_regions(
     stmts: &[u16],
     falls: &[u16],
     links: &[u16],
@@ -190,8 +193,8 @@ pub fn region_return_edges(
     n: usize,
     sets: &mut [u64],
 )
-    requires { ⌜ RegionsReady (now stmts) (now falls) (now links) (now lists) (now edges) n (now sets) ⌝ }
-    ensures { λ _. ⌜ RegionReturns (now (stmts .entry)) (now (falls .entry)) (now (links .entry)) (now (lists .entry)) (now (edges .entry)) n (now (sets .entry)) (now (sets .exit)) ⌝ }
+    requires { ⌜ CallsRead (now stmts) (now falls) (now links) n × Stored (now lists) (now edges) n (storedList (now lists) (now edges)) × (n * 64 ≤ length (now sets)) ⌝ }
+    ensures { λ _. ⌜ SetsFound (now (stmts .entry)) (now (falls .entry)) (now (links .entry)) (storedList (now (lists .entry)) (now (edges .entry))) n (now (sets .entry)) (now (sets .exit)) ⌝ }
 {
     let mut buffer = no_work();
     let count = list_calls(stmts, n, &mut buffer);
@@ -211,4 +214,24 @@ pub fn region_return_edges(
         &mut work,
         sets,
     );
+}
+
+// Where each RETURN goes back to comes into its set, 64 words in its own row of `sets`, by walks over the stored lists. Answers whether the tables
+// can be read; where they cannot, nothing is written.
+pub fn region_return_edges(
+    stmts: &[u16],
+    falls: &[u16],
+    links: &[u16],
+    lists: &[u16],
+    edges: &[u16],
+    n: usize,
+    sets: &mut [u64],
+) -> bool
+    ensures { λ r. ⌜ RegionsTold (now (stmts .entry)) (now (falls .entry)) (now (links .entry)) (now (lists .entry)) (now (edges .entry)) n (now (sets .entry)) (now (sets .exit)) r ⌝ }
+{
+    if walks_readable(stmts, falls, links, lists, edges, n, sets) {
+        join_regions(stmts, falls, links, lists, edges, n, sets);
+        return true;
+    }
+    false
 }

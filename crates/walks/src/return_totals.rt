@@ -1,13 +1,15 @@
 // How many edges the RETURNs have: each all the return targets with handlers, each its own set without.
+use crate::readable::sets_fit;
 use crate::return_sets::RETURN;
-use crate::sets::size_of;
+use crate::sets::count_members;
+use tables::readable::MOST_NODES;
 ghost use mathlib.Core.Path.{_≡_};
 ghost use Prim.Native.Nat.{_+_, _*_, _≤_, _<_};
 ghost use lib.Dec.{eqb};
 ghost use lib.ListN.{length};
 ghost use Rattle.listings.specs.Bytes.{pick};
 ghost use Rattle.tables.specs.Columns.{wordOf};
-ghost use Rattle.passes.specs.ReturnTotals.{sumWhere, returnSize};
+ghost use Rattle.passes.specs.ReturnTotals.{sumWhere, returnSize, returnTotal};
 
 // How many edges node i has as a RETURN: none where it is no RETURN.
 fn return_size(handlers: bool, stmts: &[u16], sets: &[u64], i: usize, targets: usize) -> usize
@@ -22,10 +24,10 @@ fn return_size(handlers: bool, stmts: &[u16], sets: &[u64], i: usize, targets: u
     }
     let start = i * 64;
     let end = start + 64;
-    size_of(&sets[start..end])
+    count_members(&sets[start..end])
 }
 
-pub fn count_returns(handlers: bool, stmts: &[u16], sets: &[u64], n: usize, targets: usize) -> usize
+fn sum_returns(handlers: bool, stmts: &[u16], sets: &[u64], n: usize, targets: usize) -> usize
     requires { ⌜ (n ≤ 4096) × (n * 12 ≤ length (now stmts)) × (n * 64 ≤ length (now sets)) × (targets ≤ 4096) ⌝ }
     ensures { λ r. ⌜ r ≡ sumWhere (λ i. eqb (wordOf (now (stmts .entry)) i) 9) (λ i. returnSize handlers targets (now (sets .entry)) i) n ⌝ }
 {
@@ -36,4 +38,17 @@ pub fn count_returns(handlers: bool, stmts: &[u16], sets: &[u64], n: usize, targ
         i += 1;
     }
     sum
+}
+
+// How many edges the RETURNs among n nodes have, of which there are at most 4,096, with at most so many targets; 0 where the tables are too short.
+pub fn count_returns(handlers: bool, stmts: &[u16], sets: &[u64], n: usize, targets: usize) -> usize
+    ensures { λ r. ⌜ r ≡ returnTotal handlers (now (stmts .entry)) (now (sets .entry)) n targets ⌝ }
+{
+    if sets_fit(stmts, sets, n) {
+        if MOST_NODES < targets {
+            return 0;
+        }
+        return sum_returns(handlers, stmts, sets, n, targets);
+    }
+    0
 }

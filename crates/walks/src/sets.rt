@@ -1,10 +1,10 @@
 // Sets of nodes, 64 words each: id i is bit i % 64 of word i / 64.
 use crate::widths::narrow;
 ghost use mathlib.Core.Path.{_≡_};
-ghost use Prim.Native.Nat.{_+_, _/_, _≤_, _<_, _^_};
+ghost use Prim.Native.Nat.{_+_, _%_, _≤_, _<_, _^_};
 ghost use lib.Dec.{eqb};
 ghost use lib.ListN.{length, replicate};
-ghost use Rattle.passes.specs.Sets.{inserted, joined, oneIf, wordMembers, membersOf, Put};
+ghost use Rattle.passes.specs.Sets.{inserted, joined, oneIf, wordMembers, membersOf, sizeOf, membersWithin, Put};
 
 // In a function of its own, so that no other proof sees the 64 zeros.
 pub fn no_words() -> [u64; 64]
@@ -13,19 +13,25 @@ pub fn no_words() -> [u64; 64]
     [0u64; 64]
 }
 
-pub fn bit(r: usize) -> u64
-    requires { ⌜ r < 64 ⌝ }
-    ensures { λ b. ⌜ b ≡ 2 ^ r ⌝ }
+// The words of a set.
+const WORDS: usize = 64;
+
+// The bit of an id in its word.
+pub fn bit(id: usize) -> u64
+    ensures { λ b. ⌜ b ≡ 2 ^ (id % 64) ⌝ }
 {
-    1u64 << r
+    1u64 << (id % 64)
 }
 
+// The id comes into the set, where that has a word for it.
 pub fn insert(set: &mut [u64], id: usize)
-    requires { ⌜ id / 64 < length (now set) ⌝ }
     ensures { λ _. ⌜ now (set .exit) ≡ inserted (now (set .entry)) id ⌝ }
 {
-    let b = bit(id % 64);
     let q = id / 64;
+    if set.len() <= q {
+        return;
+    }
+    let b = bit(id);
     set[q] = set[q] | b;
 }
 
@@ -42,7 +48,7 @@ pub(crate) fn join(set: &mut [u64], more: &[u64])
 }
 
 // How many members the set has.
-pub(crate) fn size_of(set: &[u64]) -> usize
+pub(crate) fn count_members(set: &[u64]) -> usize
     requires { ⌜ length (now set) ≡ 64 ⌝ }
     ensures { λ r. ⌜ r ≡ length (membersOf (now (set .entry))) ⌝ }
 {
@@ -53,6 +59,16 @@ pub(crate) fn size_of(set: &[u64]) -> usize
         q += 1;
     }
     n as usize
+}
+
+// How many members a set of 64 words has; 0 where it has not so many words.
+pub fn size_of(set: &[u64]) -> usize
+    ensures { λ r. ⌜ r ≡ sizeOf (now (set .entry)) ⌝ }
+{
+    if set.len() != WORDS {
+        return 0;
+    }
+    count_members(set)
 }
 
 // Puts the id i behind the first n entries where its bit b is 1.
@@ -84,7 +100,7 @@ fn put_word(part: &mut [u16], n: usize, base: usize, word: u64) -> usize
 }
 
 // Writes the members, ascending, and answers how many; the rest of the part stays.
-pub fn members(set: &[u64], part: &mut [u16]) -> usize
+pub(crate) fn put_members(set: &[u64], part: &mut [u16]) -> usize
     requires { ⌜ (length (now set) ≡ 64) × (length (membersOf (now set)) ≤ length (now part)) ⌝ }
     ensures { λ r. ⌜ Put (now (part .entry)) 0 (now (part .exit)) r (membersOf (now (set .entry))) ⌝ }
 {
@@ -95,4 +111,17 @@ pub fn members(set: &[u64], part: &mut [u16]) -> usize
         q += 1;
     }
     n
+}
+
+// The same for any set and any part: nothing is written where the set has not 64 words, or the part no room for all of them.
+pub fn members(set: &[u64], part: &mut [u16]) -> usize
+    ensures { λ r. ⌜ Put (now (part .entry)) 0 (now (part .exit)) r (membersWithin (now (set .entry)) (length (now (part .entry)))) ⌝ }
+{
+    if set.len() != WORDS {
+        return 0;
+    }
+    if part.len() < count_members(set) {
+        return 0;
+    }
+    put_members(set, part)
 }

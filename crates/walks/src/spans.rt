@@ -13,7 +13,7 @@ ghost use Rattle.passes.specs.Regions.{TargetsFit};
 ghost use Rattle.passes.specs.Spans.{SpansGrow, Spanned, firstOf};
 
 // In a function of its own, so that no other proof sees the zeros.
-pub fn no_spans() -> [u16; 8192]
+pub(crate) fn no_spans() -> [u16; 8192]
     ensures { λ r. ⌜ r ≡ replicate 8192 0 ⌝ }
 {
     [0u16; 8192]
@@ -65,7 +65,7 @@ fn span_call(stmts: &[u16], links: &[u16], c: usize, k: u16, spans: &mut [u16])
 }
 
 // The spans of all calls of a list.
-pub fn span_calls(stmts: &[u16], links: &[u16], calls: &[u16], spans: &mut [u16])
+pub(crate) fn span_calls(stmts: &[u16], links: &[u16], calls: &[u16], spans: &mut [u16])
     requires { ⌜ All (TargetsFit (now stmts) (now links)) (now calls) × (length (now calls) ≤ 4096) × (now spans ≡ replicate 8192 0) ⌝ }
     ensures { λ _. ⌜ Spanned (now (stmts .entry)) (now (links .entry)) (now (calls .entry)) (length (now (calls .entry))) (now (spans .exit)) ⌝ }
 {

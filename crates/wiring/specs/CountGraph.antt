@@ -21,9 +21,10 @@ use Rattle.passes.specs.Walk.{Stored}
 use Rattle.passes.specs.Prepared.{Prepared, Roles}
 use Rattle.tables.specs.Columns.{wordOf}
 use Rattle.passes.specs.PreparedLaws.{prepared-roles, return-row}
-use Rattle.passes.specs.ReturnTotals.{sumWhere, returnSize, sum-where-on}
+use Rattle.passes.specs.ReturnTotals.{sumWhere, returnSize, returnTotal, sum-where-on, total-is}
 use Rattle.passes.specs.ReturnTargets.{TargetsListed, FallsFit, targets-are, roles-falls}
-use Rattle.passes.specs.Regions.{RegionsReady, RegionReturns}
+use Rattle.passes.specs.WalkTables.{RegionsTold}
+use Rattle.passes.specs.RegionLaws.{told-graph}
 use Rattle.passes.specs.Spread.{SpreadTo}
 use Rattle.passes.specs.FillRows.{FillReady}
 use Rattle.passes.specs.EdgeCount.{edge-count, edges-joined}
@@ -55,14 +56,9 @@ module _ {own : ℕ} {stmts args entries falls links frames dispatched : List �
   returns-through true e L p s = record { size = refl; members = λ q. no q; kept = λ q x z. refl }
   returns-through false e L p s = no (sym e)
 
-  pub regions-ready : {room : ℕ} → own ≤ 32768 → ReturnsReady own stmts args entries falls links frames dispatched lines n d lists scratch room → RegionsReady stmts falls links lists scratch n args
-  regions-ready few r =
-      let p = r .prepared in
-      record { wired = wire (r .listing); roles = prepared-roles p; stored = r .stored few; in-sets = p .args-fit; clear = λ i h e j g. return-row p i h e j g }
-
-  pub regions-found : {args′ : List ℕ} (h : Bool) → own ≤ 32768 → RegionReturns stmts falls links lists scratch n args args′ → ReturnsFound h own stmts args entries falls links frames dispatched lines n d lists scratch args′
-  regions-found h few f L p s =
-      let w = f (wire L) (prepared-roles p) (s few) in
+  pub regions-found : {args′ : List ℕ} {r : Bool} (h : Bool) → own ≤ 32768 → RegionsTold stmts falls links lists scratch n args args′ r → ReturnsFound h own stmts args entries falls links frames dispatched lines n d lists scratch args′
+  regions-found {args′} {r} h few f L p s =
+      let w = told-graph stmts falls links lists scratch n args args′ r (wire L) (prepared-roles p) (s few) (p .args-fit) (λ i lt e j g. return-row p i lt e j g) f in
       record { size = w .size; members = λ q r lt e. w .members r lt e; kept = λ q x z. w .others x (λ y. z (y .0) (y .1)) }
 
   pub spread-ready : {room : ℕ} → ReturnsReady own stmts args entries falls links frames dispatched lines n d lists scratch room → FillReady stmts args entries falls links frames dispatched lines n d room
@@ -116,10 +112,6 @@ module _ {handlers : Bool} {stmts args entries falls links frames dispatched : L
   pub count-targets : ((n ≤ 4096) × (n * 12 ≤ length stmts) × (n * 3 ≤ length falls) × (n ≤ length returns)) × FallsFit falls n
   count-targets = let p = c .prepared in ((p .few, p .stmts-fit, p .falls-fit, c .returns-fit), roles-falls (prepared-roles p))
 
-  pub count-backs : {returns′ : List ℕ} {targets : ℕ} (k : ℕ) → TargetsListed stmts falls n returns returns′ targets → k ≡ length args
-      → (n ≤ 4096) × (n * 12 ≤ length stmts) × (n * 64 ≤ k) × (targets ≤ 4096)
-  count-backs k l e = let p = c .prepared in (p .few, p .stmts-fit, omega (arith, p .args-fit, e), omega (arith, l .few, p .few))
-
   module _ {own : ℕ} {lists′ scratch′ : List ℕ} where
     stored-walk : (L : Listing) → Prepared L stmts args entries falls links frames dispatched lines n d → SkipTable (wire L) n lists lists′ scratch scratch′ own → own ≤ 32768 → Stored lists′ scratch′ n (skipSteps (wire L))
     stored-walk L p t few = skips-walk L (p .nodes-are) (c .rows) (t .stored few)
@@ -130,12 +122,15 @@ module _ {handlers : Bool} {stmts args entries falls links frames dispatched : L
 
     module _ {args′ returns′ : List ℕ} {targets back : ℕ} (t : (L : Listing) → Prepared L stmts args entries falls links frames dispatched lines n d → Roles (wire L) stmts falls links n → SkipTable (wire L) n lists lists′ scratch scratch′ own)
         (l : TargetsListed stmts falls n returns returns′ targets) (f : ReturnsFound handlers own stmts args entries falls links frames dispatched lines n d lists′ scratch′ args′)
-        (b : back ≡ sumWhere (λ i. eqb (wordOf stmts i) 9) (λ i. returnSize handlers targets args′ i) n) (L : Listing) (h : handlers ≡ L .handlers) (p : Prepared L stmts args entries falls links frames dispatched lines n d) where
+        (b : back ≡ returnTotal handlers stmts args′ n targets) (L : Listing) (h : handlers ≡ L .handlers) (p : Prepared L stmts args entries falls links frames dispatched lines n d) where
       table : SkipTable (wire L) n lists lists′ scratch scratch′ own
       table = t L p (prepared-roles p)
 
       found : FoundReturns L handlers own stmts n args args′
       found = f L p (stored-walk L p table)
+
+      summed : back ≡ sumWhere (λ i. eqb (wordOf stmts i) 9) (λ i. returnSize handlers targets args′ i) n
+      summed = b ∙ total-is handlers stmts args′ n targets (p .few) (p .stmts-fit) (omega (arith, p .args-fit, found .size)) (omega (arith, l .few, p .few))
 
       listed : take targets returns′ ≡ returnTargets (wire L)
       listed = l .list ∙ targets-are (wire L) stmts falls links n (prepared-roles p)
@@ -157,7 +152,7 @@ module _ {handlers : Bool} {stmts args entries falls links frames dispatched : L
           let q : sumWhere (λ i. eqb (wordOf stmts i) 9) (λ i. returnSize handlers targets args′ i) n ≡ sumWhere (λ i. eqb (wordOf stmts i) 9) (λ i. length (returnEdges (L .handlers) (wire L) i)) n
           = sum-where-on (λ i. eqb (wordOf stmts i) 9) (λ i. returnSize handlers targets args′ i) (λ i. length (returnEdges (L .handlers) (wire L) i)) n
           (λ i lt e. size-of handlers refl i lt (eqb-true (getD stmts (i * 12) 0) 9 e) ∙ ap (λ (x : Bool). length (returnEdges x (wire L) i)) h) in
-          ap (λ (x : ℕ). own + x) (b ∙ q) ∙ ap (λ (x : ℕ). x + sumWhere (λ i. eqb (wordOf stmts i) 9) (λ i. length (returnEdges (L .handlers) (wire L) i)) n) (table .counted) ∙ sym (edge-count L (prepared-roles p))
+          ap (λ (x : ℕ). own + x) (summed ∙ q) ∙ ap (λ (x : ℕ). x + sumWhere (λ i. eqb (wordOf stmts i) 9) (λ i. length (returnEdges (L .handlers) (wire L) i)) n) (table .counted) ∙ sym (edge-count L (prepared-roles p))
 
       left : length returns - targets ≡ length returns′ - length (returnTargets (wire L))
       left = omega (arith, l .size, many)
@@ -185,7 +180,7 @@ module _ {handlers : Bool} {stmts args entries falls links frames dispatched : L
 
     pub count-fits : {args′ returns′ : List ℕ} {targets back : ℕ} → ((L : Listing) → Prepared L stmts args entries falls links frames dispatched lines n d → Roles (wire L) stmts falls links n → SkipTable (wire L) n lists lists′ scratch scratch′ own)
         → TargetsListed stmts falls n returns returns′ targets → ReturnsFound handlers own stmts args entries falls links frames dispatched lines n d lists′ scratch′ args′
-        → back ≡ sumWhere (λ i. eqb (wordOf stmts i) 9) (λ i. returnSize handlers targets args′ i) n → own + back ≤ 16777216
+        → back ≡ returnTotal handlers stmts args′ n targets → own + back ≤ 16777216
     count-fits t l f b =
         let p = c .prepared in
         let q = graph-counted t l f b (c .listing) (c .handled) p in

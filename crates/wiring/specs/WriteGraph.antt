@@ -16,7 +16,8 @@ use Rattle.graph.specs.Graph.{Wired, wire, skipSteps, allSuccessors, continuati
 use Rattle.graph_laws.specs.GraphLaws.{nodeCount, target-ids}
 use Rattle.graph.specs.Build.{edgeCount}
 use Rattle.passes.specs.Compare.{eq-or, lt-or}
-use Rattle.passes.specs.Clearing.{SetsCleared}
+use Rattle.passes.specs.Clearing.{SetsCleared, ClearTold}
+use Rattle.passes.specs.WalkTables.{read-sets}
 use Rattle.passes.specs.EdgeTable.{joinedLists, listRows, columns-past, ListsStored, length-lists}
 use Rattle.tables.specs.Columns.{predCount}
 use Rattle.passes.specs.Predecessors.{NodeLists, predsOf, all-lists, successor-lists}
@@ -200,8 +201,10 @@ counts-written L counts counts′ edges targets c e t p = p ∙ ap (λ (x : List
 
 module _ {L : Listing} {ks : List ℕ} {handlers : Bool} {stmts args entries falls links frames dispatched : List ℕ} {lines n d : ℕ} {counts lists scratch returns : List ℕ} {targets : ℕ} {succ pred : List ℕ}
     (q : WriteHeld L ks handlers stmts args entries falls links frames dispatched lines n d counts lists scratch returns targets succ pred) where
-  pub clear-ready : (n ≤ 4096) × (n * 12 ≤ length stmts) × (n * 64 ≤ length args)
-  clear-ready = let t = q .edges .tables in (t .prepared .few, t .prepared .stmts-fit, omega (arith, t .prepared .args-fit, t .args-size))
+  cleared : {args′ : List ℕ} → ClearTold stmts n args args′ → SetsCleared stmts n args args′
+  cleared s =
+      let t = q .edges .tables in
+      s .fitting (read-sets stmts n args (record { few = t .prepared .few; in-stmts = t .prepared .stmts-fit; in-sets = omega (arith, t .prepared .args-fit, t .args-size) }))
 
   module _ {lists′ succ′ pred′ : List ℕ} {total : ℕ} (w : EdgesWritten handlers stmts args entries falls links frames dispatched lines n d lists lists′ scratch returns targets succ succ′ pred pred′ total) where
     pub counts-ready : (total < 65536) × (targets < 65536)
@@ -209,12 +212,12 @@ module _ {L : Listing} {ks : List ℕ} {handlers : Bool} {stmts args entries fal
         let p = q .edges .tables .prepared in
         (omega (arith, w L ks (q .edges) .counted, q .edges .few-edges), omega (arith, q .targets-are, few-targets L, p .nodes-are, p .few))
 
-    pub graph-written : {args′ counts′ : List ℕ} → SetsCleared stmts n args args′ → counts′ ≡ set (set counts 3 total) 4 targets → WiredGraph L ks counts′ args′ lists′ returns succ′ pred′
+    pub graph-written : {args′ counts′ : List ℕ} → ClearTold stmts n args args′ → counts′ ≡ set (set counts 3 total) 4 targets → WiredGraph L ks counts′ args′ lists′ returns succ′ pred′
     graph-written {args′} {counts′} s c =
         let e = w L ks (q .edges) in
         record {
           counts-are = counts-written L counts counts′ total targets (q .counts-are) (e .counted) (q .targets-are) c;
-          args-are = args-back (q .edges .tables) s;
+          args-are = args-back (q .edges .tables) (cleared s);
           lists-are = e .lists-are;
           returns-are = q .returns-are ∙ sym (return-table L (length returns));
           succ-are = e .succ-are;

@@ -2,13 +2,30 @@
 use crate::fors::NEXT;
 use crate::list_of::list_of;
 use crate::skip_lists::put_fall;
+use reader::tables::zero64;
 use tables::calls::is_call;
-use walks::closure::put_row;
+use tables::widths::wide;
 use walks::return_sets::RETURN;
+use walks::sets::insert;
 ghost use mathlib.Core.Path.{_≡_};
-ghost use Prim.Native.Nat.{_*_, _<_};
-ghost use lib.ListN.{length};
+ghost use Prim.Native.Nat.{_*_, _≤_, _<_};
+ghost use lib.ListN.{length, take};
+ghost use Rattle.graph_laws.specs.EdgeBounds.{Ids};
+ghost use Rattle.passes.specs.Closure.{RowIs};
 ghost use Rattle.passes.specs.FillRows.{SkipReady, SkipMade, inPass, RowReady, RowFilled, PassReady, PassFilled, FillReady, RowsFilled};
+
+// The first count nodes of a list, and no others, as a row.
+fn put_row(row: &mut [u64], list: &[u16], count: usize)
+    requires { ⌜ (length (now row) ≡ 64) × (count ≤ length (now list)) × Ids 4096 (take count (now list)) ⌝ }
+    ensures { λ _. ⌜ RowIs (take count (now (list .entry))) (now (row .exit)) ⌝ }
+{
+    zero64(row);
+    let mut k: usize = 0;
+    while k < count {
+        insert(row, wide(list[k]));
+        k += 1;
+    }
+}
 
 // Where a skipping path steps from node i: from a call where it falls, from a RETURN nowhere, else to its list.
 fn skip_list(

@@ -71,7 +71,7 @@ impl FrameStack {
         ensures { λ r. ⌜ r .words ≡ pushed (self .words) id ⌝ }
     {
         let q = id / 64;
-        let b = bit(id % 64);
+        let b = bit(id);
         let w = self.words[q];
         self.words[q] = w + b;
         self
@@ -92,7 +92,7 @@ impl FrameStack {
         }
         let id = t - 1;
         let q = id / 64;
-        let b = bit(id % 64);
+        let b = bit(id);
         let w = self.words[q];
         self.words[q] = w - b;
         Popped {
@@ -107,7 +107,7 @@ impl FrameStack {
         ensures { λ r. ⌜ (r .frame ≡ suc id) × (r .stack .words ≡ under (self .words) id) ⌝ }
     {
         let q = id / 64;
-        let b = bit(id % 64);
+        let b = bit(id);
         let w = self.words[q];
         self.words[q] = w % b;
         let mut j = q + 1;
@@ -128,7 +128,7 @@ pub(crate) fn below(words: &[u64; 64], id: usize) -> usize
     ensures { λ r. ⌜ (r ≤ id) × (r ≡ topMark (under (now (words .entry)) id)) ⌝ }
 {
     let q = id / 64;
-    let b = bit(id % 64);
+    let b = bit(id);
     let w = words[q] % b;
     if w != 0 {
         return q * 64 + height(w);

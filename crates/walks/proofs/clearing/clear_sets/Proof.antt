@@ -1,58 +1,43 @@
--- `clear_sets`: the sets of the first i nodes are done. Assumes nothing.
-use Prim.Native.Nat.{_-_, _≤_}
-use mathlib.Core.Path.{_≡_}
-use native.Mathlib.Omega.{arith}
-use Rattle.passes.specs.Clearing.{SetsCleared, clear-none, clear-more}
+-- `clear_sets`: tables that hold the nodes, or not. Assumes nothing.
 use borrow.Author.Needs.{needs}
+use mathlib.Core.Path.{refl, sym, _∙_}
+use mathlib.Core.Bool.{true, false}
+use Rattle.passes.specs.Connecting.{no}
+use Rattle.passes.specs.WalkTables.{sets-read}
 use Rattle.walks.proofs.clearing.clear_sets.Statement.{statement}
 use Rattle.walks.proofs.clearing.clear_sets.Tie as tie
 
-abbrev Inv-loop : tie.InvT-loop
-Inv-loop stmts sets₀ n i₀ sets i = (i ≤ n) × SetsCleared stmts i sets₀ sets
+sets-fit-requires : tie.Need-sets-fit-requires
+sets-fit-requires c κs = search needs
 
-abbrev μ-loop : tie.MeasureT-loop
-μ-loop stmts sets₀ n i₀ sets i = n - i
+clear-returns-requires : tie.Need-clear-returns-requires
+clear-returns-requires c κs =
+    let at-fit : tie.After-sets-fit = search in
+    let at-if1 : tie.Then1 = search in
+    let at-start : tie.Start = search in
+    let a = at-start .args in
+    let r = sets-read (a .stmts .now) (a .n) (a .sets .now) (sym (at-fit .sets-fit .ensures) ∙ at-if1 .if1 .taken) in
+    (r .few, r .in-stmts, r .in-sets)
 
-loop-holds : tie.Need-loop-holds Inv-loop μ-loop
-loop-holds c = (omega arith, clear-none _ _)
+same-length : tie.Need-same-length
+same-length c = search needs
 
-clear-set-requires : tie.Need-clear-set-requires Inv-loop μ-loop
-clear-set-requires c κs =
-    let l = c .before .before .loop in
-    (omega arith, omega arith, omega (arith, l .inv .1 .size))
-
-add-i : tie.Need-add-i Inv-loop μ-loop
-add-i c = search needs
-
-loop-less : tie.Need-loop-less Inv-loop μ-loop
-loop-less c = search needs
-
-loop-again : tie.Need-loop-again Inv-loop μ-loop
-loop-again c =
-    let at-loop : tie.At-loop Inv-loop μ-loop = search in
-    let at-start : tie.Start Inv-loop μ-loop = search in
-    let l = at-loop .loop in
-    (omega arith, clear-more (at-start .args .stmts .now) (l .i) (at-start .args .sets .now) (l .sets) _ (l .inv .1) (c .before .before .clear-set .ensures))
-
-same-length : tie.Need-same-length Inv-loop μ-loop
-same-length c = c .before .loop .inv .1 .size
-
-returns : tie.Need-returns Inv-loop μ-loop
+returns : tie.Need-returns
 returns c =
-    let l = c .before .loop in
-    let e : l .i ≡ c .before .before .before .before .args .n = omega arith in
-    rw e at (l .inv .1)
+    let at-clear : tie.After-clear-returns = search in
+    let at-fit : tie.After-sets-fit = search in
+    let at-if1 : tie.Then1 = search in
+    record { fitting = λ e. at-clear .clear-returns .ensures; other = λ e. no (sym (at-if1 .if1 .taken) ∙ at-fit .sets-fit .ensures ∙ e) }
+
+same-length-2 : tie.Need-same-length-2
+same-length-2 c = search needs
+
+returns-2 : tie.Need-returns-2
+returns-2 c =
+    let at-fit : tie.After-sets-fit = search in
+    record { fitting = λ e. no (sym (at-fit .sets-fit .ensures ∙ e) ∙ c .if1 .left); other = λ e. refl }
 
 pub clear-sets-spec : {M : Type 1} → statement M
 clear-sets-spec =
     tie.close
-    (tie.spec
-    Inv-loop
-    μ-loop
-    loop-holds
-    clear-set-requires
-    add-i
-    loop-less
-    loop-again
-    same-length
-    returns)
+    (tie.spec sets-fit-requires clear-returns-requires same-length returns same-length-2 returns-2)

@@ -3,7 +3,7 @@ use borrow.Author.Needs.{needs}
 use mathlib.Core.Path.{sym}
 use native.Mathlib.Omega.{arith}
 use lib.Seq.{length-take-le}
-use Rattle.graph.specs.Graph.{skipSteps}
+use Rattle.passes.specs.Walk.{storedList}
 use Rattle.passes.specs.RegionLaws.{uncalled-joined, span-fits, entry-calls}
 use Rattle.walks.proofs.regions.join_called.Statement.{statement}
 use Rattle.walks.proofs.regions.join_called.Tie as tie
@@ -27,9 +27,8 @@ returns : tie.Need-returns
 returns c =
     let at-start : tie.Start = search in
     let a = at-start .args in
-    λ W r t.
     uncalled-joined (a .stmts .now) (a .falls .now) (a .links .now) (a .n) (a .e) (a .calls .now) (a .spans .now) _ (c .before .wide .result) (at-start .pre .0 .calls-ready .listed) (at-start .pre .0 .spanned)
-    (c .before .wide .ensures) (c .if1 .taken) W r
+    (c .before .wide .ensures) (c .if1 .taken) _
 
 mul-wide-2 : tie.Need-mul-wide-2
 mul-wide-2 c = search needs
@@ -96,7 +95,9 @@ same-length-2 c = c .before .sets .given
 returns-2 : tie.Need-returns-2
 returns-2 c =
     let at-region : tie.After-region = search in
-    λ W s t. c .before .before .join-region .ensures W s (at-region .region .ensures .reached (skipSteps W) t)
+    let at-start : tie.Start = search ways in
+    let step = storedList (at-start .args .lists .now) (at-start .args .edges .now) in
+    c .before .before .join-region .ensures step (at-region .region .ensures .reached step (at-start .pre .0 .stored))
 
 pub join-called-spec : {M : Type 1} → statement M
 join-called-spec =

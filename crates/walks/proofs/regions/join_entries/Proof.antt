@@ -1,16 +1,17 @@
--- `join_entries`: the entries before e are done, whatever listing the tables hold. Assumes nothing.
+-- `join_entries`: the entries before e are done. Assumes nothing.
 use borrow.Author.Needs.{needs}
 use Prim.Native.Nat.{_-_, _≤_}
 use mathlib.Core.Path.{_≡_, refl}
 use native.Mathlib.Omega.{arith}
 use lib.ListN.{length}
-use Rattle.passes.specs.Regions.{EntriesJoined}
+use Rattle.passes.specs.Walk.{storedList}
+use Rattle.passes.specs.Regions.{RegionsJoined}
 use Rattle.passes.specs.RegionLaws.{regions-none, regions-more, entries-again}
 use Rattle.walks.proofs.regions.join_entries.Statement.{statement}
 use Rattle.walks.proofs.regions.join_entries.Tie as tie
 
 abbrev Inv-loop : tie.InvT-loop
-Inv-loop stmts falls links lists edges n calls spans work₀ sets₀ e₀ work sets e = (e ≤ n) × (length work ≡ length work₀) × (length sets ≡ length sets₀) × EntriesJoined stmts falls links lists edges n e sets₀ sets
+Inv-loop stmts falls links lists edges n calls spans work₀ sets₀ e₀ work sets e = (e ≤ n) × (length work ≡ length work₀) × (length sets ≡ length sets₀) × RegionsJoined stmts falls links (storedList lists edges) n e sets₀ sets
 
 abbrev μ-loop : tie.MeasureT-loop
 μ-loop stmts falls links lists edges n calls spans work₀ sets₀ e₀ work sets e = n - e
@@ -19,7 +20,7 @@ loop-holds : tie.Need-loop-holds Inv-loop μ-loop
 loop-holds c =
     let at-start : tie.Start Inv-loop μ-loop = search in
     let a = at-start .args in
-    (omega arith, refl, refl, λ W s t. regions-none W (a .stmts .now) (a .n) (a .sets .now))
+    (omega arith, refl, refl, regions-none (a .stmts .now) (a .falls .now) (a .links .now) (storedList (a .lists .now) (a .edges .now)) (a .n) (a .sets .now))
 
 join-called-requires : tie.Need-join-called-requires Inv-loop μ-loop
 join-called-requires c κs =
@@ -39,7 +40,7 @@ loop-again c =
     let at-start : tie.Start Inv-loop μ-loop = search in
     let a = at-start .args in
     let l = at-loop .loop in
-    (omega arith, search needs, search needs, λ W s t. regions-more W (a .stmts .now) (a .n) (l .e) (a .sets .now) (l .sets) _ (l .inv .3 W s t) (c .before .before .before .before .join-called .ensures W s t))
+    (omega arith, search needs, search needs, regions-more (a .stmts .now) (a .falls .now) (a .links .now) (storedList (a .lists .now) (a .edges .now)) (a .n) (l .e) (a .sets .now) (l .sets) _ (l .inv .3) (c .before .before .before .before .join-called .ensures))
 
 same-length : tie.Need-same-length Inv-loop μ-loop
 same-length c = search needs

@@ -1,94 +1,50 @@
--- `region_return_edges`: the calls are listed, their spans found, all regions joined. Assumes nothing.
+-- `region_return_edges`: tables that can be read, or not. Assumes nothing.
 use borrow.Author.Needs.{needs}
-use mathlib.Core.Path.{sym, ap}
-use native.Mathlib.Omega.{arith}
-use lib.ListN.{length}
-use lib.Seq.{length-take-le}
-use Rattle.passes.specs.WalkLaws.{stored-own}
-use Rattle.passes.specs.RegionLaws.{calls-few, calls-ready, targets-fit, regions-end}
+use mathlib.Core.Path.{refl, sym, _∙_}
+use Rattle.passes.specs.Connecting.{no}
+use Rattle.passes.specs.WalkTables.{calls-read, calls-sets}
+use Rattle.passes.specs.RegionLaws.{read-stored, walks-lists, walks-calls}
 use Rattle.walks.proofs.regions.region_return_edges.Statement.{statement}
 use Rattle.walks.proofs.regions.region_return_edges.Tie as tie
 
-no-work-requires : tie.Need-no-work-requires
-no-work-requires c κs = search needs
+walks-readable-requires : tie.Need-walks-readable-requires
+walks-readable-requires c κs = search needs
 
-slice-aggregate-list-calls : tie.Need-slice-aggregate-list-calls
-slice-aggregate-list-calls c = search needs
-
-list-calls-requires : tie.Need-list-calls-requires
-list-calls-requires c κs = search needs
-
-array-share-prefix-buffer : tie.Need-array-share-prefix-buffer
-array-share-prefix-buffer c =
+join-regions-requires : tie.Need-join-regions-requires
+join-regions-requires c κs =
+    let at-if1 : tie.Then1 = search in
+    let at-readable : tie.After-walks-readable = search in
     let at-start : tie.Start = search in
-    omega (arith, c .before .list-calls .ensures .count, calls-few (at-start .args .stmts .now) (at-start .args .n), at-start .pre .roles .few, c .before .before .before .no-work .ensures)
-
-slice-aggregate-calls : tie.Need-slice-aggregate-calls
-slice-aggregate-calls c =
-    let at-start : tie.Start = search in
-    sym (length-take-le _ _ (omega (arith, c .before .before .list-calls .ensures .count, calls-few (at-start .args .stmts .now) (at-start .args .n), at-start .pre .roles .few, c .before .before .before .before .no-work .ensures)))
-
-no-spans-requires : tie.Need-no-spans-requires
-no-spans-requires c κs = search needs
-
-slice-aggregate-span-calls : tie.Need-slice-aggregate-span-calls
-slice-aggregate-span-calls c = search needs
-
-span-calls-requires : tie.Need-span-calls-requires
-span-calls-requires c κs =
-    let at-start : tie.Start = search in
-    let l = c .before .before .before .before .list-calls .ensures .list in
-    let r = calls-ready (at-start .pre .wired) (at-start .args .stmts .now) (at-start .args .falls .now) (at-start .args .links .now) (at-start .args .n) _ (at-start .pre .roles) l in
-    (targets-fit (r .fit), omega (arith, ap length l, calls-few (at-start .args .stmts .now) (at-start .args .n), at-start .pre .roles .few), c .before .no-spans .ensures)
-
-no-work-requires-2 : tie.Need-no-work-requires-2
-no-work-requires-2 c κs = search needs
-
-slice-aggregate-join-entries : tie.Need-slice-aggregate-join-entries
-slice-aggregate-join-entries c = search needs
-
-slice-aggregate-join-entries-2 : tie.Need-slice-aggregate-join-entries-2
-slice-aggregate-join-entries-2 c = search needs
-
-join-entries-requires : tie.Need-join-entries-requires
-join-entries-requires c κs =
-    let at-span-calls : tie.After-span-calls = search in
-    let at-list-calls : tie.After-list-calls = search in
-    let at-start : tie.Start = search in (
-      record {
-        calls-ready = calls-ready (at-start .pre .wired) (at-start .args .stmts .now) (at-start .args .falls .now) (at-start .args .links .now) (at-start .args .n) _ (at-start .pre .roles) (at-list-calls .list-calls .ensures .list);
-        spanned = at-span-calls .span-calls .ensures;
-        in-spans = search needs;
-        stored = stored-own (at-start .pre .stored);
-        in-sets = at-start .pre .in-sets;
-      },
-      c .before .before .before .no-work2 .ensures,
-    )
+    let a = at-start .args in
+    let h = sym (at-readable .walks-readable .ensures) ∙ at-if1 .if1 .taken in
+    let k = walks-calls (a .stmts .now) (a .falls .now) (a .links .now) (a .lists .now) (a .edges .now) (a .n) (a .sets .now) h in
+    (calls-read (a .stmts .now) (a .falls .now) (a .links .now) (a .n) (a .sets .now) k, read-stored (a .lists .now) (a .edges .now) (a .n) (walks-lists (a .stmts .now) (a .falls .now) (a .links .now) (a .lists .now) (a .edges .now) (a .n) (a .sets .now) h), calls-sets (a .stmts .now) (a .falls .now) (a .links .now) (a .n) (a .sets .now) k)
 
 same-length : tie.Need-same-length
 same-length c = search needs
 
 returns : tie.Need-returns
 returns c =
-    let at-start : tie.Start = search in
-    λ W r t.
-    regions-end W (at-start .args .stmts .now) (at-start .args .falls .now) (at-start .args .links .now) (at-start .args .n) (at-start .args .sets .now) _ r (at-start .pre .in-sets) (at-start .pre .clear) (c .before .before .before .join-entries .ensures W r t)
+    let at-join : tie.After-join-regions = search in
+    let at-if1 : tie.Then1 = search in
+    let at-readable : tie.After-walks-readable = search in
+    record { answer = sym (at-if1 .if1 .taken) ∙ at-readable .walks-readable .ensures; refused = λ e. no e; found = λ e. at-join .join-regions .ensures }
+
+same-length-2 : tie.Need-same-length-2
+same-length-2 c = search needs
+
+returns-2 : tie.Need-returns-2
+returns-2 c =
+    let at-readable : tie.After-walks-readable = search in
+    record { answer = sym (c .if1 .left) ∙ at-readable .walks-readable .ensures; refused = λ e. refl; found = λ e. no (sym e) }
 
 pub region-return-edges-spec : {M : Type 1} → statement M
 region-return-edges-spec =
     tie.close
     (tie.spec
-    no-work-requires
-    slice-aggregate-list-calls
-    list-calls-requires
-    array-share-prefix-buffer
-    slice-aggregate-calls
-    no-spans-requires
-    slice-aggregate-span-calls
-    span-calls-requires
-    no-work-requires-2
-    slice-aggregate-join-entries
-    slice-aggregate-join-entries-2
-    join-entries-requires
+    walks-readable-requires
+    join-regions-requires
     same-length
-    returns)
+    returns
+    same-length-2
+    returns-2)

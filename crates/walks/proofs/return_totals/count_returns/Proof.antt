@@ -1,60 +1,48 @@
--- `count_returns`: the edges of the first i nodes are counted. Assumes nothing.
-use Prim.Native.Nat.{_+_, _-_, _≤_}
-use mathlib.Core.Path.{_≡_}
-use native.Mathlib.Omega.{arith}
-use lib.Dec.{eqb}
-use Rattle.tables.specs.Columns.{wordOf}
-use Rattle.passes.specs.ReturnTotals.{sumWhere, returnSize, sum-where-none, return-sum-next, return-sum-le}
+-- `count_returns`: tables that hold the nodes and few targets, or not. Assumes nothing.
 use borrow.Author.Needs.{needs}
+use mathlib.Core.Path.{sym, _∙_}
+use native.Mathlib.Omega.{arith}
+use Rattle.passes.specs.WalkTables.{sets-read}
+use Rattle.passes.specs.ReturnTotals.{total-by, total-none, total-many}
 use Rattle.walks.proofs.return_totals.count_returns.Statement.{statement}
 use Rattle.walks.proofs.return_totals.count_returns.Tie as tie
 
-abbrev Inv-loop : tie.InvT-loop
-Inv-loop handlers stmts sets n targets sum₀ i₀ sum i = (i ≤ n) × (sum ≡ sumWhere (λ i. eqb (wordOf stmts i) 9) (λ i. returnSize handlers targets sets i) i)
+sets-fit-requires : tie.Need-sets-fit-requires
+sets-fit-requires c κs = search needs
 
-abbrev μ-loop : tie.MeasureT-loop
-μ-loop handlers stmts sets n targets sum₀ i₀ sum i = n - i
-
-loop-holds : tie.Need-loop-holds Inv-loop μ-loop
-loop-holds c = (omega arith, sum-where-none _ _)
-
-return-size-requires : tie.Need-return-size-requires Inv-loop μ-loop
-return-size-requires c κs = search needs
-
-add-sum : tie.Need-add-sum Inv-loop μ-loop
-add-sum c =
-    let at-start : tie.Start Inv-loop μ-loop = search in
-    let l = c .before .before .loop in
-    omega (arith, return-sum-next (at-start .args .handlers) (at-start .args .stmts .now) (at-start .args .targets) (at-start .args .sets .now) (l .i) (l .sum) (c .return-size .result) (l .inv .1) (c .return-size .ensures), return-sum-le (at-start .args .handlers) (at-start .args .stmts .now) (at-start .args .targets) (at-start .args .sets .now) (l .i + 1) (at-start .pre .3))
-
-add-i : tie.Need-add-i Inv-loop μ-loop
-add-i c = search needs
-
-loop-less : tie.Need-loop-less Inv-loop μ-loop
-loop-less c = search needs
-
-loop-again : tie.Need-loop-again Inv-loop μ-loop
-loop-again c =
-    let at-start : tie.Start Inv-loop μ-loop = search in
-    let l = c .before .before .loop in
-    (omega arith, return-sum-next (at-start .args .handlers) (at-start .args .stmts .now) (at-start .args .targets) (at-start .args .sets .now) (l .i) (l .sum) (c .return-size .result) (l .inv .1) (c .return-size .ensures))
-
-returns : tie.Need-returns Inv-loop μ-loop
+returns : tie.Need-returns
 returns c =
-    let l = c .before .loop in
-    let e : l .i ≡ c .before .before .before .before .args .n = omega arith in
-    rw e at (l .inv .1)
+    let at-fit : tie.After-sets-fit = search in
+    let at-if1 : tie.Then1 = search in
+    let at-start : tie.Start = search in
+    let a = at-start .args in
+    total-many (a .handlers) (a .stmts .now) (a .sets .now) (a .n) (a .targets) (sym (at-fit .sets-fit .ensures) ∙ at-if1 .if1 .taken) (c .if2 .taken)
+
+sum-returns-requires : tie.Need-sum-returns-requires
+sum-returns-requires c κs =
+    let at-fit : tie.After-sets-fit = search in
+    let at-if1 : tie.Then1 = search in
+    let at-start : tie.Start = search in
+    let a = at-start .args in
+    let r = sets-read (a .stmts .now) (a .n) (a .sets .now) (sym (at-fit .sets-fit .ensures) ∙ at-if1 .if1 .taken) in
+    (r .few, r .in-stmts, r .in-sets, omega arith)
+
+returns-2 : tie.Need-returns-2
+returns-2 c =
+    let at-fit : tie.After-sets-fit = search in
+    let at-if1 : tie.Then1 = search in
+    let at-if2 : tie.Else2 = search in
+    let at-start : tie.Start = search in
+    let a = at-start .args in
+    c .sum-returns .ensures ∙ sym (total-by (a .handlers) (a .stmts .now) (a .sets .now) (a .n) (a .targets) (sym (at-fit .sets-fit .ensures) ∙ at-if1 .if1 .taken) (omega (arith, at-if2 .if2 .left)))
+
+returns-3 : tie.Need-returns-3
+returns-3 c =
+    let at-fit : tie.After-sets-fit = search in
+    let at-start : tie.Start = search in
+    let a = at-start .args in
+    total-none (a .handlers) (a .stmts .now) (a .sets .now) (a .n) (a .targets) (sym (at-fit .sets-fit .ensures) ∙ c .if1 .left)
 
 pub count-returns-spec : {M : Type 1} → statement M
 count-returns-spec =
-    tie.close
-    (tie.spec
-    Inv-loop
-    μ-loop
-    loop-holds
-    return-size-requires
-    add-sum
-    add-i
-    loop-less
-    loop-again
-    returns)
+    tie.close (tie.spec sets-fit-requires returns sum-returns-requires returns-2 returns-3)

@@ -33,27 +33,27 @@ mul-start c = search needs
 add-end : tie.Need-add-end
 add-end c = search needs
 
-mul-size-of : tie.Need-mul-size-of
-mul-size-of c = search needs
+mul-count-members : tie.Need-mul-count-members
+mul-count-members c = search needs
 
-sub-size-of : tie.Need-sub-size-of
-sub-size-of c = search needs
+sub-count-members : tie.Need-sub-count-members
+sub-count-members c = search needs
 
-part-size-of-start : tie.Need-part-size-of-start
-part-size-of-start c = search needs
+part-count-members-start : tie.Need-part-count-members-start
+part-count-members-start c = search needs
 
-part-size-of-end : tie.Need-part-size-of-end
-part-size-of-end c = search needs
+part-count-members-end : tie.Need-part-count-members-end
+part-count-members-end c = search needs
 
-size-of-requires : tie.Need-size-of-requires
-size-of-requires c κs = search needs
+count-members-requires : tie.Need-count-members-requires
+count-members-requires c κs = search needs
 
 returns-3 : tie.Need-returns-3
 returns-3 c =
     let at-start : tie.Start = search in
     let k : at-start .args .i * 64 + 64 - at-start .args .i * 64 ≡ 64 = omega arith in
     own-return-size (at-start .args .handlers) (at-start .args .stmts .now) (at-start .args .targets) (at-start .args .sets .now) (at-start .args .i) _ (c .before .before .before .if1 .left)
-    (c .size-of .ensures ∙ size-without (at-start .args .handlers) (at-start .args .targets) (at-start .args .sets .now) (at-start .args .i) _ (c .before .before .if2 .left) k)
+    (c .count-members .ensures ∙ size-without (at-start .args .handlers) (at-start .args .targets) (at-start .args .sets .now) (at-start .args .i) _ (c .before .before .if2 .left) k)
 
 pub return-size-spec : {M : Type 1} → statement M
 return-size-spec =
@@ -66,9 +66,9 @@ return-size-spec =
     returns-2
     mul-start
     add-end
-    mul-size-of
-    sub-size-of
-    part-size-of-start
-    part-size-of-end
-    size-of-requires
+    mul-count-members
+    sub-count-members
+    part-count-members-start
+    part-count-members-end
+    count-members-requires
     returns-3)

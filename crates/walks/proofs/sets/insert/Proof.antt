@@ -1,9 +1,14 @@
 -- `insert`: one bit of one word. Assumes nothing.
-use lib.ListN.{set}
-use Rattle.passes.specs.SetLaws.{inserted-is}
 use borrow.Author.Needs.{needs}
+use Rattle.passes.specs.SetLaws.{inserted-is, inserted-out}
 use Rattle.walks.proofs.sets.insert.Statement.{statement}
 use Rattle.walks.proofs.sets.insert.Tie as tie
+
+returns : tie.Need-returns
+returns c =
+    let at-start : tie.Start = search in
+    let a = at-start .args in
+    inserted-out (a .set .now) (a .id) (c .if1 .taken)
 
 bit-requires : tie.Need-bit-requires
 bit-requires c κs = search needs
@@ -23,10 +28,22 @@ slice-write-set c = search needs
 same-length : tie.Need-same-length
 same-length c = search needs
 
-returns : tie.Need-returns
-returns c = inserted-is (c .before .before .before .args .set .now) (c .before .before .before .args .id) (c .before .bit .result) (c .before .bit .ensures)
+returns-2 : tie.Need-returns-2
+returns-2 c =
+    let at-bit : tie.After-bit = search in
+    let at-start : tie.Start = search in
+    let a = at-start .args in
+    inserted-is (a .set .now) (a .id) (at-bit .bit .result) (at-bit .bit .ensures)
 
 pub insert-spec : {M : Type 1} → statement M
 insert-spec =
     tie.close
-    (tie.spec bit-requires mul-set slice-read-set mul-set-2 slice-write-set same-length returns)
+    (tie.spec
+    returns
+    bit-requires
+    mul-set
+    slice-read-set
+    mul-set-2
+    slice-write-set
+    same-length
+    returns-2)

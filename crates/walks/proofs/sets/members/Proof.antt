@@ -1,75 +1,46 @@
--- `members`: those in the first q words are put. Assumes nothing.
+-- `members`: a set of 64 words and room for its members, or not. Assumes nothing.
 use borrow.Author.Needs.{needs}
-use Prim.Native.Nat.{_-_, _≤_}
-use mathlib.Core.Path.{_≡_, refl, _∙_}
+use mathlib.Core.Path.{sym}
 use native.Mathlib.Omega.{arith}
-use lib.ListN.{length, set}
-use Rattle.passes.specs.Sets.{membersTo, Put}
-use Rattle.passes.specs.SetLaws.{set-none, set-room, set-put, set-end}
+use lib.ListN.{length}
+use Rattle.passes.specs.SetLaws.{within-is, within-no-set, within-short, put-nothing}
 use Rattle.walks.proofs.sets.members.Statement.{statement}
 use Rattle.walks.proofs.sets.members.Tie as tie
 
-abbrev Inv-loop : tie.InvT-loop
-Inv-loop set part₀ n₀ q₀ part n q = (q ≤ length set) × (length part ≡ length part₀) × Put part₀ 0 part n (membersTo set q)
+returns : tie.Need-returns
+returns c =
+    let at-start : tie.Start = search in
+    let a = at-start .args in
+    put-nothing (a .set .now) (a .part .now) _ (within-no-set (a .set .now) (length (a .part .now)) (c .if1 .taken))
 
-abbrev μ-loop : tie.MeasureT-loop
-μ-loop set part₀ n₀ q₀ part n q = length set - q
+count-members-requires : tie.Need-count-members-requires
+count-members-requires c κs = search needs
 
-loop-holds : tie.Need-loop-holds Inv-loop μ-loop
-loop-holds c = (omega arith, refl, set-none _ _)
+returns-2 : tie.Need-returns-2
+returns-2 c =
+    let at-count : tie.After-count-members = search in
+    let at-if1 : tie.Else1 = search in
+    let at-start : tie.Start = search in
+    let a = at-start .args in
+    put-nothing (a .set .now) (a .part .now) _ (within-short (a .set .now) (length (a .part .now)) (at-if1 .if1 .left) (omega (arith, at-count .count-members .ensures, c .if2 .taken)))
 
-mul-put-word : tie.Need-mul-put-word Inv-loop μ-loop
-mul-put-word c = search needs
+put-members-requires : tie.Need-put-members-requires
+put-members-requires c κs = search needs
 
-mul-put-word-2 : tie.Need-mul-put-word-2 Inv-loop μ-loop
-mul-put-word-2 c = search needs
-
-shared-slice-read-put-word : tie.Need-shared-slice-read-put-word Inv-loop μ-loop
-shared-slice-read-put-word c = search needs
-
-put-word-requires : tie.Need-put-word-requires Inv-loop μ-loop
-put-word-requires c κs =
-    let at-start : tie.Start Inv-loop μ-loop = search in
-    let l = c .before .before .before .loop in
-    let r = set-room (at-start .args .set .now) (l .q) (omega arith) in
-    (omega arith, omega (arith, r, l .inv .2 .count, l .inv .1, at-start .pre .1))
-
-add-q : tie.Need-add-q Inv-loop μ-loop
-add-q c = search needs
-
-loop-less : tie.Need-loop-less Inv-loop μ-loop
-loop-less c = search needs
-
-loop-again : tie.Need-loop-again Inv-loop μ-loop
-loop-again c =
-    let at-loop : tie.At-loop Inv-loop μ-loop = search in
-    let at-start : tie.Start Inv-loop μ-loop = search in
-    let l = at-loop .loop in
-    let p = c .before .before .put-word in
-    (omega arith, p .kept .0 ∙ l .inv .1, set-put (at-start .args .set .now) (l .q) (at-start .args .part .now) (l .part) (p .last .0) 0 (l .n) (p .result) (l .inv .2) (p .ensures))
-
-same-length : tie.Need-same-length Inv-loop μ-loop
+same-length : tie.Need-same-length
 same-length c = search needs
 
-returns : tie.Need-returns Inv-loop μ-loop
-returns c =
-    let s = c .before .before .before .before in
-    let l = c .before .loop in
-    rw (set-end (s .args .set .now) (l .q) (omega arith)) at (l .inv .2)
+returns-3 : tie.Need-returns-3
+returns-3 c =
+    let at-put : tie.After-put-members = search in
+    let at-if2 : tie.Else2 = search in
+    let at-count : tie.After-count-members = search in
+    let at-if1 : tie.Else1 = search in
+    let at-start : tie.Start = search in
+    let a = at-start .args in
+    rw (within-is (a .set .now) (length (a .part .now)) (at-if1 .if1 .left) (omega (arith, at-count .count-members .ensures, at-if2 .if2 .left))) (at-put .put-members .ensures)
 
 pub members-spec : {M : Type 1} → statement M
 members-spec =
     tie.close
-    (tie.spec
-    Inv-loop
-    μ-loop
-    loop-holds
-    mul-put-word
-    mul-put-word-2
-    shared-slice-read-put-word
-    put-word-requires
-    add-q
-    loop-less
-    loop-again
-    same-length
-    returns)
+    (tie.spec returns count-members-requires returns-2 put-members-requires same-length returns-3)

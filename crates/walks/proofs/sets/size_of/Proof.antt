@@ -1,67 +1,26 @@
--- `size_of`: the members in the first q words are counted. Assumes nothing.
-use Prim.Native.Nat.{_-_, _*_, _≤_}
-use mathlib.Core.Path.{_≡_, ap, _∙_}
-use native.Mathlib.Omega.{arith}
-use lib.ListN.{length, getD, set}
-use Rattle.passes.specs.Sets.{membersTo}
-use lib.Count.{ones-le}
-use Rattle.passes.specs.SetLaws.{size-none, size-more, set-end}
+-- `size_of`: a set of 64 words, or what is none. Assumes nothing.
 use borrow.Author.Needs.{needs}
+use mathlib.Core.Path.{sym, _∙_}
+use native.Mathlib.Omega.{arith}
+use Rattle.passes.specs.SetLaws.{own-size, no-size}
 use Rattle.walks.proofs.sets.size_of.Statement.{statement}
 use Rattle.walks.proofs.sets.size_of.Tie as tie
 
-abbrev Inv-loop : tie.InvT-loop
-Inv-loop set n₀ q₀ n q = (q ≤ length set) × (n ≤ 64 * q) × (n ≡ length (membersTo set q))
+returns : tie.Need-returns
+returns c =
+    let at-start : tie.Start = search in
+    let a = at-start .args in
+    no-size (a .set .now) (c .if1 .taken)
 
-abbrev μ-loop : tie.MeasureT-loop
-μ-loop set n₀ q₀ n q = length set - q
+count-members-requires : tie.Need-count-members-requires
+count-members-requires c κs = search needs
 
-loop-holds : tie.Need-loop-holds Inv-loop μ-loop
-loop-holds c = (omega arith, omega arith, size-none _)
-
-mul-n : tie.Need-mul-n Inv-loop μ-loop
-mul-n c = search needs
-
-shared-slice-read-n : tie.Need-shared-slice-read-n Inv-loop μ-loop
-shared-slice-read-n c = search needs
-
-add-n : tie.Need-add-n Inv-loop μ-loop
-add-n c =
-    let l = c .before .before .loop in
-    let ws = c .before .before .before .args .set .now in
-    omega (arith, ones-le 64 (getD ws (l .q) 0) (c .shared-slice-known .given (l .q) .fits))
-
-add-q : tie.Need-add-q Inv-loop μ-loop
-add-q c = search needs
-
-loop-less : tie.Need-loop-less Inv-loop μ-loop
-loop-less c = search needs
-
-loop-again : tie.Need-loop-again Inv-loop μ-loop
-loop-again c =
-    let l = c .before .before .loop in
-    let ws = c .before .before .before .args .set .now in
-    let f = c .shared-slice-known .given (l .q) .fits in
-    (omega arith, omega (arith, ones-le 64 (getD ws (l .q) 0) f), omega (arith, size-more ws (l .q) f))
-
-cast-result : tie.Need-cast-result Inv-loop μ-loop
-cast-result c = search needs
-
-returns : tie.Need-returns Inv-loop μ-loop
-returns c = c .before .loop .inv .2 ∙ ap length (set-end (c .before .before .args .set .now) (c .before .loop .q) (omega arith))
+returns-2 : tie.Need-returns-2
+returns-2 c =
+    let at-if1 : tie.Else1 = search in
+    let at-start : tie.Start = search in
+    let a = at-start .args in
+    c .count-members .ensures ∙ sym (own-size (a .set .now) (at-if1 .if1 .left))
 
 pub size-of-spec : {M : Type 1} → statement M
-size-of-spec =
-    tie.close
-    (tie.spec
-    Inv-loop
-    μ-loop
-    loop-holds
-    mul-n
-    shared-slice-read-n
-    add-n
-    add-q
-    loop-less
-    loop-again
-    cast-result
-    returns)
+size-of-spec = tie.close (tie.spec returns count-members-requires returns-2)

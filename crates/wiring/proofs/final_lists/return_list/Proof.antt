@@ -3,7 +3,7 @@ use Prim.Native.Nat.{_+_, _-_, _*_}
 use mathlib.Core.Path.{_≡_}
 use native.Mathlib.Omega.{arith}
 use borrow.Author.Needs.{needs}
-use Rattle.passes.specs.FinalLists.{through-ready, through-done, back-ready, back-done}
+use Rattle.passes.specs.FinalLists.{through-ready, through-done, back-done}
 use Rattle.wiring.proofs.final_lists.return_list.Statement.{statement}
 use Rattle.wiring.proofs.final_lists.return_list.Tie as tie
 
@@ -41,11 +41,7 @@ part-members-end : tie.Need-part-members-end
 part-members-end c = search needs
 
 members-requires : tie.Need-members-requires
-members-requires c κs =
-    let at-start : tie.Start = search in
-    let a = at-start .args in
-    let k : a .i * 64 + 64 - a .i * 64 ≡ 64 = omega arith in
-    back-ready (a .handlers) (a .args .now) (a .i) (a .returns .now) (a .targets) (c .before .before .if1 .left) k (at-start .pre .1) (at-start .pre .3)
+members-requires c κs = search needs
 
 same-length-2 : tie.Need-same-length-2
 same-length-2 c = search needs
@@ -56,7 +52,7 @@ returns-2 c =
     let at-start : tie.Start = search in
     let a = at-start .args in
     let k : a .i * 64 + 64 - a .i * 64 ≡ 64 = omega arith in
-    back-done (a .handlers) (a .args .now) (a .i) (a .returns .now) (a .targets) (at-else1 .if1 .left) k (c .before .before .members .ensures) (at-start .pre .3) (same-length-2 c)
+    back-done (a .handlers) (a .args .now) (a .i) (a .returns .now) (a .targets) (at-else1 .if1 .left) k (at-start .pre .1) (c .before .before .members .ensures) (at-start .pre .3) (same-length-2 c)
 
 pub return-list-spec : {M : Type 1} → statement M
 return-list-spec =

@@ -3,7 +3,7 @@ use borrow.Author.Needs.{needs}
 use mathlib.Core.Path.{refl, _∙_}
 use native.Mathlib.Omega.{arith}
 use Rattle.passes.specs.PreparedLaws.{prepared-roles}
-use Rattle.wiring.specs.CountGraph.{count-skips, count-targets, count-found, count-backs, count-fits, graph-counted}
+use Rattle.wiring.specs.CountGraph.{count-skips, count-targets, count-found, count-fits, graph-counted}
 use Rattle.wiring.proofs.wire.count_graph.Statement.{statement}
 use Rattle.wiring.proofs.wire.count_graph.Tie as tie
 
@@ -28,10 +28,7 @@ find-returns-requires c κs =
     count-found r (at-store-skip-lists .store-skip-lists .ensures (r .listing) (r .prepared) (prepared-roles (r .prepared))) _ (at-buffer .buffer .given)
 
 count-returns-requires : tie.Need-count-returns-requires
-count-returns-requires c κs =
-    let at-list-return-targets : tie.After-list-return-targets = search in
-    let at-start : tie.Start = search ways in
-    count-backs (at-start .pre) _ (at-list-return-targets .list-return-targets .ensures) (c .before .before .before .before .args2 .given)
+count-returns-requires c κs = search needs
 
 add-t40 : tie.Need-add-t40
 add-t40 c =

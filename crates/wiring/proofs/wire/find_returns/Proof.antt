@@ -1,6 +1,7 @@
 -- `find_returns`: with handlers nothing; else by regions, or by rows of bits. Assumes nothing.
+use borrow.Author.Needs.{needs}
 use native.Mathlib.Omega.{arith}
-use Rattle.wiring.specs.CountGraph.{returns-through, regions-ready, regions-found, spread-ready, spread-found}
+use Rattle.wiring.specs.CountGraph.{returns-through, regions-found, spread-ready, spread-found}
 use Rattle.wiring.proofs.wire.find_returns.Statement.{statement}
 use Rattle.wiring.proofs.wire.find_returns.Tie as tie
 
@@ -23,7 +24,7 @@ returns-2 c =
     spread-found (at-start .args .handlers) (λ q. omega (arith, at-then2 .if2 .taken)) (c .before .before .before .before .spread-return-edges .ensures)
 
 region-return-edges-requires : tie.Need-region-return-edges-requires
-region-return-edges-requires c κs = let at-start : tie.Start = search in regions-ready (omega (arith, c .before .if2 .left)) (at-start .pre)
+region-return-edges-requires c κs = search needs
 
 same-length-3 : tie.Need-same-length-3
 same-length-3 c = c .before .args3 .given

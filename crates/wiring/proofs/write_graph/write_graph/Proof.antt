@@ -1,5 +1,6 @@
 -- `write_graph`: the lists, then the arguments as read, then the counts. Assumes nothing.
-use Rattle.wiring.specs.WriteGraph.{clear-ready, counts-ready, graph-written}
+use borrow.Author.Needs.{needs}
+use Rattle.wiring.specs.WriteGraph.{counts-ready, graph-written}
 use Rattle.wiring.proofs.write_graph.write_graph.Statement.{statement}
 use Rattle.wiring.proofs.write_graph.write_graph.Tie as tie
 
@@ -10,7 +11,7 @@ write-edges-requires c κs =
     record { listing = q .listing; keys₀ = q .keys₀; edges = q .held .edges; buffer-size = q .buffer-size }
 
 clear-sets-requires : tie.Need-clear-sets-requires
-clear-sets-requires c κs = let at-start : tie.Start = search in clear-ready (at-start .pre .held)
+clear-sets-requires c κs = search needs
 
 -- Ways back from a place to an earlier one. `search` finds each by its type.
 abbrev start-of-write-edges : tie.After-write-edges → tie.Start

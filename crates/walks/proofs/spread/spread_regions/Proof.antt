@@ -4,9 +4,9 @@ use mathlib.Core.Path.{sym, ap}
 use native.Mathlib.Omega.{arith}
 use lib.ListN.{length}
 use lib.Seq.{length-take-le}
-use Rattle.passes.specs.RegionLaws.{calls-few, calls-ready, targets-fit, regions-end}
-use Rattle.wiring.proofs.spread.spread_regions.Statement.{statement}
-use Rattle.wiring.proofs.spread.spread_regions.Tie as tie
+use Rattle.passes.specs.RegionLaws.{calls-few, calls-ready, targets-fit}
+use Rattle.walks.proofs.spread.spread_regions.Statement.{statement}
+use Rattle.walks.proofs.spread.spread_regions.Tie as tie
 
 no-work-requires : tie.Need-no-work-requires
 no-work-requires c κs = search needs
@@ -20,12 +20,12 @@ list-calls-requires c κs = search needs
 array-share-prefix-buffer : tie.Need-array-share-prefix-buffer
 array-share-prefix-buffer c =
     let at-start : tie.Start = search in
-    omega (arith, c .before .list-calls .ensures .count, calls-few (at-start .args .stmts .now) (at-start .args .n), at-start .pre .roles .few, c .before .before .before .no-work .ensures)
+    omega (arith, c .before .list-calls .ensures .count, calls-few (at-start .args .stmts .now) (at-start .args .n), at-start .pre .0 .few, c .before .before .before .no-work .ensures)
 
 slice-aggregate-calls : tie.Need-slice-aggregate-calls
 slice-aggregate-calls c =
     let at-start : tie.Start = search in
-    sym (length-take-le _ _ (omega (arith, c .before .before .list-calls .ensures .count, calls-few (at-start .args .stmts .now) (at-start .args .n), at-start .pre .roles .few, c .before .before .before .before .no-work .ensures)))
+    sym (length-take-le _ _ (omega (arith, c .before .before .list-calls .ensures .count, calls-few (at-start .args .stmts .now) (at-start .args .n), at-start .pre .0 .few, c .before .before .before .before .no-work .ensures)))
 
 no-spans-requires : tie.Need-no-spans-requires
 no-spans-requires c κs = search needs
@@ -37,8 +37,8 @@ span-calls-requires : tie.Need-span-calls-requires
 span-calls-requires c κs =
     let at-start : tie.Start = search in
     let l = c .before .before .before .before .list-calls .ensures .list in
-    let r = calls-ready (at-start .pre .wired) (at-start .args .stmts .now) (at-start .args .falls .now) (at-start .args .links .now) (at-start .args .n) _ (at-start .pre .roles) l in
-    (targets-fit (r .fit), omega (arith, ap length l, calls-few (at-start .args .stmts .now) (at-start .args .n), at-start .pre .roles .few), c .before .no-spans .ensures)
+    let r = calls-ready (at-start .pre .0) l in
+    (targets-fit (r .fit), omega (arith, ap length l, calls-few (at-start .args .stmts .now) (at-start .args .n), at-start .pre .0 .few), c .before .no-spans .ensures)
 
 no-work-requires-2 : tie.Need-no-work-requires-2
 no-work-requires-2 c κs = search needs
@@ -55,10 +55,10 @@ spread-entries-requires c κs =
     let at-list-calls : tie.After-list-calls = search in
     let at-start : tie.Start = search in (
       record {
-        calls-ready = calls-ready (at-start .pre .wired) (at-start .args .stmts .now) (at-start .args .falls .now) (at-start .args .links .now) (at-start .args .n) _ (at-start .pre .roles) (at-list-calls .list-calls .ensures .list);
+        calls-ready = calls-ready (at-start .pre .0) (at-list-calls .list-calls .ensures .list);
         spanned = at-span-calls .span-calls .ensures;
         in-spans = search needs;
-        in-rows = at-start .pre .in-rows;
+        in-rows = at-start .pre .1;
       },
       c .before .before .before .no-work2 .ensures,
     )
@@ -67,10 +67,7 @@ same-length : tie.Need-same-length
 same-length c = search needs
 
 returns : tie.Need-returns
-returns c =
-    let at-start : tie.Start = search in
-    λ W r t.
-    regions-end W (at-start .args .stmts .now) (at-start .args .falls .now) (at-start .args .links .now) (at-start .args .n) (at-start .args .rows .now) _ r (at-start .pre .in-rows) (at-start .pre .clear) (c .before .before .before .spread-entries .ensures W r t)
+returns c = c .before .before .before .spread-entries .ensures
 
 pub spread-regions-spec : {M : Type 1} → statement M
 spread-regions-spec =

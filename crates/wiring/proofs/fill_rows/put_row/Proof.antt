@@ -6,8 +6,8 @@ use native.Mathlib.Omega.{arith}
 use lib.ListN.{take}
 use Rattle.passes.specs.Closure.{RowIs}
 use Rattle.passes.specs.ClosureLaws.{row-none, row-more, row-id}
-use Rattle.walks.proofs.closure.put_row.Statement.{statement}
-use Rattle.walks.proofs.closure.put_row.Tie as tie
+use Rattle.wiring.proofs.fill_rows.put_row.Statement.{statement}
+use Rattle.wiring.proofs.fill_rows.put_row.Tie as tie
 
 abbrev Inv-loop : tie.InvT-loop
 Inv-loop row₀ list count k₀ row k = (k ≤ count) × RowIs (take k list) row
@@ -33,11 +33,7 @@ wide-requires : tie.Need-wide-requires Inv-loop μ-loop
 wide-requires c κs = search needs
 
 insert-requires : tie.Need-insert-requires Inv-loop μ-loop
-insert-requires c κs =
-    let at-start : tie.Start Inv-loop μ-loop = search in
-    let l = c .before .before .before .before .loop in
-    let h = row-id (at-start .args .list .now) (at-start .args .count) (l .k) (at-start .pre .2) (c .before .before .before .loop-test .taken) (at-start .pre .1) in
-    omega (arith, l .inv .1 .size, h, c .wide .ensures)
+insert-requires c κs = search needs
 
 add-k : tie.Need-add-k Inv-loop μ-loop
 add-k c = search needs

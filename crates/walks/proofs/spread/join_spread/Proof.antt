@@ -3,10 +3,9 @@ use borrow.Author.Needs.{needs}
 use mathlib.Core.Path.{sym}
 use native.Mathlib.Omega.{arith}
 use lib.Seq.{length-take-le}
-use Rattle.graph.specs.Graph.{skipSteps}
 use Rattle.passes.specs.RegionLaws.{uncalled-joined, span-fits, entry-calls}
-use Rattle.wiring.proofs.spread.join_spread.Statement.{statement}
-use Rattle.wiring.proofs.spread.join_spread.Tie as tie
+use Rattle.walks.proofs.spread.join_spread.Statement.{statement}
+use Rattle.walks.proofs.spread.join_spread.Tie as tie
 
 mul-at : tie.Need-mul-at
 mul-at c = search needs
@@ -27,9 +26,9 @@ returns : tie.Need-returns
 returns c =
     let at-start : tie.Start = search in
     let a = at-start .args in
-    λ W r t.
+    λ step o.
     uncalled-joined (a .stmts .now) (a .falls .now) (a .links .now) (a .n) (a .e) (a .calls .now) (a .spans .now) _ (c .before .wide .result) (at-start .pre .0 .calls-ready .listed) (at-start .pre .0 .spanned)
-    (c .before .wide .ensures) (c .if1 .taken) W r
+    (c .before .wide .ensures) (c .if1 .taken) step
 
 mul-wide-2 : tie.Need-mul-wide-2
 mul-wide-2 c = search needs
@@ -94,7 +93,7 @@ same-length-2 c = c .before .rows .given
 returns-2 : tie.Need-returns-2
 returns-2 c =
     let at-list-row : tie.After-list-row = search in
-    λ W s t. c .before .before .join-region .ensures W s (at-list-row .list-row .ensures .1 (skipSteps W) t)
+    λ step o. c .before .before .join-region .ensures step (at-list-row .list-row .ensures .1 step o)
 
 pub join-spread-spec : {M : Type 1} → statement M
 join-spread-spec =

@@ -1,4 +1,4 @@
--- `spread_entries`: the entries before e are done, whatever listing the tables hold. Assumes nothing.
+-- `spread_entries`: the entries before e are done, whichever steps the rows are closed over. Assumes nothing.
 use borrow.Author.Needs.{needs}
 use Prim.Native.Nat.{_-_, _≤_}
 use mathlib.Core.Path.{_≡_, refl}
@@ -7,8 +7,8 @@ use lib.ListN.{length}
 use Rattle.passes.specs.RegionLaws.{regions-none}
 use Rattle.passes.specs.Spread.{EntriesSpread}
 use Rattle.passes.specs.SpreadLaws.{entries-more, spread-again}
-use Rattle.wiring.proofs.spread.spread_entries.Statement.{statement}
-use Rattle.wiring.proofs.spread.spread_entries.Tie as tie
+use Rattle.walks.proofs.spread.spread_entries.Statement.{statement}
+use Rattle.walks.proofs.spread.spread_entries.Tie as tie
 
 abbrev Inv-loop : tie.InvT-loop
 Inv-loop stmts falls links n calls spans work₀ rows₀ e₀ work rows e = (e ≤ n) × (length work ≡ length work₀) × (length rows ≡ length rows₀) × EntriesSpread stmts falls links n e rows₀ rows
@@ -20,7 +20,7 @@ loop-holds : tie.Need-loop-holds Inv-loop μ-loop
 loop-holds c =
     let at-start : tie.Start Inv-loop μ-loop = search in
     let a = at-start .args in
-    (omega arith, refl, refl, λ W s o. regions-none W (a .stmts .now) (a .n) (a .rows .now))
+    (omega arith, refl, refl, λ step o. regions-none (a .stmts .now) (a .falls .now) (a .links .now) step (a .n) (a .rows .now))
 
 join-spread-requires : tie.Need-join-spread-requires Inv-loop μ-loop
 join-spread-requires c κs =
