@@ -5,7 +5,7 @@ use mathlib.Core.Option.{Option, none, some}
 use lib.Dec.{ltb, leb}
 use lib.ListN.{length, getD}
 use Rattle.listings.specs.Bytes.{pick}
-use Rattle.graph.specs.Nodes.{entryOf}
+use Rattle.graph.specs.Nodes.{entryIn}
 use Rattle.tables.specs.Columns.{entriesIn}
 use Rattle.graph.specs.Questions.{Reply, answer, refused}
 use Rattle.adjacency.specs.declared.entry.Entered.{Entered}
@@ -20,7 +20,7 @@ nodeIn nodes (some i) = pick (ltb i nodes) (answer (some i)) (refused 25 0)
 unfoldable pub entryAt : (counts lines entries : List ℕ) (number : ℕ) → Reply (Option ℕ)
 entryAt counts lines entries number =
     pick (leb (getD counts 0 0) (length lines))
-    (pick (leb (getD counts 0 0) (length entries)) (nodeIn (getD counts 1 0) (entryOf (entriesIn (getD counts 0 0) lines entries) number)) (refused 25 0))
+    (pick (leb (getD counts 0 0) (length entries)) (nodeIn (getD counts 1 0) (entryIn (entriesIn (getD counts 0 0) lines entries) number)) (refused 25 0))
     (refused 25 0)
 
 -- document 01's number and place for each refusal

@@ -7,7 +7,7 @@ use native.Mathlib.Omega.{arith}
 use native.Mathlib.Decide.{ℕ-discrete}
 use borrow.Author.Tests.{lt-ltb, le-ltb, le-leb, lt-leb, eq-eqb, ne-eqb}
 use lib.ListN.{length, getD}
-use Rattle.graph.specs.Nodes.{entryOf}
+use Rattle.graph.specs.Nodes.{entryIn}
 use Rattle.tables.specs.Columns.{entryNode, entriesIn}
 use Rattle.adjacency.specs.EntryAt.{nodeIn, entryAt, enteredOf}
 use Rattle.adjacency.specs.declared.entry.Entered.the-variants as entered
@@ -23,8 +23,8 @@ not-next lines number i ne h j l e = elim (ℕ-discrete j i) [ yes q ↦ ne (ap 
 
 -- the first line with the number has its entry
 pub first-found : (n : ℕ) (lines entries : List ℕ) (number i : ℕ) → n ≤ length lines → n ≤ length entries → i < n → getD lines i 0 ≡ number → NotBefore lines number i
-    → entryNode (getD entries i 0) ≡ entryOf (entriesIn n lines entries) number
-unfolding entriesIn entryOf
+    → entryNode (getD entries i 0) ≡ entryIn (entriesIn n lines entries) number
+unfolding entriesIn entryIn
 first-found zero lines entries number i a b h e f = absurd (omega arith)
 first-found (suc n) [] entries number i a b h e f = absurd (omega arith)
 first-found (suc n) (m ∷ lines) [] number i a b h e f = absurd (omega arith)
@@ -32,8 +32,8 @@ first-found (suc n) (m ∷ lines) (d ∷ entries) number zero a b h e f = rw (eq
 first-found (suc n) (m ∷ lines) (d ∷ entries) number (suc i) a b h e f =
     rw (ne-eqb m number (f 0 (omega arith))) (first-found n lines entries number i (omega arith) (omega arith) (omega arith) e (λ j l. f (suc j) (omega arith)))
 
-pub none-found : (n : ℕ) (lines entries : List ℕ) (number i : ℕ) → n ≤ i → NotBefore lines number i → none ≡ entryOf (entriesIn n lines entries) number
-unfolding entriesIn entryOf
+pub none-found : (n : ℕ) (lines entries : List ℕ) (number i : ℕ) → n ≤ i → NotBefore lines number i → none ≡ entryIn (entriesIn n lines entries) number
+unfolding entriesIn entryIn
 none-found zero lines entries number i h f = refl
 none-found (suc n) [] entries number i h f = refl
 none-found (suc n) (m ∷ lines) [] number i h f = refl
@@ -53,7 +53,7 @@ module _ (counts lines entries : List ℕ) (number count : ℕ) (c : count ≡ g
     unfolding entryAt enteredOf
     entries-outside h = rw (le-leb (getD counts 0 0) (length lines) (omega arith), lt-leb (getD counts 0 0) (length entries) (omega arith)) refl
 
-    module _ (b : count ≤ length entries) (e : ℕ) (f : entryNode e ≡ entryOf (entriesIn count lines entries) number) where
+    module _ (b : count ≤ length entries) (e : ℕ) (f : entryNode e ≡ entryIn (entriesIn count lines entries) number) where
       entry-by : entryAt counts lines entries number ≡ nodeIn (getD counts 1 0) (entryNode e)
       unfolding entryAt
       entry-by = rw (le-leb (getD counts 0 0) (length lines) (omega arith), le-leb (getD counts 0 0) (length entries) (omega arith), ← c, ← f) refl

@@ -4,7 +4,7 @@ use tables::widths::count_of;
 ghost use mathlib.Core.Path.{_≡_};
 ghost use Prim.Native.Nat.{_<_, _≤_};
 ghost use lib.ListN.{length};
-ghost use Rattle.graph.specs.Nodes.{entryOf};
+ghost use Rattle.graph.specs.Nodes.{entryIn};
 ghost use Rattle.tables.specs.Columns.{entryNode, entriesIn};
 ghost use Rattle.adjacency.specs.EntryAt.{entryAt, enteredOf};
 
@@ -18,7 +18,7 @@ pub enum Entered {
 // The entry of the first of n lines with that number: one more than the node, or 0. The numbers need not ascend.
 fn first_entry(lines: &[u16], entries: &[u16], n: usize, number: u16) -> u16
     requires { ⌜ (n ≤ length (now lines)) × (n ≤ length (now entries)) ⌝ }
-    ensures { λ r. ⌜ entryNode r ≡ entryOf (entriesIn n (now (lines .entry)) (now (entries .entry))) number ⌝ }
+    ensures { λ r. ⌜ entryNode r ≡ entryIn (entriesIn n (now (lines .entry)) (now (entries .entry))) number ⌝ }
 {
     let mut i: usize = 0;
     while i < n {

@@ -9,7 +9,7 @@ use Rattle.listings.specs.Bytes.{same, pick}
 use Rattle.listings.specs.Listing.{Name, Slot, Simple, goto, gosub, return, run, runto, ongoto, ongosub, for, next, repeat, loop, until, endloop, exit, exitif, doif, else, done, clr, stop, any}
 use Rattle.graph.specs.Lists.{each, list}
 use Rattle.graph.specs.Nodes.{NodeStmt, simple, cond, Node, Entries, entryOf}
-use Rattle.graph.specs.Targets.{targetEntries, firstEntry, allEntries, branchEdges, dispatchTargets, orphanEdges}
+use Rattle.graph.specs.Targets.{targetEntries, branchEdges, dispatchTargets, orphanEdges}
 
 -- ---- the three stacks, newest frame first
 
@@ -167,9 +167,9 @@ ownSimple es (gosub t) e bs b = list (entryOf es t)
 ownSimple es (runto t) e bs b = list (entryOf es t)
 ownSimple es (ongoto ts) e bs b = targetEntries es ts ++ list e
 ownSimple es (ongosub ts) e bs b = targetEntries es ts ++ list e
-ownSimple es run e bs b = firstEntry es
+ownSimple es run e bs b = list (es .first)
 ownSimple es stop e bs b = []
-ownSimple es any e bs b = allEntries es
+ownSimple es any e bs b = es .all
 -- "FOR falls and pushes a frame"; NEXT: "the popped body is added; last it falls"
 ownSimple es (for v t) e bs b = list e
 ownSimple es (next m ss) e bs b = bs ++ list e

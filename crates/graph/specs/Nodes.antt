@@ -5,6 +5,7 @@ use mathlib.Core.Option.{Option, none, some}
 use lib.Dec.{eqb}
 use Rattle.listings.specs.Bytes.{pick}
 use Rattle.listings.specs.Listing.{Simple, CondWord, BranchForm, to, stmts, absent, Stmts, ∅, _▸_, branching, Lines, nolines, line, size, len, total, count}
+use Rattle.graph.specs.Lists.{each, list}
 
 -- "A branch gives its target or first statement; an empty one falls"; one that is absent falls too
 pub data BranchTarget : Type 0 where
@@ -59,24 +60,45 @@ unfolding allocate lineEntry total count
 nodesBefore e nolines = []
 nodesBefore e (line ls n s) = nodesBefore (lineEntry (total ls) s e) ls ++ allocate (count ls) n [] (total ls) 0 e s
 
--- line numbers with their entries, ascending
-abbrev pub Entries : Type 0
-Entries = List (ℕ × Option ℕ)
-
-unfoldable pub entriesBefore : Option ℕ → Lines → Entries
-unfolding lineEntry total
-entriesBefore e nolines = []
-entriesBefore e (line ls n s) = let d = lineEntry (total ls) s e in entriesBefore d ls ++ ((n, d) ∷ [])
-
 unfoldable pub nodes : Lines → List Node
 unfolding nodesBefore
 nodes ls = nodesBefore none ls
 
+-- ---- line entries
+
+-- a line's number and entry
+abbrev pub LineEntry : Type 0
+LineEntry = ℕ × Option ℕ
+
+-- the line entries as the rules ask for them: by number, ascending; the first line's; all nodes that are entries, ascending
+pub record Entries : Type 0 where
+  pub rows : List LineEntry
+  pub first : Option ℕ
+  pub all : List ℕ
+
+-- those of lines after which comes e: "entries ascending by line number", as the lines do
+unfoldable pub entriesBefore : Option ℕ → Lines → List LineEntry
+unfolding lineEntry total
+entriesBefore e nolines = []
+entriesBefore e (line ls n s) = let d = lineEntry (total ls) s e in entriesBefore d ls ++ ((n, d) ∷ [])
+
+-- "RUN without number: the first line's entry"
+unfoldable pub firstEntry : List LineEntry → Option ℕ
+firstEntry [] = none
+firstEntry (d ∷ ds) = d .1
+
+-- "`any`: all line entries, ascending": by node as by number, while the lines ascend
+unfoldable pub allEntries : List LineEntry → List ℕ
+allEntries ds = each (λ (d : LineEntry). list (d .1)) ds
+
 unfoldable pub entries : Lines → Entries
-unfolding entriesBefore
-entries ls = entriesBefore none ls
+unfolding entriesBefore firstEntry allEntries
+entries ls = let ds = entriesBefore none ls in record { rows = ds; first = firstEntry ds; all = allEntries ds }
 
 -- the entry of the line with number n, if there is such a line and it has one
-unfoldable pub entryOf : Entries → ℕ → Option ℕ
-entryOf [] n = none
-entryOf (d ∷ es) n = pick (eqb (d .0) n) (d .1) (entryOf es n)
+unfoldable pub entryIn : List LineEntry → ℕ → Option ℕ
+entryIn [] n = none
+entryIn (d ∷ ds) n = pick (eqb (d .0) n) (d .1) (entryIn ds n)
+
+abbrev pub entryOf : Entries → ℕ → Option ℕ
+entryOf es n = entryIn (es .rows) n

@@ -42,7 +42,7 @@ printed L =
     let W = wire L in
     bytes "(graph" ++ spaced (0 ∷ length (W .nodes) ∷ []) ++ bytes "\n"
     ++ nodeRows (allSuccessors L) 0 (W .nodes)
-    ++ each entryRow (W .entries)
+    ++ each entryRow (W .entries .rows)
     ++ bytes "(returns" ++ spaced (returnTargets W) ++ bytes ")\n"
     ++ each (backRow W) (below (length (W .nodes)))
     ++ bytes ")\n"

@@ -11,15 +11,6 @@ use Rattle.graph.specs.Nodes.{BranchTarget, toLine, toNode, falls, NodeS
 unfoldable pub targetEntries : Entries → List ℕ → List ℕ
 targetEntries es ts = each (λ t. list (entryOf es t)) ts
 
--- "RUN without number: the first line's entry"
-unfoldable pub firstEntry : Entries → List ℕ
-firstEntry [] = []
-firstEntry (d ∷ es) = list (d .1)
-
--- "`any`: all line entries, ascending"
-unfoldable pub allEntries : Entries → List ℕ
-allEntries es = each (λ (d : ℕ × Option ℕ). list (d .1)) es
-
 unfoldable pub branchEdges : Entries → Option ℕ → BranchTarget → List ℕ
 branchEdges es e (toLine t) = list (entryOf es t)
 branchEdges es e (toNode j) = j ∷ []

@@ -11,8 +11,8 @@ use Rattle.graph.specs.Lists.{has, add, addAll, each, list}
 use Rattle.listings.specs.Every.{All, all[], all∷, all-append}
 use Rattle.graph_laws.specs.Members.{all-each}
 use Rattle.graph.specs.Nodes.{BranchTarget, toLine, toNode, falls, NodeStmt, simple, cond, Node, Entries, entryOf}
-use Rattle.graph_laws.specs.NodeLaws.{Below, BelowTarget, BelowStmt, NodeFits, EntryFits, entry-fits}
-use Rattle.graph.specs.Targets.{targetEntries, firstEntry, allEntries, branchEdges, onFor, onNext, onSimple, dispatchTarget, dispatchTargets, selectable, orphanTargets, orphanEdges}
+use Rattle.graph_laws.specs.NodeLaws.{Below, BelowTarget, BelowStmt, NodeFits, EntriesFit, entry-fits}
+use Rattle.graph.specs.Targets.{targetEntries, branchEdges, onFor, onNext, onSimple, dispatchTarget, dispatchTargets, selectable, orphanTargets, orphanEdges}
 use Rattle.graph_laws.specs.TargetLaws.{on-for, on-next, on-simple}
 use Rattle.graph.specs.Edges.{ForFrame, Frame, Stacks, emptyStacks, ForMove, keepFors, pushFor, popFors, Move, stays, opens, closes, joins, Moves, nodeMoves, findFor, underOr, foundOr, popFor, popped, left, forsAfter, framesAfter, stacksAfter, frameBody, poppedBodies, closedBody, closerEdges, ownSimple, own, Edge, fromNode, toFall, wired, orphans, edges, ends, sent, loopStack, doStack}
 
@@ -122,7 +122,7 @@ module _ (n : ℕ) where
   closer-ids none hb hl = all[]
   closer-ids (some b) hb hl = all-append hb hl
 
-  module _ (es : Entries) (he : All (EntryFits n) es) where
+  module _ (es : Entries) (he : EntriesFit n es) where
     to-ids : (t : ℕ) → Ids n (list (entryOf es t))
     to-ids t = list-ids (entryOf es t) (entry-fits n he t)
 
@@ -131,13 +131,8 @@ module _ (n : ℕ) where
     targets-ids [] = all[]
     targets-ids (t ∷ ts) = all-append (to-ids t) (targets-ids ts)
 
-    first-ids : {l : Entries} → All (EntryFits n) l → Ids n (firstEntry l)
-    unfolding firstEntry
-    first-ids all[] = all[]
-    first-ids (all∷ {a = d} p ps) = list-ids (d .1) p
-
     simple-ids : (o : Simple) (e : Option ℕ) (bs : List ℕ) (b : Option (List ℕ)) → Below n e → Ids n bs → IdsIn n b → Ids n (ownSimple es o e bs b)
-    unfolding ownSimple allEntries
+    unfolding ownSimple
     simple-ids Simple.plain e bs b be hs hb = list-ids e be
     simple-ids clr e bs b be hs hb = list-ids e be
     simple-ids (goto t) e bs b be hs hb = to-ids t
@@ -145,9 +140,9 @@ module _ (n : ℕ) where
     simple-ids (runto t) e bs b be hs hb = to-ids t
     simple-ids (ongoto ts) e bs b be hs hb = all-append (targets-ids ts) (list-ids e be)
     simple-ids (ongosub ts) e bs b be hs hb = all-append (targets-ids ts) (list-ids e be)
-    simple-ids run e bs b be hs hb = first-ids he
+    simple-ids run e bs b be hs hb = list-ids (es .first) (he .first)
     simple-ids stop e bs b be hs hb = all[]
-    simple-ids any e bs b be hs hb = all-each (λ (d : ℕ × Option ℕ). list (d .1)) (λ d h. list-ids (d .1) h) he
+    simple-ids any e bs b be hs hb = he .all
     simple-ids (for v t) e bs b be hs hb = list-ids e be
     simple-ids (next m ss) e bs b be hs hb = all-append hs (list-ids e be)
     simple-ids repeat e bs b be hs hb = list-ids e be

@@ -14,8 +14,8 @@ use Rattle.listings.specs.Listing.{Listing, total}
 use Rattle.graph.specs.Lists.{has, addAll, each, list, below, ascending, Ascending, asc[], asc∷}
 use Rattle.listings.specs.Every.{All, all[], all∷, all-append}
 use Rattle.graph_laws.specs.Members.{all-mem, all-each, all-at, ascending-asc, ascending-mem, past}
-use Rattle.graph.specs.Nodes.{Node, Entries, entries, nodes, entriesBefore, nodesBefore}
-use Rattle.graph_laws.specs.NodeLaws.{Below, NodeFits, EntryFits, length-nodes, nodes-fit, entries-fit}
+use Rattle.graph.specs.Nodes.{Node, entries, nodes, nodesBefore}
+use Rattle.graph_laws.specs.NodeLaws.{Below, NodeFits, EntriesFit, length-nodes, nodes-fit, entries-fit}
 use Rattle.graph_laws.specs.EdgeBounds.{Ids, list-ids, edges-to, ends-ids, addAll-ids}
 use Rattle.graph_laws.specs.Distinct.{Distinct, dist[], few, distinct-all, distinct-ascending}
 use Rattle.graph.specs.Edges.{edges, ends}
@@ -37,9 +37,9 @@ module _ (L : Listing) where
   unfolding wire nodes
   fits = nodes-fit (length (nodesBefore none (L .lines))) none (L .lines) (omega (arith, length-nodes none (L .lines))) tt
 
-  pub entry-ids : All (EntryFits (nodeCount L)) (wire L .entries)
-  unfolding wire entries nodes
-  entry-ids = entries-fit (length (nodesBefore none (L .lines))) none (L .lines) (omega (arith, length-nodes none (L .lines))) tt
+  pub entry-ids : EntriesFit (nodeCount L) (wire L .entries)
+  unfolding wire nodes
+  entry-ids = entries-fit (length (nodesBefore none (L .lines))) (L .lines) (omega (arith, length-nodes none (L .lines)))
 
   pub fall-below : (i : ℕ) → Below (nodeCount L) (fallFrom (wire L) i)
   unfolding fallFrom fallOf

@@ -10,7 +10,9 @@ use lib.ListN.{length, length-append}
 use Rattle.listings.specs.Bytes.{pick}
 use Rattle.listings.specs.Listing.{BranchForm, to, stmts, absent, Stmts, ∅, _▸_, branching, Lines, nolines, line, size, len, total, count}
 use Rattle.listings.specs.Every.{All, all[], all∷, all-append}
-use Rattle.graph.specs.Nodes.{BranchTarget, toLine, toNode, falls, NodeStmt, simple, cond, Node, branchTarget, allocate, lineEntry, nodesBefore, Entries, entriesBefore, entryOf}
+use Rattle.graph.specs.Lists.{list}
+use Rattle.graph_laws.specs.Members.{all-each}
+use Rattle.graph.specs.Nodes.{BranchTarget, toLine, toNode, falls, NodeStmt, simple, cond, Node, branchTarget, allocate, lineEntry, nodesBefore, LineEntry, Entries, entriesBefore, firstEntry, allEntries, entries, entryIn, entryOf}
 
 pub length-allocate : (li n : ℕ) (p : List ℕ) (i k : ℕ) (e : Option ℕ) (s : Stmts) → length (allocate li n p i k e s) ≡ size s
 unfolding allocate size
@@ -45,7 +47,7 @@ BelowStmt n (cond w a b) = BelowTarget n a × BelowTarget n b
 abbrev pub NodeFits : ℕ → Node → Type 0
 NodeFits n d = Below n (d .fall) × BelowStmt n (d .stmt)
 
-abbrev pub EntryFits : ℕ → ℕ × Option ℕ → Type 0
+abbrev pub EntryFits : ℕ → LineEntry → Type 0
 EntryFits n d = Below n (d .1)
 
 target-fits : (n : ℕ) (t : BranchForm) (i : ℕ) (b : Stmts) → i + size b ≤ n → BelowTarget n (branchTarget t i b)
@@ -79,18 +81,41 @@ nodes-fit n e nolines h be = all[]
 nodes-fit n e (line ls m s) h be =
     all-append (nodes-fit n (lineEntry (total ls) s e) ls (omega arith) (line-fits n (total ls) s e h be)) (allocate-fits n (count ls) m [] (total ls) 0 e s be h)
 
-pub entries-fit : (n : ℕ) (e : Option ℕ) (ls : Lines) → total ls ≤ n → Below n e → All (EntryFits n) (entriesBefore e ls)
+rows-fit : (n : ℕ) (e : Option ℕ) (ls : Lines) → total ls ≤ n → Below n e → All (EntryFits n) (entriesBefore e ls)
 unfolding entriesBefore total
-entries-fit n e nolines h be = all[]
-entries-fit n e (line ls m s) h be =
+rows-fit n e nolines h be = all[]
+rows-fit n e (line ls m s) h be =
     let bd = line-fits n (total ls) s e h be in
-    all-append (entries-fit n (lineEntry (total ls) s e) ls (omega arith) bd) (all∷ bd all[])
+    all-append (rows-fit n (lineEntry (total ls) s e) ls (omega arith) bd) (all∷ bd all[])
 
-pub entry-fits : (n : ℕ) {es : Entries} → All (EntryFits n) es → (t : ℕ) → Below n (entryOf es t)
-unfolding entryOf
-entry-fits n all[] t = tt
-entry-fits n (all∷ {a = d} {l = es} p ps) t = go (eqb (d .0) t) (entry-fits n ps t)
+row-fits : (n : ℕ) {ds : List LineEntry} → All (EntryFits n) ds → (t : ℕ) → Below n (entryIn ds t)
+unfolding entryIn
+row-fits n all[] t = tt
+row-fits n (all∷ {a = d} {l = ds} p ps) t = go (eqb (d .0) t) (row-fits n ps t)
   where
-    go : (x : Bool) → Below n (entryOf es t) → Below n (pick x (d .1) (entryOf es t))
+    go : (x : Bool) → Below n (entryIn ds t) → Below n (pick x (d .1) (entryIn ds t))
     go true q = p
     go false q = q
+
+-- all entries are nodes
+pub record EntriesFit (n : ℕ) (es : Entries) : Type 0 where
+  pub rows : All (EntryFits n) (es .rows)
+  pub first : Below n (es .first)
+  pub all : All (λ (i : ℕ). i < n) (es .all)
+
+pub entries-fit : (n : ℕ) (ls : Lines) → total ls ≤ n → EntriesFit n (entries ls)
+unfolding entries firstEntry allEntries list
+entries-fit n ls h =
+    let a = rows-fit n none ls h tt in
+    record { rows = a; first = first-fits a; all = all-each (λ (d : LineEntry). list (d .1)) (λ d p. list-fits (d .1) p) a }
+  where
+    first-fits : {ds : List LineEntry} → All (EntryFits n) ds → Below n (firstEntry ds)
+    first-fits all[] = tt
+    first-fits (all∷ p ps) = p
+
+    list-fits : (e : Option ℕ) → Below n e → All (λ (i : ℕ). i < n) (list e)
+    list-fits none p = all[]
+    list-fits (some i) p = all∷ p all[]
+
+pub entry-fits : (n : ℕ) {es : Entries} → EntriesFit n es → (t : ℕ) → Below n (entryOf es t)
+entry-fits n f t = row-fits n (f .rows) t

@@ -4,6 +4,7 @@ use mathlib.Core.Path.{_≡_, refl, sym, ap, _∙_}
 use mathlib.Core.Bool.{Bool, true, false, not}
 use mathlib.Core.List.{List, [], _∷_, _++_, append-assoc, append-nil}
 use mathlib.Core.Option.{Option, none, some}
+use mathlib.Core.Logic.{⊎-elim}
 use native.Mathlib.Omega.{arith}
 use native.Mathlib.Numerals.{add-one, sub-one}
 use borrow.Author.Tests.{lt-ltb, le-ltb}
@@ -11,13 +12,16 @@ use lib.ListN.{length, getD, take}
 use lib.Seq.{sets, getD-at}
 use Rattle.listings.specs.Listing.{BranchForm, to, stmts, absent, Stmts, ∅, _▸_, branching, Lines, nolines, line, size, total, count}
 use Rattle.listings.specs.ListingText.{StmtsOk, LinesOk}
-use Rattle.listings.specs.Records.{branchNumber, branchLine, stmtRecs, lineRecs}
-use Rattle.listings.specs.ReadingRecords.{lines-length}
+use Rattle.listings.specs.Records.{Rec, recRow, branchNumber, branchLine, stmtRecs, lineRecs}
+use Rattle.listings.specs.Every.{All, all[], all∷, all-append}
+use Rattle.listings.specs.ReadingRecords.{stmts-length, lines-length}
 use Rattle.graph_laws.specs.Adding.{nodeNumber}
 use Rattle.graph_laws.specs.NodeLaws.{length-nodes}
+use Rattle.graph_laws.specs.Members.{all-map}
+use Rattle.passes.specs.Compare.{lt-or}
 use Rattle.graph.specs.Nodes.{branchTarget, allocate, lineEntry, nodesBefore, nodes, Entries, entryOf, entriesBefore, entries}
 use Rattle.passes.specs.Held.{LinesHeld, StmtsHeld}
-use Rattle.passes.specs.LineEntries.{entryNumbers, entryRows, numbers-append, numbers-length, entries-length}
+use Rattle.passes.specs.LineEntries.{entryNumbers, entryRows, numbers-append, numbers-length, entries-length, stmts-line}
 use Rattle.passes.specs.LineSearch.{EntryTable, EntriesHeld, EntryFound, lines-exact}
 use Rattle.passes.specs.Falls.{leads, fallRows, Head, leaf, fork, headSize, headRow, fallsOf, headFalls, Spans, HeadAt, HeadOk, Written, targetOf, BranchLed, RowConnected, StmtConnected, BranchConnected, LinesConnected, AllLines}
 use Rattle.passes.specs.FallLaws.{rows-append, falls-nodes, falls-length, rows-length, sets-before, sets-padded, RecsAt, recs-split, recs-at, spans-recs, Prefix, prefix-∅, prefix-all, prefix-le, More, more, row-width}
@@ -199,23 +203,50 @@ module _ (lines entries rows : List ℕ) (depth i end next : ℕ) (t : List ℕ)
 
 -- ---- the lines, from the last up
 
--- the node of an entry, or else `end`
-abbrev pub startOf : (entry end : ℕ) → ℕ
-startOf zero end = end
-startOf (suc a) end = a
+-- where the statements of line l begin that end at `end`, by the records: all from there on are of that line, and the one before is not
+pub record Begins (rows : List ℕ) (l end from : ℕ) : Type 0 where
+  pub within : from ≤ end
+  pub own : (i : ℕ) → from ≤ i → i < end → getD rows (i * 12 + 1) 0 ≡ l
+  pub other : 0 < from → getD rows ((from - 1) * 12 + 1) 0 ≡ l → ⊥
 
-pub start-none : (entry end : ℕ) → entry ≡ 0 → end ≡ startOf entry end
-start-none zero end e = refl
-start-none (suc a) end e = absurd (omega arith)
+-- what holds of the lines of records holds of the column
+line-column : (P : ℕ → Type 0) (rows : List ℕ) (i : ℕ) (rs : List Rec) → RecsAt rows i rs → All (λ (r : Rec). P (r .line)) rs → (k : ℕ) → i ≤ k → k < i + length rs → P (getD rows (k * 12 + 1) 0)
+unfolding recRow
+line-column P rows i [] h all[] k a b = absurd (omega arith)
+line-column P rows i (r ∷ rs) h (all∷ p ps) k a b =
+    ⊎-elim (λ (g : i < k). line-column P rows (suc i) rs (h .1) ps k g (omega arith)) (λ (g : k ≤ i). let q : k ≡ i = omega arith in rw (q, h .0 1 (omega arith)) p) (lt-or i k)
 
-pub start-at : (entry end : ℕ) → (entry ≡ 0 → ⊥) → entry - 1 ≡ startOf entry end
-start-at zero end f = absurd (f refl)
-start-at (suc a) end f = sub-one (suc a)
+-- the statements of lines have these lines' indices
+lines-before : (ls : Lines) → All (λ (r : Rec). r .line < count ls) (lineRecs ls)
+unfolding lineRecs count
+lines-before nolines = all[]
+lines-before (line ls n s) = all-append (all-map (λ r h. omega arith) (lines-before ls)) (all-map (λ r e. omega arith) (stmts-line (count ls) 0 0 (total ls) s))
 
--- an entry that is there is the first node after the lines
-abbrev Follows : Option ℕ → ℕ → Type 0
-Follows none n = Unit {0}
-Follows (some a) n = a ≡ n
+-- a line's statements begin behind those of the lines before it
+module _ (rows : List ℕ) (ls : Lines) (s : Stmts) (before : RecsAt rows 0 (lineRecs ls)) (own : RecsAt rows (total ls) (stmtRecs (count ls) 0 0 (total ls) s)) (end from : ℕ)
+    (ee : end ≡ total ls + size s) (b : Begins rows (count ls) end from) where
+  not-before : from < total ls → ⊥
+  not-before h =
+      omega (arith, b .own from (omega arith) (omega arith), line-column (λ (l : ℕ). l < count ls) rows 0 (lineRecs ls) before (lines-before ls) from (omega arith) (omega (arith, lines-length ls)))
+
+  not-behind : total ls < from → ⊥
+  not-behind h =
+      b .other (omega arith)
+      (line-column (λ (l : ℕ). l ≡ count ls) rows (total ls) (stmtRecs (count ls) 0 0 (total ls) s) own (stmts-line (count ls) 0 0 (total ls) s) (from - 1) (omega arith) (omega (arith, b .within, stmts-length (count ls) 0 0 (total ls) s)))
+
+  line-begins : from ≡ total ls
+  line-begins = ⊎-elim (λ (h : from < total ls). absurd (not-before h)) (λ (h : total ls ≤ from). ⊎-elim (λ (g : total ls < from). absurd (not-behind g)) (λ (g : from ≤ total ls). omega arith) (lt-or (total ls) from)) (lt-or from (total ls))
+
+-- ---- as the search meets it
+
+pub begins-start : (rows : List ℕ) (l end i : ℕ) → i ≡ end → (k : ℕ) → i ≤ k → k < end → getD rows (k * 12 + 1) 0 ≡ l
+begins-start rows l end i e k a b = absurd (omega arith)
+
+-- one more statement of the line
+pub begins-down : (rows : List ℕ) (l end i : ℕ) → 0 < i → getD rows ((i - 1) * 12 + 1) 0 ≡ l → ((k : ℕ) → i ≤ k → k < end → getD rows (k * 12 + 1) 0 ≡ l)
+    → (k : ℕ) → i - 1 ≤ k → k < end → getD rows (k * 12 + 1) 0 ≡ l
+begins-down rows l end i h e f k a b =
+    ⊎-elim (λ (g : i - 1 < k). f k (omega arith) b) (λ (g : k ≤ i - 1). let q : k ≡ i - 1 = omega arith in rw q e) (lt-or (i - 1) k)
 
 -- the statements of the lines after `lines` are connected; `after` is the entry of the first of those
 pub record Ahead (es : Entries) (ns : List ℕ) (entries rows t u : List ℕ) (l end next : ℕ) : Type 0 where
@@ -226,52 +257,38 @@ pub record Ahead (es : Entries) (ns : List ℕ) (entries rows t u : List ℕ) (l
   pub left : l ≡ count lines
   pub end-is : end ≡ total lines
   pub next-is : next ≡ nodeNumber after
-  pub follows : Follows after (total lines)
   pub ok : LinesOk lines
   pub held : RecsAt rows 0 (lineRecs lines)
   pub entered : entries ≡ entryNumbers (entriesBefore after lines) ++ others
   pub table : u ≡ sets t (total lines * 3) done
   pub same : fallRows es (nodesBefore after lines) ++ done ≡ ns
 
-line-follows : (i : ℕ) (s : Stmts) (e : Option ℕ) → Follows e (i + size s) → Follows (lineEntry i s e) i
-unfolding lineEntry size
-line-follows i ∅ none h = tt
-line-follows i ∅ (some a) h = omega arith
-line-follows i (s ▸ o) e h = refl
-line-follows i (branching s w t a u b) e h = refl
-
-line-starts : (i : ℕ) (s : Stmts) (e : Option ℕ) → Follows e (i + size s) → startOf (nodeNumber (lineEntry i s e)) (i + size s) ≡ i
-unfolding lineEntry size
-line-starts i ∅ none h = omega arith
-line-starts i ∅ (some a) h = omega arith
-line-starts i (s ▸ o) e h = refl
-line-starts i (branching s w t a u b) e h = refl
-
 module _ (lines entries rows t : List ℕ) (es : Entries) (ns : List ℕ) (et : EntryTable es lines entries (length lines)) (u v : List ℕ) (l end next from : ℕ) (r : Bool)
-    (con : from ≤ end → BranchConnected lines entries rows 17 from end next u v r) where
-  ahead-line : (ls : Lines) (e : Option ℕ) (done others : List ℕ) → suc l ≡ count ls → end ≡ total ls → next ≡ nodeNumber e → Follows e (total ls) → LinesOk ls
+    (begins : Begins rows l end from) (con : BranchConnected lines entries rows 17 from end next u v r) where
+  ahead-line : (ls : Lines) (e : Option ℕ) (done others : List ℕ) → suc l ≡ count ls → end ≡ total ls → next ≡ nodeNumber e → LinesOk ls
       → RecsAt rows 0 (lineRecs ls) → entries ≡ entryNumbers (entriesBefore e ls) ++ others → u ≡ sets t (total ls * 3) done → fallRows es (nodesBefore e ls) ++ done ≡ ns
-      → from ≡ startOf (getD entries l 0) end → (from ≤ end) × (r ≡ true) × Ahead es ns entries rows t v l from (getD entries l 0)
+      → (r ≡ true) × Ahead es ns entries rows t v l from (getD entries l 0)
   unfolding count total LinesOk lineRecs entriesBefore entryNumbers nodesBefore
-  ahead-line nolines e done others c ee en fo ok ra en′ eu ea ef = absurd (omega arith)
-  ahead-line (line ls n s) e done others c ee en fo ok ra en′ eu ea ef =
+  ahead-line nolines e done others c ee en ok ra en′ eu ea = absurd (omega arith)
+  ahead-line (line ls n s) e done others c ee en ok ra en′ eu ea =
       let d = lineEntry (total ls) s e in
       let E = entryNumbers (entriesBefore d ls) in
       let g : entries ≡ E ++ (nodeNumber d ∷ others) = en′ ∙ ap (λ (x : List ℕ). x ++ others) (numbers-append (entriesBefore d ls) ((n, d) ∷ [])) ∙ simp append-assoc in
       let k : length E ≡ l = numbers-length (entriesBefore d ls) ∙ entries-length d ls ∙ omega arith in
       let x : getD entries l 0 ≡ nodeNumber d = ap (λ (y : List ℕ). getD y l 0) g ∙ getD-at E (nodeNumber d) others 0 l k in
-      let f : from ≡ total ls = ef ∙ ap (λ (y : ℕ). startOf y end) x ∙ ap (startOf (nodeNumber d)) ee ∙ line-starts (total ls) s e fo in
       let sr = recs-split rows 0 (lineRecs ls) (stmtRecs (count ls) 0 0 (total ls) s) ra in
       let z : 0 + length (lineRecs ls) ≡ total ls = omega (arith, lines-length ls) in
-      let sp : Spans rows from s = rw f (spans-recs rows (count ls) 0 0 (total ls) s (rw z at (sr .1))) in
-      let w = con (omega arith) es et 0 refl s sp (ok .3) (omega arith) in
+      let own : RecsAt rows (total ls) (stmtRecs (count ls) 0 0 (total ls) s) = rw z at (sr .1) in
+      let li : l ≡ count ls = omega arith in
+      let f : from ≡ total ls = line-begins rows ls s (sr .0) own end from ee (rw li at begins) in
+      let sp : Spans rows from s = rw f (spans-recs rows (count ls) 0 0 (total ls) s own) in
+      let w = con es et 0 refl s sp (ok .3) (omega arith) in
       let F = fallsOf es from next s in
       let ff : fallsOf es (total ls) (nodeNumber e) s ≡ F = rw (f, en) in
       let nf : fallRows es (nodesBefore d ls ++ allocate (count ls) n [] (total ls) 0 e s) ≡ fallRows es (nodesBefore d ls) ++ F
       = rows-append es (nodesBefore d ls) (allocate (count ls) n [] (total ls) 0 e s)
       ∙ ap (λ (y : List ℕ). fallRows es (nodesBefore d ls) ++ y) (falls-nodes es (count ls) n [] (total ls) 0 e s ∙ ff) in
       let lf : total (line ls n s) * 3 ≡ from * 3 + length F = omega (arith, falls-length es from next s) in (
-        omega arith,
         w .done,
         record {
           lines = ls;
@@ -281,7 +298,6 @@ module _ (lines entries rows t : List ℕ) (es : Entries) (ns : List ℕ) (et : 
           left = omega arith;
           end-is = f;
           next-is = x;
-          follows = line-follows (total ls) s e fo;
           ok = ok .0;
           held = sr .0;
           entered = g;
@@ -292,13 +308,13 @@ module _ (lines entries rows t : List ℕ) (es : Entries) (ns : List ℕ) (et : 
 
 -- the line before place l is the next one
 pub ahead-down : (lines entries rows t : List ℕ) (es : Entries) (ns : List ℕ) → EntryTable es lines entries (length lines) → (u v : List ℕ) (l end next from : ℕ) (r : Bool) → 0 < l
-    → from ≡ startOf (getD entries (l - 1) 0) end → Ahead es ns entries rows t u l end next → (from ≤ end → BranchConnected lines entries rows 17 from end next u v r)
-    → (from ≤ end) × (r ≡ true) × Ahead es ns entries rows t v (l - 1) from (getD entries (l - 1) 0)
-ahead-down lines entries rows t es ns et u v zero end next from r h ef a con = absurd (omega arith)
-ahead-down lines entries rows t es ns et u v (suc l) end next from r h ef a con =
+    → Begins rows (l - 1) end from → Ahead es ns entries rows t u l end next → BranchConnected lines entries rows 17 from end next u v r
+    → (r ≡ true) × Ahead es ns entries rows t v (l - 1) from (getD entries (l - 1) 0)
+ahead-down lines entries rows t es ns et u v zero end next from r h b a con = absurd (omega arith)
+ahead-down lines entries rows t es ns et u v (suc l) end next from r h b a con =
     rw sub-one
-    (ahead-line lines entries rows t es ns et u v l end next from r con (a .lines) (a .after) (a .done) (a .others) (a .left) (a .end-is) (a .next-is) (a .follows) (a .ok) (a .held) (a .entered)
-    (a .table) (a .same) (rw (sub-one (suc l)) at ef))
+    (ahead-line lines entries rows t es ns et u v l end next from r (rw (sub-one (suc l)) at b) con (a .lines) (a .after) (a .done) (a .others) (a .left) (a .end-is) (a .next-is) (a .ok) (a .held) (a .entered)
+    (a .table) (a .same))
 
 pub ahead-start : (lines table rows t : List ℕ) (n : ℕ) (ls : Lines) → LinesHeld ls lines (length lines) → EntriesHeld ls table → StmtsHeld ls rows n
     → Ahead (entries ls) (fallRows (entries ls) (nodes ls)) table rows t t (length lines) n 0
@@ -312,7 +328,6 @@ ahead-start lines table rows t n ls lh eh sh =
       left = lh .counted;
       end-is = sh .counted;
       next-is = refl;
-      follows = tt;
       ok = lh .in-form;
       held = rw (sh .rows) (recs-at (lineRecs ls) [] (sh .rest) 0 (omega arith));
       entered = eh .rows;

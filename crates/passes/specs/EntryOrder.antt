@@ -10,13 +10,12 @@ use lib.ListN.{length, getD, set, take, drop, length-append, take-append-drop}
 use lib.Seq.{drop-cons, take-suc-set, getD-append-seam}
 use Rattle.listings.specs.Every.{All, all[], all∷, all-append}
 use Rattle.listings.specs.Listing.{Stmts, ∅, _▸_, branching, Lines, nolines, line, size, total}
-use Rattle.graph.specs.Lists.{has, each}
+use Rattle.graph.specs.Lists.{has, each, list}
 use Rattle.graph_laws.specs.ListLaws.{has-found, has-none}
 use Rattle.graph_laws.specs.Adding.{nodeNumber, decode, decode-number}
 use Rattle.graph_laws.specs.Members.{all-map}
 use Rattle.graph_laws.specs.EdgeBounds.{Ids}
-use Rattle.graph.specs.Nodes.{lineEntry, Entries, entriesBefore, entries}
-use Rattle.graph.specs.Targets.{firstEntry, allEntries}
+use Rattle.graph.specs.Nodes.{lineEntry, LineEntry, entriesBefore, entries, firstEntry, allEntries}
 use Rattle.graph_laws.specs.ForLaws.{each-append}
 use Rattle.passes.specs.LineEntries.{entryNumbers, entryRows, numbers-append}
 use Rattle.passes.specs.Growing.{Grows, RoomFor, grows-old, grows-new, all-left}
@@ -170,12 +169,12 @@ entries-rise ls = rises-front (entryNumbers (entriesBefore none ls)) 0 0 (entrie
 
 -- ---- what they lead to, by the definition
 
-pub all-entries : (es : Entries) → each decode (entryNumbers es) ≡ allEntries es
+pub all-entries : (es : List LineEntry) → each decode (entryNumbers es) ≡ allEntries es
 unfolding entryNumbers allEntries each
 all-entries [] = refl
 all-entries (d ∷ es) = rw (decode-number (d .1), all-entries es)
 
-pub first-entry : (es : Entries) → each decode (take 1 (entryNumbers es)) ≡ firstEntry es
-unfolding entryNumbers firstEntry each
+pub first-entry : (es : List LineEntry) → each decode (take 1 (entryNumbers es)) ≡ list (firstEntry es)
+unfolding entryNumbers firstEntry each list
 first-entry [] = refl
 first-entry (d ∷ es) = append-nil (decode (nodeNumber (d .1))) ∙ decode-number (d .1)

@@ -21,7 +21,7 @@ use Rattle.listings.specs.RecordLaws.{rec-at}
 use Rattle.listings.specs.Rows.{openingWords}
 use Rattle.listings.specs.WordTable.{words, first, wordIndex}
 use Rattle.graph_laws.specs.Adding.{nodeNumber}
-use Rattle.graph.specs.Nodes.{NodeStmt, simple, cond, Node, Entries, entryOf, entries, nodesBefore, nodes}
+use Rattle.graph.specs.Nodes.{NodeStmt, simple, cond, Node, LineEntry, Entries, entryIn, entryOf, entries, nodesBefore, nodes}
 use Rattle.graph_laws.specs.NodeLaws.{length-nodes}
 use Rattle.graph.specs.NodeWords.{stmtWord, stmtNumber}
 use Rattle.graph_laws.specs.NodeRecords.{StmtIs, lines-match, match-at}
@@ -70,15 +70,15 @@ count-few w c = by-test (namesLines w) (leb c 64) refl
 
 -- ---- a number above 65535
 
-no-line : (es : Entries) (n : ℕ) → 65535 < n → ((k : ℕ) → getD (numbersOf es) k 0 ≤ 65535) → _≡_ {A = ℕ} 0 (nodeNumber (entryOf es n))
-unfolding entryOf numbersOf
+no-line : (es : List LineEntry) (n : ℕ) → 65535 < n → ((k : ℕ) → getD (numbersOf es) k 0 ≤ 65535) → _≡_ {A = ℕ} 0 (nodeNumber (entryIn es n))
+unfolding entryIn numbersOf
 no-line [] n h f = refl
 no-line (d ∷ es) n h f =
     let e : eqb (d .0) n ≡ false = ne-eqb (d .0) n (λ q. absurd (omega (arith, f 0))) in
     rw e (no-line es n h (λ k. f (suc k)))
 
 pub large-number : (lines table : List ℕ) (c n : ℕ) → 65535 < n → EntryFound lines table c n 0
-large-number lines table c n h es t = no-line es n h (t .small)
+large-number lines table c n h es t = no-line (es .rows) n h (t .small)
 
 -- ---- one row, entry by entry
 

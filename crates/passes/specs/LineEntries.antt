@@ -12,24 +12,24 @@ use Rattle.listings.specs.Records.{Rec, recRow, recRows, padded, stmtRecs, line
 use Rattle.listings.specs.RecordLaws.{rec-at}
 use Rattle.listings.specs.Every.{All, all[], all∷, all-append}
 use Rattle.listings.specs.ReadingRecords.{lines-length}
-use Rattle.graph.specs.Nodes.{lineEntry, Entries, entriesBefore, entries}
+use Rattle.graph.specs.Nodes.{lineEntry, LineEntry, entriesBefore, entries}
 use Rattle.graph_laws.specs.Adding.{nodeNumber}
 use Rattle.passes.specs.Held.{StmtsHeld}
 
 -- the entries of lines after which comes e, as the table has them
-unfoldable pub entryNumbers : Entries → List ℕ
+unfoldable pub entryNumbers : List LineEntry → List ℕ
 entryNumbers [] = []
 entryNumbers (d ∷ es) = nodeNumber (d .1) ∷ entryNumbers es
 
 unfoldable pub entryRows : Lines → List ℕ
-entryRows ls = entryNumbers (entries ls)
+entryRows ls = entryNumbers (entries ls .rows)
 
-pub numbers-append : (ds es : Entries) → entryNumbers (ds ++ es) ≡ entryNumbers ds ++ entryNumbers es
+pub numbers-append : (ds es : List LineEntry) → entryNumbers (ds ++ es) ≡ entryNumbers ds ++ entryNumbers es
 unfolding entryNumbers
 numbers-append [] es = refl
 numbers-append (d ∷ ds) es = ap (λ (l : List ℕ). nodeNumber (d .1) ∷ l) (numbers-append ds es)
 
-pub numbers-length : (es : Entries) → length (entryNumbers es) ≡ length es
+pub numbers-length : (es : List LineEntry) → length (entryNumbers es) ≡ length es
 unfolding entryNumbers
 numbers-length [] = refl
 numbers-length (d ∷ es) = ap suc (numbers-length es)
@@ -103,7 +103,7 @@ unfolding firstNodes
 first-one i l t r [] (all∷ e all[]) = rw e
 first-one i l t r (q ∷ rs) (all∷ e es) = rw (first-one (suc i) l t q rs es, e, set-set)
 
-stmts-line : (li h k i : ℕ) (s : Stmts) → All (λ (r : Rec). r .line ≡ li) (stmtRecs li h k i s)
+pub stmts-line : (li h k i : ℕ) (s : Stmts) → All (λ (r : Rec). r .line ≡ li) (stmtRecs li h k i s)
 unfolding stmtRecs simpleRec condRec
 stmts-line li h k i ∅ = all[]
 stmts-line li h k i (s ▸ o) = all-append (stmts-line li h k i s) (all∷ refl all[])

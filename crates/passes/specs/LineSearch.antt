@@ -18,7 +18,7 @@ use Rattle.listings.specs.Records.{lineNumbers, padded}
 use Rattle.listings.specs.ReadingRecords.{numbers-count}
 use Rattle.passes.specs.Compare.{lt-or}
 use Rattle.graph_laws.specs.Adding.{nodeNumber}
-use Rattle.graph.specs.Nodes.{lineEntry, Entries, entriesBefore, entries, entryOf}
+use Rattle.graph.specs.Nodes.{lineEntry, LineEntry, Entries, entriesBefore, entries, entryIn, entryOf}
 use Rattle.passes.specs.Held.{LinesHeld}
 use Rattle.passes.specs.LineEntries.{entryNumbers, entryRows, numbers-length, entries-length}
 
@@ -106,47 +106,47 @@ module _ (lines : List ℕ) (n number : ℕ) (fits : n ≤ length lines) where
 
 -- ---- the entry
 
-unfoldable pub numbersOf : Entries → List ℕ
+unfoldable pub numbersOf : List LineEntry → List ℕ
 numbersOf [] = []
 numbersOf (d ∷ es) = d .0 ∷ numbersOf es
 
 -- the tables of line numbers and of entries hold es, n lines
 pub record EntryTable (es : Entries) (lines entries : List ℕ) (n : ℕ) : Type 0 where
-  pub counted : n ≡ length es
-  pub ascends : Ascending (numbersOf es)
-  pub small : (k : ℕ) → getD (numbersOf es) k 0 ≤ 65535
+  pub counted : n ≡ length (es .rows)
+  pub ascends : Ascending (numbersOf (es .rows))
+  pub small : (k : ℕ) → getD (numbersOf (es .rows)) k 0 ≤ 65535
   pub more : List ℕ
-  pub numbers : lines ≡ numbersOf es ++ more
+  pub numbers : lines ≡ numbersOf (es .rows) ++ more
   pub rest : List ℕ
-  pub nodes : entries ≡ entryNumbers es ++ rest
+  pub nodes : entries ≡ entryNumbers (es .rows) ++ rest
 
 -- line l, as both tables list it
-pub entry-at : (es : Entries) (more rest : List ℕ) (l : ℕ) (d : ℕ × Option ℕ) → getElem? es l ≡ some d → (getD (numbersOf es ++ more) l 0 ≡ d .0) × (getD (entryNumbers es ++ rest) l 0 ≡ nodeNumber (d .1))
+pub entry-at : (es : List LineEntry) (more rest : List ℕ) (l : ℕ) (d : LineEntry) → getElem? es l ≡ some d → (getD (numbersOf es ++ more) l 0 ≡ d .0) × (getD (entryNumbers es ++ rest) l 0 ≡ nodeNumber (d .1))
 unfolding numbersOf entryNumbers
 entry-at [] more rest l d e = absurd (let z : _≡_ {A = ℕ} 0 1 = cc in omega arith)
-entry-at (c ∷ es) more rest zero d e = let q : c ≡ d = cc in (ap (λ (x : ℕ × Option ℕ). x .0) q, ap (λ (x : ℕ × Option ℕ). nodeNumber (x .1)) q)
+entry-at (c ∷ es) more rest zero d e = let q : c ≡ d = cc in (ap (λ (x : LineEntry). x .0) q, ap (λ (x : LineEntry). nodeNumber (x .1)) q)
 entry-at (c ∷ es) more rest (suc l) d e = entry-at es more rest l d e
 
 abbrev pub EntryFound : (lines entries : List ℕ) (n number r : ℕ) → Type 0
 EntryFound lines entries n number r = (es : Entries) → EntryTable es lines entries n → r ≡ nodeNumber (entryOf es number)
 
-numbers-long : (es : Entries) → length (numbersOf es) ≡ length es
+numbers-long : (es : List LineEntry) → length (numbersOf es) ≡ length es
 unfolding numbersOf
 numbers-long [] = refl
 numbers-long (d ∷ es) = ap suc (numbers-long es)
 
 -- what the search for a number tells of its entry
-abbrev By : ℕ → Entries → ℕ → Type 0
-By number es zero = _≡_ {A = ℕ} 0 (nodeNumber (entryOf es number))
-By number es (suc k) = (k < length es) × (getD (entryNumbers es) k 0 ≡ nodeNumber (entryOf es number))
+abbrev By : ℕ → List LineEntry → ℕ → Type 0
+By number es zero = _≡_ {A = ℕ} 0 (nodeNumber (entryIn es number))
+By number es (suc k) = (k < length es) × (getD (entryNumbers es) k 0 ≡ nodeNumber (entryIn es number))
 
-by-onward : (number : ℕ) (d : ℕ × Option ℕ) (es : Entries) (p : ℕ) → eqb (d .0) number ≡ false → By number es p → By number (d ∷ es) (onward p)
-unfolding entryOf entryNumbers
+by-onward : (number : ℕ) (d : LineEntry) (es : List LineEntry) (p : ℕ) → eqb (d .0) number ≡ false → By number es p → By number (d ∷ es) (onward p)
+unfolding entryIn entryNumbers
 by-onward number d es zero e b = rw e b
 by-onward number d es (suc k) e b = (omega (arith, b .0), rw e (b .1))
 
-by-place : (number : ℕ) (es : Entries) → By number es (placeOf number (numbersOf es))
-unfolding placeOf numbersOf entryOf entryNumbers
+by-place : (number : ℕ) (es : List LineEntry) → By number es (placeOf number (numbersOf es))
+unfolding placeOf numbersOf entryIn entryNumbers
 by-place number [] = refl
 by-place number (d ∷ es) = go (eqb (d .0) number) refl (by-place number es)
   where
@@ -155,31 +155,32 @@ by-place number (d ∷ es) = go (eqb (d .0) number) refl (by-place number es)
     go false e b = by-onward number d es (placeOf number (numbersOf es)) e b
 
 module _ (lines entries : List ℕ) (n number r : ℕ) (f : LineFound lines n number r) where
-  place : (es : Entries) → EntryTable es lines entries n → By number es r
+  place : (es : Entries) → EntryTable es lines entries n → By number (es .rows) r
   place es t =
-      let q : take n lines ≡ numbersOf es = ap (take n) (t .numbers) ∙ take-at (numbersOf es) (t .more) n (numbers-long es ∙ sym (t .counted)) in
-      let p : r ≡ placeOf number (numbersOf es) = f .found (rw q (t .ascends)) ∙ ap (placeOf number) q in
-      rw p (by-place number es)
+      let ds = es .rows in
+      let q : take n lines ≡ numbersOf ds = ap (take n) (t .numbers) ∙ take-at (numbersOf ds) (t .more) n (numbers-long ds ∙ sym (t .counted)) in
+      let p : r ≡ placeOf number (numbersOf ds) = f .found (rw q (t .ascends)) ∙ ap (placeOf number) q in
+      rw p (by-place number ds)
 
-  no-entry : (x : ℕ) → x ≡ 0 → (es : Entries) → By number es x → _≡_ {A = ℕ} 0 (nodeNumber (entryOf es number))
+  no-entry : (x : ℕ) → x ≡ 0 → (es : List LineEntry) → By number es x → _≡_ {A = ℕ} 0 (nodeNumber (entryIn es number))
   no-entry zero z es b = b
   no-entry (suc x) z es b = absurd (omega arith)
 
   pub entry-none : r ≡ 0 → EntryFound lines entries n number 0
-  entry-none z es t = no-entry r z es (place es t)
+  entry-none z es t = no-entry r z (es .rows) (place es t)
 
-  one-entry : (x : ℕ) → (x ≡ 0 → ⊥) → (es : Entries) → By number es x → EntryTable es lines entries n → getD entries (x - 1) 0 ≡ nodeNumber (entryOf es number)
+  one-entry : (x : ℕ) → (x ≡ 0 → ⊥) → (es : Entries) → By number (es .rows) x → EntryTable es lines entries n → getD entries (x - 1) 0 ≡ nodeNumber (entryOf es number)
   one-entry zero z es b t = absurd (z refl)
   one-entry (suc x) z es b t =
-      let g : x < length (entryNumbers es) = omega (arith, numbers-length es, b .0) in
-      rw (sub-one (suc x), t .nodes) (List·getD-append (entryNumbers es) (t .rest) 0 x g ∙ b .1)
+      let g : x < length (entryNumbers (es .rows)) = omega (arith, numbers-length (es .rows), b .0) in
+      rw (sub-one (suc x), t .nodes) (List·getD-append (entryNumbers (es .rows)) (t .rest) 0 x g ∙ b .1)
 
   pub entry-some : (r ≡ 0 → ⊥) → EntryFound lines entries n number (getD entries (r - 1) 0)
   entry-some z es t = one-entry r z es (place es t) t
 
 -- ---- the entries of a listing in form
 
-numbers-snoc : (es : Entries) (d : ℕ × Option ℕ) → numbersOf (es ++ (d ∷ [])) ≡ numbersOf es ++ (d .0 ∷ [])
+numbers-snoc : (es : List LineEntry) (d : LineEntry) → numbersOf (es ++ (d ∷ [])) ≡ numbersOf es ++ (d .0 ∷ [])
 unfolding numbersOf
 numbers-snoc [] d = refl
 numbers-snoc (c ∷ es) d = ap (λ (l : List ℕ). c .0 ∷ l) (numbers-snoc es d)

@@ -9,7 +9,7 @@ use lib.Seq.{take-at, take-take, ext-getD, getD-take, getD-drop, length-take-le}
 use Rattle.listings.specs.Every.{All}
 use Rattle.listings.specs.Listing.{Mark, Slot, next, Listing}
 use Rattle.listings.specs.Records.{padded}
-use Rattle.graph.specs.Lists.{each}
+use Rattle.graph.specs.Lists.{each, list}
 use Rattle.graph_laws.specs.Adding.{decode}
 use Rattle.graph_laws.specs.Members.{all-at}
 use Rattle.graph.specs.Nodes.{simple, Node, Entries, entries as entriesOf}
@@ -33,6 +33,7 @@ use Rattle.passes.specs.ForLinkLaws.{other-links}
 use Rattle.passes.specs.NextBodies.{FallsFit, bodyAt}
 use Rattle.passes.specs.NextBodyLaws.{body-is, next-ids, next-bodies}
 use Rattle.passes.specs.LineEntries.{entryNumbers, entryRows, numbers-length, entries-length}
+use Rattle.passes.specs.EntryOrder.{all-entries, first-entry}
 use Rattle.passes.specs.Jumps.{stmtTargets, linkRow, linked}
 use Rattle.passes.specs.JumpLaws.{link-length}
 use Rattle.passes.specs.TableReads.{Few, targets-fit, falls-listed, links-edges, linked-length, link-of}
@@ -103,11 +104,21 @@ module _ {L : Listing} {stmts ks entries falls links frames dispatched : List �
         omega (arith, falling k (x .0) (x .1), number-below (nodeCount L) (x .0 .fall) (all-at (fits L) k (x .0) (x .1) .0), P .nodes-are);
   }
 
-  pub entered : take lines entries ≡ entryNumbers (wire L .entries)
-  unfolding padded entryRows wire entriesOf
+  pub entered : take lines entries ≡ entryRows (L .lines)
+  unfolding padded entryRows entriesOf
   entered =
-      let s : length (entryNumbers (entriesOf (L .lines))) ≡ lines = numbers-length (entriesOf (L .lines)) ∙ entries-length none (L .lines) ∙ sym (P .lines-are) in
-      ap (take lines) (P .entered) ∙ take-at (entryNumbers (entriesOf (L .lines))) _ lines s
+      let ds = entriesOf (L .lines) .rows in
+      let s : length (entryNumbers ds) ≡ lines = numbers-length ds ∙ entries-length none (L .lines) ∙ sym (P .lines-are) in
+      ap (take lines) (P .entered) ∙ take-at (entryNumbers ds) _ lines s
+
+  -- where RUN and `any` lead
+  pub first-is : each decode (take 1 (take lines entries)) ≡ list (wire L .entries .first)
+  unfolding entryRows wire entriesOf
+  first-is = ap (λ (x : List ℕ). each decode (take 1 x)) entered ∙ first-entry (entriesOf (L .lines) .rows)
+
+  pub all-are : each decode (take lines entries) ≡ wire L .entries .all
+  unfolding entryRows wire entriesOf
+  all-are = ap (each decode) entered ∙ all-entries (entriesOf (L .lines) .rows)
 
   few-targets : All Few (wire L .nodes)
   unfolding wire

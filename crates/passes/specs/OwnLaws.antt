@@ -20,10 +20,8 @@ use Rattle.graph.specs.NodeWords.{stmtWord, stmtNumber}
 use Rattle.graph.specs.Targets.{targetEntries, branchEdges}
 use Rattle.graph.specs.Edges.{closes, onLoops, movesOf, closerEdges, ownSimple, own}
 use Rattle.passes.specs.Jumps.{jumpTargets}
-use Rattle.passes.specs.LineEntries.{entryNumbers}
 use Rattle.passes.specs.ForLinks.{poppedBy}
 use Rattle.passes.specs.NextBodies.{bodyAt, linkBody}
-use Rattle.passes.specs.EntryOrder.{all-entries, first-entry}
 use Rattle.tables.specs.Columns.{wordOf, fallEntry}
 use Rattle.passes.specs.Prepared.{linkEntries}
 use Rattle.passes.specs.NodeList.{runEdges, jumpEdges, nextEdges, untilEdges, fallsWord, blockEdges, ownEdges}
@@ -58,7 +56,7 @@ module _ (ts en fs ls fr : List ℕ) (lines i : ℕ) (es : Entries) (e : Option 
   until-is zero q no-frame = rw q
   until-is (suc o) q (closes-frame p) = rw (q, ne-eqb (suc o) 0 (λ x. omega arith), p, append-nil, fall)
 
-  module _ (entered : take lines en ≡ entryNumbers es) where
+  module _ (first-is : each decode (take 1 (take lines en)) ≡ list (es .first)) (all-are : each decode (take lines en) ≡ es .all) where
     pub own-simple : (o : Simple) → getD ts (i * 12) 0 ≡ stmtNumber (simple o) → getD ts (i * 12 + 10) 0 ≡ length (argsOf o)
         → ((stmtNumber (simple o) ≡ 14 → ⊥) → argsOf o ≡ jumpTargets o → linkEntries ts ls i ≡ targetEntries es (jumpTargets o))
         → ((m : Mark) (ss : List Slot) → o ≡ next m ss → each (bodyAt fs) (poppedBy ls i (getD ts (i * 12 + 10) 0)) ≡ bs)
@@ -72,9 +70,9 @@ module _ (ts en fs ls fr : List ℕ) (lines i : ℕ) (es : Entries) (e : Option 
     own-simple (runto x) h c t p m = rw (h, c) (t (λ q. omega arith) refl ∙ append-nil (list (entryOf es x)))
     own-simple (ongoto xs) h c t p m = rw (h, t (λ q. omega arith) refl, fall)
     own-simple (ongosub xs) h c t p m = rw (h, t (λ q. omega arith) refl, fall)
-    own-simple run h c t p m = rw (h, c, entered) (first-entry es)
+    own-simple run h c t p m = rw (h, c) first-is
     own-simple stop h c t p m = rw h
-    own-simple any h c t p m = rw (h, entered) (all-entries es)
+    own-simple any h c t p m = rw h all-are
     own-simple (for v x) h c t p m = rw h fall
     own-simple (next x ss) h c t p m = rw (h, p x ss refl, fall)
     own-simple repeat h c t p m = rw h fall

@@ -22,7 +22,7 @@ use Rattle.passes.specs.TableReads.{first-branch, second-branch}
 use Rattle.passes.specs.Prepared.{Prepared}
 use Rattle.passes.specs.NodeList.{ownEdges}
 use Rattle.passes.specs.OwnLaws.{own-cond, own-simple}
-use Rattle.passes.specs.NodeTables.{falling, entered, targets-are, popped-bodies, body-of}
+use Rattle.passes.specs.NodeTables.{falling, first-is, all-are, targets-are, popped-bodies, body-of}
 
 module _ {L : Listing} {stmts ks entries falls links frames dispatched : List ℕ} {lines n d : ℕ} (P : Prepared L stmts ks entries falls links frames dispatched lines n d)
     (i : ℕ) (lt : i < n) (x : Node) (f : Fact) (ex : getElem? (wire L .nodes) i ≡ some x) (ef : getElem? (facts 0 (wire L .nodes) noOpeners) i ≡ some f) where
@@ -50,7 +50,7 @@ module _ {L : Listing} {stmts ks entries falls links frames dispatched : List �
       (second-branch (wire L .entries) (wire L .nodes) (length falls) falls (P .falling) i x ex w a b q)
   own-of (simple o) q =
       let c = simple-listed o q .count in
-      own-simple stmts entries falls links frames lines i (wire L .entries) (x .fall) bodies closed fall-is (entered P) o (P .listed i x ex .word ∙ ap stmtNumber q) c
+      own-simple stmts entries falls links frames lines i (wire L .entries) (x .fall) bodies closed fall-is (first-is P) (all-are P) o (P .listed i x ex .word ∙ ap stmtNumber q) c
       (λ h a. targets-are P i lt x f ex ef (λ z. h (sym (ap stmtNumber (stmt-is ∙ q)) ∙ z)) (c ∙ ap length a ∙ sym (ap (λ (s : NodeStmt). length (stmtTargets s)) q)) ∙ ap (λ (s : NodeStmt). targetEntries (wire L .entries) (stmtTargets s)) q)
       (λ m ss r. popped-bodies P i lt x f ex ef m ss (stmt-is ∙ q ∙ ap simple r) (c ∙ ap (λ (o′ : Simple). length (argsOf o′)) r ∙ length-map ss slotKey))
       (λ r. body-of P i lt x f ex ef (ap nodeMoves q ∙ r))

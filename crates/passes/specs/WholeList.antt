@@ -111,7 +111,7 @@ module _ {L : Listing} {stmts ks entries falls links frames ds : List ℕ} {line
           }
 
       own-fits : (part : List ℕ) → n ≤ length part → OwnRoom stmts entries falls links frames lines i part
-      unfolding wire entryRows
+      unfolding wire
       own-fits part h = record {
         stmts = omega (arith, P .stmts-fit);
         entries = P .entries-fit;

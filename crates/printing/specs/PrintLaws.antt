@@ -83,7 +83,7 @@ back-is W stmts falls i d e f g =
 unfoldable pub graphText : ℕ → (ns es rs bs : List ℕ) → List ℕ
 graphText k ns es rs bs = bytes "(graph" ++ spaced (0 ∷ k ∷ []) ++ bytes "\n" ++ ns ++ es ++ returnsText rs ++ bs ++ bytes ")\n"
 
-printed-is : (L : Listing) → graphText (length (wire L .nodes)) (nodeRows (allSuccessors L) 0 (wire L .nodes)) (each entryRow (wire L .entries)) (returnTargets (wire L)) (each (backRow (wire L)) (below (length (wire L .nodes)))) ≡ printed L
+printed-is : (L : Listing) → graphText (length (wire L .nodes)) (nodeRows (allSuccessors L) 0 (wire L .nodes)) (each entryRow (wire L .entries .rows)) (returnTargets (wire L)) (each (backRow (wire L)) (below (length (wire L .nodes)))) ≡ printed L
 unfolding graphText returnsText printed
 printed-is L = simp append-assoc
 
@@ -100,14 +100,14 @@ module _ {L : Listing} {lines stmts entries falls lists returns succ pred : List
       ap (λ (k : ℕ). each (nodeText lines stmts lists succ pred) (below k)) (sym (node-count g))
       ∙ rows-index (allSuccessors L) 0 (nodeText lines stmts lists succ pred) (wire L .nodes) (λ k d e. let z : 0 + k ≡ k = omega arith in rw z (node-is k d e))
 
-  entries-text : each (entryText lines entries) (below count) ≡ each entryRow (wire L .entries)
+  entries-text : each (entryText lines entries) (below count) ≡ each entryRow (wire L .entries .rows)
   unfolding wire
   entries-text =
       let t = entry-table (L .lines) lines entries _ (lines-held (L .lines) (length lines) lines (g .within .lines) (g .lines-are)) (entries-held (L .lines) (length entries) entries (g .entries-are)) in
-      let k : count ≡ length (wire L .entries) = g .count-is ∙ t .counted in
+      let k : count ≡ length (wire L .entries .rows) = g .count-is ∙ t .counted in
       ap (λ (k : ℕ). each (entryText lines entries) (below k)) k
-      ∙ each-index entryRow (entryText lines entries) (wire L .entries) (λ l d e.
-      let q = entry-at (wire L .entries) (t .more) (t .rest) l d e in
+      ∙ each-index entryRow (entryText lines entries) (wire L .entries .rows) (λ l d e.
+      let q = entry-at (wire L .entries .rows) (t .more) (t .rest) l d e in
       entry-is lines entries l d (ap (λ (x : List ℕ). getD x l 0) (t .numbers) ∙ q .0) (ap (λ (x : List ℕ). getD x l 0) (t .nodes) ∙ q .1))
 
   backs-text : each (backText stmts falls) (below n) ≡ each (backRow (wire L)) (below n)

@@ -17,7 +17,7 @@ use Rattle.listings.specs.Every.{All, all[], all∷, all-append}
 use Rattle.listings.specs.Read.{Answer, listing, refusal, read}
 use Rattle.graph.specs.Lists.{has, each, list, below}
 use Rattle.graph_laws.specs.Members.{all-map}
-use Rattle.graph.specs.Nodes.{Node, allocate, lineEntry, nodesBefore, nodes, entriesBefore, entries}
+use Rattle.graph.specs.Nodes.{Node, allocate, lineEntry, nodesBefore, nodes, LineEntry, entriesBefore, entries}
 use Rattle.graph_laws.specs.NodeLaws.{Below, EntryFits, length-nodes}
 use Rattle.graph_laws.specs.EdgeBounds.{Ids}
 use Rattle.graph_laws.specs.Distinct.{dist[], few, distinct-all}
@@ -158,7 +158,7 @@ unfolding each
 each-length m f all[] = omega arith
 each-length m f (all∷ {a = a} {l = l} h hs) = omega (arith, length-append (f a) (each f l), each-length m f hs, suc-mul (length l) m)
 
-pub entry-row-length : (d : ℕ × Option ℕ) → d .0 ≤ 65535 → EntryFits 4096 d → length (entryRow d) ≤ 19
+pub entry-row-length : (d : LineEntry) → d .0 ≤ 65535 → EntryFits 4096 d → length (entryRow d) ≤ 19
 unfolding entryRow each list spaced bytes
 entry-row-length (n, none) hn h = omega arith
 entry-row-length (n, some e) hn h = simp length-append (omega (arith, number-length n hn, id-length e (omega arith)))
@@ -236,11 +236,11 @@ module _ (L : Listing) (ok : LinesOk (L .lines)) (hc : count (L .lines) ≤ 1024
       let g : startOf (predsOf ls) (0 + length (wire L .nodes)) ≡ edgeCount L = ap (startOf (predsOf ls)) (z ∙ sym (length-preds ls)) ∙ start-end (predsOf ls) ∙ preds-total s ∙ sym e in
       omega (arith, r, f, g, node-count)
 
-  pub entry-rows-length : length (each entryRow (wire L .entries)) ≤ 19456
+  pub entry-rows-length : length (each entryRow (wire L .entries .rows)) ≤ 19456
   unfolding wire entries
   entry-rows-length =
       let es = entriesBefore none (L .lines) in
-      let hs = all-both (λ d p q. entry-row-length d p (below-le 4096 (nodeCount L) (omega (arith, node-count)) (d .1) q)) (entry-numbers none (L .lines) ok) (entry-ids L) in
+      let hs = all-both (λ d p q. entry-row-length d p (below-le 4096 (nodeCount L) (omega (arith, node-count)) (d .1) q)) (entry-numbers none (L .lines) ok) (entry-ids L .rows) in
       omega (arith, each-length 19 entryRow hs, entries-length none (L .lines))
 
   pub returns-length : length (spaced (returnTargets (wire L))) ≤ 20480

@@ -64,7 +64,7 @@ pub record Demand2 (L : Listing) (T : Tables) : Type 0 where
   pub count : getD (T .counts) 1 0 ≡ length (nodes (L .lines))
   pub node : (i : ℕ) (n : Node) → getElem? (nodes (L .lines)) i ≡ some n → NodeWritten L T i n
   -- "Line entry: the node where a jump to a line number starts": each line's number with a node or none
-  pub entries : entriesIn (getD (T .counts) 0 0) (T .lines) (T .entries) ≡ wire L .entries
+  pub entries : entriesIn (getD (T .counts) 0 0) (T .lines) (T .entries) ≡ wire L .entries .rows
   pub targets : take (getD (T .counts) 4 0) (T .returns) ≡ returnTargets (wire L)
   pub edges : getD (T .counts) 3 0 ≡ edgeCount L
   pub handlers : getD (T .counts) 2 0 ≡ handlerNumber (L .handlers)

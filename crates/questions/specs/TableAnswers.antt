@@ -9,7 +9,7 @@ use borrow.Author.Tests.{lt-ltb, le-ltb, le-leb}
 use lib.ListN.{length, getD, take, drop}
 use Rattle.listings.specs.Listing.{Listing, total, count}
 use Rattle.listings.specs.ListingText.{Within}
-use Rattle.graph.specs.Nodes.{entryOf}
+use Rattle.graph.specs.Nodes.{entryIn, entryOf}
 use Rattle.graph_laws.specs.NodeLaws.{Below, entry-fits}
 use Rattle.graph.specs.Graph.{wire, successors, predecessors, returnTargets}
 use Rattle.graph_laws.specs.GraphLaws.{nodeCount, entry-ids}
@@ -79,9 +79,9 @@ module _ (L : Listing) (s : Sizes) (T : Tables) (ok : Within L) (fits : LongEnou
   unfolding entryAt askEntry wire
   entry-is number =
       rw (le-leb (getD (T .counts) 0 0) (length (T .lines)) (omega (arith, lines-are, held .lines-fit)), le-leb (getD (T .counts) 0 0) (length (T .entries)) (omega (arith, lines-are, held .entries-fit)))
-      (ap (λ (n : ℕ). nodeIn n (entryOf (entriesIn (getD (T .counts) 0 0) (T .lines) (T .entries)) number)) nodes-are
-      ∙ ap (λ (k : ℕ). nodeIn (nodeCount L) (entryOf (entriesIn k (T .lines) (T .entries)) number)) lines-are
-      ∙ ap (λ es. nodeIn (nodeCount L) (entryOf es number)) (held-entries held)
+      (ap (λ (n : ℕ). nodeIn n (entryIn (entriesIn (getD (T .counts) 0 0) (T .lines) (T .entries)) number)) nodes-are
+      ∙ ap (λ (k : ℕ). nodeIn (nodeCount L) (entryIn (entriesIn k (T .lines) (T .entries)) number)) lines-are
+      ∙ ap (λ es. nodeIn (nodeCount L) (entryIn es number)) (held-entries held)
       ∙ node-in (nodeCount L) (entryOf (wire L .entries) number) (entry-fits (nodeCount L) (entry-ids L) number))
 
   pub successors-are : (i : ℕ) → listReply (successorsAt (T .counts) (T .lists) (length (T .succ)) i) (T .succ) ≡ askSuccessors L i

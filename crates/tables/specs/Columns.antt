@@ -7,7 +7,7 @@ use lib.Dec.{eqb}
 use lib.ListN.{length, getD, take, drop}
 use Rattle.listings.specs.Bytes.{pick}
 use Rattle.graph_laws.specs.Adding.{decode}
-use Rattle.graph.specs.Nodes.{Entries}
+use Rattle.graph.specs.Nodes.{LineEntry}
 
 -- ---- a statement's record (12 entries), and where it falls (3 entries)
 
@@ -92,7 +92,7 @@ entryNode zero = none
 entryNode (suc a) = some a
 
 -- the first k lines with their entries, as the tables list them
-unfoldable pub entriesIn : ℕ → List ℕ → List ℕ → Entries
+unfoldable pub entriesIn : ℕ → List ℕ → List ℕ → List LineEntry
 entriesIn zero lines entries = []
 entriesIn (suc k) [] entries = []
 entriesIn (suc k) (n ∷ lines) [] = []

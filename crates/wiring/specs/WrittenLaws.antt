@@ -13,7 +13,7 @@ use Rattle.listings.specs.RecordLaws.{recs-length}
 use Rattle.reader.specs.Tables.{padded-length, joined-length}
 use Rattle.reader.specs.ReadBack.{lines-wide}
 use Rattle.graph_laws.specs.Adding.{nodeNumber, decode-number}
-use Rattle.graph.specs.Nodes.{Node, Entries, nodes, entries, entriesBefore}
+use Rattle.graph.specs.Nodes.{Node, LineEntry, Entries, nodes, entries, entriesBefore}
 use Rattle.graph_laws.specs.NodeLaws.{length-nodes}
 use Rattle.graph.specs.Graph.{returns, wire, continuation, allSuccessors, returnTargets, successors, predecessors}
 use Rattle.graph_laws.specs.GraphLaws.{nodeCount}
@@ -129,7 +129,7 @@ counts-held L s T w =
 
 -- ---- line entries, continuations
 
-entries-listed : (es : Entries) (more rest : List ℕ) → entriesIn (length es) (numbersOf es ++ more) (entryNumbers es ++ rest) ≡ es
+entries-listed : (es : List LineEntry) (more rest : List ℕ) → entriesIn (length es) (numbersOf es ++ more) (entryNumbers es ++ rest) ≡ es
 unfolding entriesIn numbersOf entryNumbers
 entries-listed [] more rest = refl
 entries-listed (d ∷ es) more rest = rw (entries-listed es more rest, back (d .1))
@@ -138,13 +138,14 @@ entries-listed (d ∷ es) more rest = rw (entries-listed es more rest, back (d .
     back none = refl
     back (some a) = refl
 
-entries-read : (es : Entries) (lines table : List ℕ) (k : ℕ) → EntryTable es lines table k → entriesIn k lines table ≡ es
+entries-read : (es : Entries) (lines table : List ℕ) (k : ℕ) → EntryTable es lines table k → entriesIn k lines table ≡ es .rows
 entries-read es lines table k t =
-    ap (λ (j : ℕ). entriesIn j lines table) (t .counted) ∙ ap (λ (l : List ℕ). entriesIn (length es) l table) (t .numbers)
-    ∙ ap (λ (l : List ℕ). entriesIn (length es) (numbersOf es ++ t .more) l) (t .nodes) ∙ entries-listed es (t .more) (t .rest)
+    let ds = es .rows in
+    ap (λ (j : ℕ). entriesIn j lines table) (t .counted) ∙ ap (λ (l : List ℕ). entriesIn (length ds) l table) (t .numbers)
+    ∙ ap (λ (l : List ℕ). entriesIn (length ds) (numbersOf ds ++ t .more) l) (t .nodes) ∙ entries-listed ds (t .more) (t .rest)
 
 module _ {L : Listing} {lines stmts entries falls lists returns succ pred : List ℕ} {c n targets : ℕ} (g : GraphHeld L lines stmts entries falls lists returns succ pred c n targets) where
-  pub held-entries : entriesIn c lines entries ≡ wire L .entries
+  pub held-entries : entriesIn c lines entries ≡ wire L .entries .rows
   unfolding wire
   held-entries =
       ap (λ (k : ℕ). entriesIn k lines entries) (g .count-is)

@@ -4,6 +4,7 @@ use crate::widths::narrow;
 use reader::tables::END;
 use reader::tables::FORM1;
 use reader::tables::FORM2;
+use reader::tables::LINE;
 use reader::tables::NUMBER1;
 use reader::tables::NUMBER2;
 use reader::tables::SECOND;
@@ -16,7 +17,7 @@ ghost use Prim.Native.Nat.{_+_, _*_, _≤_, _<_};
 ghost use lib.ListN.{length};
 ghost use lib.Seq.{sets};
 ghost use Rattle.passes.specs.Falls.{targetOf, BranchLed, RowConnected, StmtConnected, BranchConnected, LinesConnected, AllLines};
-ghost use Rattle.passes.specs.Connecting.{startOf};
+ghost use Rattle.passes.specs.Connecting.{Begins};
 
 // Forms of a branch.
 const NO_BRANCH: u16 = 0;
@@ -179,11 +180,20 @@ pub(crate) fn connect_then_branch(
     true
 }
 
-// The node where a line's statements begin: its entry, or `end` where it has none.
-fn start_of(entry: u16, end: usize) -> usize
-    ensures { λ r. ⌜ r ≡ startOf entry end ⌝ }
+// Where the statements of line l begin that end at `end`, by the records: its entry may be another line's statement.
+fn start_of(stmts: &[u16], l: usize, end: usize) -> usize
+    requires { ⌜ end * 12 ≤ length (now stmts) ⌝ }
+    ensures { λ r. ⌜ Begins (now (stmts .entry)) l end r ⌝ }
 {
-    if entry == 0 { end } else { wide(entry) - 1 }
+    let mut i = end;
+    while 0 < i {
+        let line = wide(stmts[(i - 1) * STMT_ENTRIES + LINE]);
+        if line != l {
+            return i;
+        }
+        i -= 1;
+    }
+    i
 }
 
 // Each line's statements fall to the next line's entry. From the last line up, where that entry is at hand.
@@ -203,15 +213,11 @@ fn connect_from_last(
     let mut l = lines.len();
     while 0 < l {
         l -= 1;
-        let entry = entries[l];
-        let from = start_of(entry, end);
-        if end < from {
-            return false;
-        }
+        let from = start_of(stmts, l, end);
         if !connect_then_branch(lines, entries, stmts, falls, DEPTHS, from, end, next) {
             return false;
         }
-        next = entry;
+        next = entries[l];
         end = from;
     }
     true

@@ -29,41 +29,25 @@ loop-holds c = (search needs, search needs, refl, λ ls lh eh sh. ahead-start _ 
 sub-l : tie.Need-sub-l Inv-loop μ-loop
 sub-l c = search needs
 
-mul-entry : tie.Need-mul-entry Inv-loop μ-loop
-mul-entry c = search needs
-
-shared-slice-read-entry : tie.Need-shared-slice-read-entry Inv-loop μ-loop
-shared-slice-read-entry c = search needs
-
 start-of-requires : tie.Need-start-of-requires Inv-loop μ-loop
 start-of-requires c κs = search needs
 
+connect-then-branch-requires : tie.Need-connect-then-branch-requires Inv-loop μ-loop
+connect-then-branch-requires c κs =
+    let at-start-of : tie.After-start-of Inv-loop μ-loop = search in
+    let at-loop : tie.At-loop Inv-loop μ-loop = search in
+    let at-start : tie.Start Inv-loop μ-loop = search in
+    omega (arith, at-start-of .start-of .ensures .within, at-start .pre, at-loop .loop .inv .1, at-loop .loop .inv .2)
+
 same-length : tie.Need-same-length Inv-loop μ-loop
-same-length c = c .before .before .before .before .loop .inv .2
+same-length c =
+    let at-branch : tie.After-connect-then-branch Inv-loop μ-loop = search in
+    let at-loop : tie.At-loop Inv-loop μ-loop = search in
+    at-branch .connect-then-branch .kept .1 .1 .1 .0 ∙ at-loop .loop .inv .2
 
 returns : tie.Need-returns Inv-loop μ-loop
 returns c =
-    let at-start : tie.Start Inv-loop μ-loop = search in
-    let a = at-start .args in
-    let l = c .before .before .before .before .loop in
-    λ ls lh eh sh.
-    let r = ahead-down (a .lines .now) (a .entries .now) (a .stmts .now) (a .falls .now) (definition.entries ls) _ (entry-table ls _ _ _ lh eh) (l .falls) (l .falls) (l .l) (l .end) (l .next) _ true
-    (c .before .before .before .loop-test .taken) (c .before .start-of .ensures) (l .inv .3 ls lh eh sh) (λ h. absurd (omega (arith, c .if1 .taken))) in
-    absurd (omega (arith, r .0, c .if1 .taken))
-
-connect-then-branch-requires : tie.Need-connect-then-branch-requires Inv-loop μ-loop
-connect-then-branch-requires c κs =
-    let at-loop : tie.At-loop Inv-loop μ-loop = search in
-    let at-start : tie.Start Inv-loop μ-loop = search in
-    omega (arith, c .before .if1 .left, at-start .pre, at-loop .loop .inv .1, at-loop .loop .inv .2)
-
-same-length-2 : tie.Need-same-length-2 Inv-loop μ-loop
-same-length-2 c =
-    let at-loop : tie.At-loop Inv-loop μ-loop = search in
-    c .before .before .before .connect-then-branch .kept .1 .1 .1 .0 ∙ at-loop .loop .inv .2
-
-returns-2 : tie.Need-returns-2 Inv-loop μ-loop
-returns-2 c =
+    let at-branch : tie.After-connect-then-branch Inv-loop μ-loop = search in
     let at-start-of : tie.After-start-of Inv-loop μ-loop = search in
     let in-loop : tie.In-loop Inv-loop μ-loop = search in
     let at-loop : tie.At-loop Inv-loop μ-loop = search in
@@ -72,15 +56,21 @@ returns-2 c =
     let l = at-loop .loop in
     λ ls lh eh sh.
     let r = ahead-down (a .lines .now) (a .entries .now) (a .stmts .now) (a .falls .now) (definition.entries ls) _ (entry-table ls _ _ _ lh eh) (l .falls) _ (l .l) (l .end) (l .next) _ _
-    (in-loop .loop-test .taken) (at-start-of .start-of .ensures) (l .inv .3 ls lh eh sh) (λ h. c .before .before .before .connect-then-branch .ensures) in
-    not-both (c .before .before .before .connect-then-branch .result) (r .1) (c .if2 .taken)
+    (in-loop .loop-test .taken) (at-start-of .start-of .ensures) (l .inv .3 ls lh eh sh) (at-branch .connect-then-branch .ensures) in
+    not-both (at-branch .connect-then-branch .result) (r .0) (c .if1 .taken)
+
+mul-next : tie.Need-mul-next Inv-loop μ-loop
+mul-next c = search needs
+
+shared-slice-read-next : tie.Need-shared-slice-read-next Inv-loop μ-loop
+shared-slice-read-next c = search needs
 
 loop-less : tie.Need-loop-less Inv-loop μ-loop
 loop-less c = search needs
 
 loop-again : tie.Need-loop-again Inv-loop μ-loop
 loop-again c =
-    let at-else1 : tie.Else1 Inv-loop μ-loop = search in
+    let at-branch : tie.After-connect-then-branch Inv-loop μ-loop = search in
     let at-start-of : tie.After-start-of Inv-loop μ-loop = search in
     let in-loop : tie.In-loop Inv-loop μ-loop = search in
     let at-loop : tie.At-loop Inv-loop μ-loop = search in
@@ -88,18 +78,18 @@ loop-again c =
     let a = at-start .args in
     let l = at-loop .loop in (
       omega (arith, l .inv .0),
-      omega (arith, l .inv .1, at-else1 .if1 .left),
-      c .before .before .before .connect-then-branch .kept .1 .1 .1 .0 ∙ l .inv .2,
+      omega (arith, l .inv .1, at-start-of .start-of .ensures .within),
+      at-branch .connect-then-branch .kept .1 .1 .1 .0 ∙ l .inv .2,
       λ ls lh eh sh.
           ahead-down (a .lines .now) (a .entries .now) (a .stmts .now) (a .falls .now) (definition.entries ls) _ (entry-table ls _ _ _ lh eh) (l .falls) _ (l .l) (l .end) (l .next) _ _
-          (in-loop .loop-test .taken) (at-start-of .start-of .ensures) (l .inv .3 ls lh eh sh) (λ h. c .before .before .before .connect-then-branch .ensures) .2,
+          (in-loop .loop-test .taken) (at-start-of .start-of .ensures) (l .inv .3 ls lh eh sh) (at-branch .connect-then-branch .ensures) .1,
     )
 
-same-length-3 : tie.Need-same-length-3 Inv-loop μ-loop
-same-length-3 c = c .before .loop .inv .2
+same-length-2 : tie.Need-same-length-2 Inv-loop μ-loop
+same-length-2 c = c .before .loop .inv .2
 
-returns-3 : tie.Need-returns-3 Inv-loop μ-loop
-returns-3 c = λ ls lh eh sh. ahead-end _ _ _ _ _ _ _ _ _ (omega arith) (c .before .loop .inv .3 ls lh eh sh)
+returns-2 : tie.Need-returns-2 Inv-loop μ-loop
+returns-2 c = λ ls lh eh sh. ahead-end _ _ _ _ _ _ _ _ _ (omega arith) (c .before .loop .inv .3 ls lh eh sh)
 
 pub connect-from-last-spec : {M : Type 1} → statement M
 connect-from-last-spec =
@@ -109,15 +99,13 @@ connect-from-last-spec =
     μ-loop
     loop-holds
     sub-l
-    mul-entry
-    shared-slice-read-entry
     start-of-requires
+    connect-then-branch-requires
     same-length
     returns
-    connect-then-branch-requires
-    same-length-2
-    returns-2
+    mul-next
+    shared-slice-read-next
     loop-less
     loop-again
-    same-length-3
-    returns-3)
+    same-length-2
+    returns-2)
