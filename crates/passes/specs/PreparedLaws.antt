@@ -96,6 +96,17 @@ call-kind (cond if a b) = step refl refl
 call-kind (cond ifelse a b) = step refl refl
 call-kind (cond rcomp a b) = step refl refl
 
+-- a call moves no stack
+pub call-moves : (s : NodeStmt) → callWord (stmtNumber s) ≡ true → nodeMoves s ≡ noMoves
+unfolding nodeMoves movesOf
+call-moves s h = go s (stmtRole s) (call-kind s) h
+  where
+    go : (s : NodeStmt) (q : Role) → CallKind s q → callWord (stmtNumber s) ≡ true → nodeMoves s ≡ noMoves
+    go s q (isGosub t) h = refl
+    go s q (isOnGosub ts) h = refl
+    go s q isBack h = refl
+    go s q (isOther a b p) h = absurd (let y : _≡_ {A = Bool} true false = sym h ∙ a in let z : _≡_ {A = ℕ} 0 1 = cc in omega arith)
+
 pub gosub-number : (t : ℕ) → stmtNumber (simple (gosub t)) ≡ 8
 unfolding stmtNumber stmtWord simpleWord wordIndex words first same bytes openingWords
 gosub-number t = refl

@@ -114,25 +114,25 @@ pub all-at : (P : ℕ → Type 0) (l : List ℕ) → ((k : ℕ) → k < length l
 all-at P [] h = all[]
 all-at P (a ∷ l) h = all∷ (h 0 (omega arith)) (all-at P l (λ k lt. h (suc k) (omega arith)))
 
--- the calls of tables that passed the test
+-- a call of tables that passed the test
+pub calls-fit : {stmts falls links : List ℕ} {n : ℕ} → CallsRead stmts falls links n → (c : ℕ) → c < n → callWord (wordOf stmts c) ≡ true → CallFits stmts falls links c
+calls-fit {stmts} {falls} {links} r c lt e =
+    let t = r .calls c lt e in
+    record {
+      targets = record {
+        node = omega (arith, r .few);
+        in-stmts = omega (arith, r .in-stmts);
+        in-links = omega (arith, r .in-links);
+        few = t .few;
+        ids = all-at (λ (x : ℕ). x ≤ 4096) (targetRow stmts links c) (λ k h. omega (arith, t .targets k h, r .few));
+      };
+      in-falls = omega (arith, r .in-falls);
+      continues = omega (arith, t .continues, r .few);
+    }
+
 pub calls-ready : {stmts falls links : List ℕ} {n : ℕ} {calls : List ℕ} → CallsRead stmts falls links n → calls ≡ callsBelow stmts n → CallsReady stmts falls links n calls
 calls-ready {stmts} {falls} {links} {n} r q =
-    record { few = r .few; in-stmts = r .in-stmts; listed = q; fit = rw q (calls-all stmts (CallFits stmts falls links) n (λ c lt e. fits c lt e)) }
-  where
-    fits : (c : ℕ) → c < n → callWord (wordOf stmts c) ≡ true → CallFits stmts falls links c
-    fits c lt e =
-        let t = r .calls c lt e in
-        record {
-          targets = record {
-            node = omega (arith, r .few);
-            in-stmts = omega (arith, r .in-stmts);
-            in-links = omega (arith, r .in-links);
-            few = t .few;
-            ids = all-at (λ (x : ℕ). x ≤ 4096) (targetRow stmts links c) (λ k h. omega (arith, t .targets k h, r .few));
-          };
-          in-falls = omega (arith, r .in-falls);
-          continues = omega (arith, t .continues, r .few);
-        }
+    record { few = r .few; in-stmts = r .in-stmts; listed = q; fit = rw q (calls-all stmts (CallFits stmts falls links) n (λ c lt e. calls-fit r c lt e)) }
 
 pub targets-fit : {stmts falls links l : List ℕ} → All (CallFits stmts falls links) l → All (TargetsFit stmts links) l
 targets-fit h = all-map (λ c f. f .targets) h

@@ -1,10 +1,13 @@
 -- A node's whole list from the prepared tables: own edges, late edges, an orphan's targets; room for each, and the list that they make. Assumes nothing.
 use Prim.Native.Nat.{ℕ, _+_, _*_, _≤_, _<_}
 use mathlib.Core.Path.{_≡_, refl, sym, ap, _∙_}
-use mathlib.Core.List.{List, [], _++_, append-assoc}
+use mathlib.Core.Bool.{Bool, true, false, _||_}
+use mathlib.Core.List.{List, [], _++_, append-nil, append-assoc}
+use mathlib.Core.Logic.{_⊎_, inl, inr, ⊎-elim}
 use mathlib.Core.Option.{some}
 use native.Mathlib.Omega.{arith}
-use borrow.Author.Tests.{eqb-false}
+use borrow.Author.Tests.{eqb-true, eqb-false, ne-eqb}
+use lib.Dec.{eqb}
 use lib.ListN.{length, getD, getElem?, take, length-map}
 use lib.Seq.{length-take-le}
 use Rattle.listings.specs.Bytes.{same, bytes}
@@ -19,11 +22,11 @@ use Rattle.graph_laws.specs.Members.{all-map}
 use Rattle.graph.specs.Nodes.{NodeStmt, simple, cond, Node}
 use Rattle.graph.specs.NodeWords.{stmtWord, stmtNumber}
 use Rattle.graph.specs.Targets.{dispatchTargets, orphanEdges}
-use Rattle.graph.specs.Edges.{loopStack}
+use Rattle.graph.specs.Edges.{loopStack, noMoves, nodeMoves}
 use Rattle.graph_laws.specs.EdgeBounds.{Ids, edges-to, ends-ids}
 use Rattle.graph.specs.Graph.{wire, base}
 use Rattle.graph_laws.specs.GraphLaws.{nodeCount, fits, entry-ids}
-use Rattle.graph_laws.specs.PerNode.{noOpeners, Fact, facts, perNode}
+use Rattle.graph_laws.specs.PerNode.{noOpeners, Fact, facts, late, perNode}
 use Rattle.graph_laws.specs.PerNodeLaws.{length-facts, per-node}
 use Rattle.graph_laws.specs.Theorems.{factsOf, lists-per-node}
 use Rattle.passes.specs.OpenerLaws.{some-at, node-of, fall-at, stmt-at}
@@ -37,7 +40,10 @@ use Rattle.passes.specs.NextBodyLaws.{dispatched-below}
 use Rattle.passes.specs.AddRoom.{grown-start}
 use Rattle.passes.specs.EntryOrder.{entries-rise}
 use Rattle.passes.specs.Prepared.{Prepared, Keys}
-use Rattle.passes.specs.NodeList.{ownEdges, OwnRoom, ListIs}
+use Rattle.tables.specs.Columns.{callWord}
+use Rattle.passes.specs.NodeList.{jumpEdges, ownEdges, OwnRoom, ListIs}
+use Rattle.passes.specs.NodeListLaws.{own-jump}
+use Rattle.passes.specs.PreparedLaws.{call-moves}
 use Rattle.passes.specs.NodeTables.{falling, falls-ok, entered, popped-ids, opener-fits}
 use Rattle.passes.specs.OwnTables.{own-are}
 use Rattle.passes.specs.OrphanKeys.{dispatched-are, dispatched-fits, slots-counted, orphan-are}
@@ -54,6 +60,14 @@ next-word : (s : NodeStmt) → ForKind s → stmtNumber s ≡ 14 → (m : Mark) 
 next-word s (isFor v t) e = absurd (omega (arith, for-number v t))
 next-word s (isNext m ss) e = (m, ss, refl)
 next-word s (isOther n) e = absurd (eqb-false (stmtNumber s) 14 (n .not-next) e)
+
+call-number : (w : ℕ) → callWord w ≡ true → (w ≡ 8) ⊎ (w ≡ 12)
+unfolding callWord
+call-number w h = go (eqb w 8) refl h
+  where
+    go : (b : Bool) → eqb w 8 ≡ b → (b || eqb w 12) ≡ true → (w ≡ 8) ⊎ (w ≡ 12)
+    go true e q = inl (eqb-true w 8 e)
+    go false e q = inr (eqb-true w 12 q)
 
 module _ {L : Listing} {stmts ks entries falls links frames ds : List ℕ} {lines n d : ℕ} (P : Prepared L stmts ks entries falls links frames ds lines n d) where
   pub late-tables : LateTables stmts falls frames (wire L .nodes)
@@ -157,6 +171,30 @@ module _ {L : Listing} {stmts ks entries falls links frames ds : List ℕ} {line
 
     pub after-orphan : (q z : List ℕ) (s t : ℕ) → Grown n q s → Grows q s z t (orphanBodies stmts args falls (take d ds) i) → Grown n z t
     after-orphan q z s t g a = a .grown n g (orphan-ids (here .0) (fact .0) (here .1) (fact .1))
+
+    -- ---- a call's list is what its statement adds
+
+    call-own : callWord (getD stmts (i * 12) 0) ≡ true → ownEdges stmts entries falls links frames lines i ≡ jumpEdges stmts falls links i
+    call-own w =
+        ⊎-elim (λ e. sym (own-jump stmts entries falls links frames lines i (omega arith) (λ z. omega arith) (omega arith)))
+        (λ e. sym (own-jump stmts entries falls links frames lines i (omega arith) (λ z. omega arith) (omega arith))) (call-number (getD stmts (i * 12) 0) w)
+
+    call-late : callWord (getD stmts (i * 12) 0) ≡ true → lateEdges (facts 0 (wire L .nodes) noOpeners) i (fact .0) ≡ []
+    unfolding lateEdges late noMoves
+    call-late w =
+        let s = stmt-at loopStack (wire L .nodes) i (here .0) (fact .0) (here .1) (fact .1) in
+        let m : nodeMoves (fact .0 .stmt) ≡ noMoves = call-moves (fact .0 .stmt) (ap (λ (y : NodeStmt). callWord (stmtNumber y)) s ∙ ap callWord (sym (P .listed i (here .0) (here .1) .word)) ∙ w) in
+        rw m
+
+    call-orphan : callWord (getD stmts (i * 12) 0) ≡ true → orphanBodies stmts args falls (take d ds) i ≡ []
+    unfolding orphanBodies
+    call-orphan w = rw (ne-eqb (getD stmts (i * 12) 0) 14 (λ e. ⊎-elim (λ q. omega arith) (λ q. omega arith) (call-number (getD stmts (i * 12) 0) w)))
+
+    pub call-made : callWord (getD stmts (i * 12) 0) ≡ true → addAll [] (jumpEdges stmts falls links i) ≡ base (wire L) i
+    unfolding factsOf
+    call-made w =
+        let e : edgesBy (fact .0) ≡ jumpEdges stmts falls links i = rw (call-own w, call-late w, call-orphan w) (append-nil (jumpEdges stmts falls links i)) in
+        ap (addAll []) (sym e ∙ edges-are (here .0) (fact .0) (here .1) (fact .1)) ∙ sym (lists-per-node L i (fact .0) (fact .1))
 
     -- ---- the list that they make
 

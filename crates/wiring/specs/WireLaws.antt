@@ -13,7 +13,7 @@ use Rattle.graph.specs.Build.{edgeCount}
 use Rattle.wiring.specs.Wiring.{WireHeld, WireReady, WiringDone}
 use Rattle.passes.specs.Preparing.{FramesMade, with-frames}
 use Rattle.wiring.specs.CountGraph.{CountReady, CountedTo, GraphCounted}
-use Rattle.wiring.specs.WriteGraph.{WriteHeld, WriteReady, WrittenGraph}
+use Rattle.wiring.specs.WriteGraph.{WriteHeld, WriteReady, WrittenGraph, write-table, graph-written}
 
 -- ---- whether the edges fit
 
@@ -75,13 +75,13 @@ module _ {handlers : Bool} {c n d : ℕ} {counts stmts args entries falls links 
 
   pub wired-yes : {counts′ args′ lists′ succ′ pred′ : List ℕ} (x : Bool) → x ≡ (leb edges (min (length succ) (length pred)) && leb edges 32768) → x ≡ true → length succ′ ≡ length succ
       → length pred′ ≡ length pred → n * 4 ≤ length lists₁
-      → WrittenGraph handlers stmts args₁ entries falls links frames dispatched c n d counts lists₁ scratch₁ returns₁ targets succ pred counts′ args′ lists′ succ′ pred′
+      → WrittenGraph handlers stmts args₁ falls links n counts lists₁ scratch₁ returns₁ targets succ pred counts′ args′ lists′ succ′ pred′
       → (L : Listing) → WireHeld L handlers c n counts stmts args entries falls links succ pred → WiringDone L args counts′ args′ lists′ returns₁ succ′ pred′ true edges
   wired-yes {succ′ = succ′} {pred′ = pred′} x q t es ep rows f L w =
       record {
         fits = sym t ∙ same-test x (length succ′) (length pred′) w q es ep;
         counted = counted w .edges-are;
-        graph = λ e. f L args (write-held w rows (fit-yes x edges (length succ) (length pred) q t));
+        graph = λ e. graph-written (write-held w rows (fit-yes x edges (length succ) (length pred) q t)) f;
       }
 
   pub wired-no : {counts′ args′ lists′ returns′ : List ℕ} (x : Bool) → x ≡ (leb edges (min (length succ) (length pred)) && leb edges 32768) → x ≡ false
@@ -93,9 +93,9 @@ module _ {handlers : Bool} {c n d : ℕ} {counts stmts args entries falls links 
     (r : WireReady handlers c n counts stmts args entries falls links lists returns succ pred) (m : FramesMade stmts falls frames dispatched n d) where
   pub write-ready : {args₁ lists₁ scratch₁ returns₁ : List ℕ} {edges targets : ℕ} → CountedTo handlers stmts args entries falls links frames dispatched c n d args₁ lists₁ scratch₁ returns₁ edges targets
       → (x : Bool) → x ≡ (leb edges (min (length succ) (length pred)) && leb edges 32768) → x ≡ true → length lists₁ ≡ length lists → (room : ℕ) → room ≡ 4096
-      → WriteReady handlers stmts args₁ entries falls links frames dispatched c n d counts lists₁ scratch₁ returns₁ targets succ pred room
+      → WriteReady handlers stmts args₁ falls links n lists₁ scratch₁ returns₁ targets succ pred room
   write-ready {edges = edges} g x q t e room eb =
-      record { listing = r .listing; keys₀ = args; held = write-held g m (r .held) (omega (arith, r .lists-fit, e)) (fit-yes x edges (length succ) (length pred) q t); buffer-size = eb }
+      write-table (write-held g m (r .held) (omega (arith, r .lists-fit, e)) (fit-yes x edges (length succ) (length pred) q t)) eb
 
   pub ready-count : (scratch : List ℕ) → length scratch ≡ 36864 → (room : ℕ) → room ≡ 4096 → CountReady handlers stmts args entries falls links frames dispatched c n d lists scratch returns room
   ready-count scratch es room eb =

@@ -10,20 +10,18 @@ use lib.Seq.{ext-getD}
 use Rattle.listings.specs.Listing.{Listing}
 use Rattle.listings.specs.Records.{padded, countsOf}
 use Rattle.reader.specs.Tables.{drop-zeros}
-use Rattle.graph.specs.Lists.{each, below}
-use Rattle.graph_laws.specs.Distinct.{dist[], distinct-all, few}
-use Rattle.graph.specs.Graph.{Wired, wire, skipSteps, allSuccessors, continuation, returnTargets}
-use Rattle.graph_laws.specs.GraphLaws.{nodeCount, target-ids}
+use Rattle.graph.specs.Graph.{Wired, wire, skipSteps, allSuccessors, returnTargets}
+use Rattle.graph_laws.specs.GraphLaws.{nodeCount}
 use Rattle.graph.specs.Build.{edgeCount}
 use Rattle.passes.specs.Compare.{eq-or, lt-or}
 use Rattle.passes.specs.Clearing.{SetsCleared, ClearTold}
 use Rattle.passes.specs.WalkTables.{read-sets}
-use Rattle.passes.specs.EdgeTable.{joinedLists, listRows, columns-past, ListsStored, length-lists}
+use Rattle.passes.specs.EdgeTable.{joinedLists, listRows, columns-past, listsTo, ListsStored, length-lists}
 use Rattle.tables.specs.Columns.{predCount}
 use Rattle.passes.specs.Predecessors.{NodeLists, predsOf, all-lists, successor-lists}
 use Rattle.passes.specs.PredecessorLists.{Ready, Written, Successors, stored-successors}
 use Rattle.passes.specs.EdgeCount.{edges-joined}
-use Rattle.passes.specs.FinalLists.{FinalTables, SkipsHeld, WritesReady, WritesDone}
+use Rattle.passes.specs.FinalLists.{finalList, FinalTables, SkipsHeld, WritesReady, WritesDone, few-through, finals-are, writes-ready}
 use Rattle.passes.specs.PreparedLaws.{return-row}
 use Rattle.wiring.specs.GraphTables.{countTable, listTable, succTable, predTable, count-table, list-table, return-table, succ-table, pred-table}
 use Rattle.wiring.specs.Wiring.{WiredGraph}
@@ -46,11 +44,12 @@ pub record EdgesHeld (L : Listing) (ks : List ℕ) (handlers : Bool) (stmts args
   pub zero-succ : succ ≡ replicate (length succ) 0
   pub zero-pred : pred ≡ replicate (length pred) 0
 
-pub record EdgesReady (handlers : Bool) (stmts args entries falls links frames dispatched : List ℕ) (lines n d : ℕ) (lists scratch returns : List ℕ) (targets : ℕ) (succ pred : List ℕ) (room : ℕ) : Type 0 where
-  pub listing : Listing
-  pub keys₀ : List ℕ
-  pub edges : EdgesHeld listing keys₀ handlers stmts args entries falls links frames dispatched lines n d lists scratch returns targets succ pred
-  pub buffer-size : room ≡ 4096
+-- what the lists of n nodes need, by the tables alone
+pub record EdgesReady (handlers : Bool) (stmts args falls links : List ℕ) (n : ℕ) (lists scratch returns : List ℕ) (targets : ℕ) (succ pred : List ℕ) (room : ℕ) : Type 0 where
+  pub writes : WritesReady handlers stmts args falls links n lists scratch returns targets (length succ) room
+  pub node-lists : NodeLists n (listsTo (finalList handlers stmts args falls links lists scratch returns targets) n)
+  pub none : (i : ℕ) → i < n → predCount lists i ≡ 0
+  pub pred-fits : length (joinedLists (listsTo (finalList handlers stmts args falls links lists scratch returns targets) n)) ≤ length pred
 
 -- the lists of L are written, r edges in all
 pub record EdgesAre (L : Listing) (lists succ pred : List ℕ) (r : ℕ) : Type 0 where
@@ -59,9 +58,11 @@ pub record EdgesAre (L : Listing) (lists succ pred : List ℕ) (r : ℕ) : Type 
   pub succ-are : succ ≡ succTable L (length succ)
   pub pred-are : pred ≡ predTable L (length pred)
 
-abbrev pub EdgesWritten : (handlers : Bool) (stmts args entries falls links frames dispatched : List ℕ) (lines n d : ℕ) (lists lists′ scratch returns : List ℕ) (targets : ℕ) (succ succ′ pred pred′ : List ℕ) (r : ℕ) → Type 0
-EdgesWritten handlers stmts args entries falls links frames dispatched lines n d lists lists′ scratch returns targets succ succ′ pred pred′ r =
-    (L : Listing) (ks : List ℕ) → EdgesHeld L ks handlers stmts args entries falls links frames dispatched lines n d lists scratch returns targets succ pred → EdgesAre L lists′ succ′ pred′ r
+-- the lists that the tables say are written, r entries in all, and then their predecessors
+pub record EdgesWritten (handlers : Bool) (stmts args falls links : List ℕ) (n : ℕ) (lists lists′ scratch returns : List ℕ) (targets : ℕ) (succ succ′ pred pred′ : List ℕ) (r : ℕ) : Type 0 where
+  pub between : List ℕ
+  pub stored : ListsStored (listsTo (finalList handlers stmts args falls links lists scratch returns targets) n) r lists between succ succ′
+  pub written : Written n r succ′ between lists′ pred pred′
 
 -- what the whole stage needs
 pub record WriteHeld (L : Listing) (ks : List ℕ) (handlers : Bool) (stmts args entries falls links frames dispatched : List ℕ) (lines n d : ℕ) (counts lists scratch returns : List ℕ) (targets : ℕ) (succ pred : List ℕ) : Type 0 where
@@ -70,16 +71,15 @@ pub record WriteHeld (L : Listing) (ks : List ℕ) (handlers : Bool) (stmts args
   pub returns-are : returns ≡ padded (length returns) (returnTargets (wire L))
   pub targets-are : targets ≡ length (returnTargets (wire L))
 
-pub record WriteReady (handlers : Bool) (stmts args entries falls links frames dispatched : List ℕ) (lines n d : ℕ) (counts lists scratch returns : List ℕ) (targets : ℕ) (succ pred : List ℕ) (room : ℕ) : Type 0 where
-  pub listing : Listing
-  pub keys₀ : List ℕ
-  pub held : WriteHeld listing keys₀ handlers stmts args entries falls links frames dispatched lines n d counts lists scratch returns targets succ pred
-  pub buffer-size : room ≡ 4096
+pub record WriteReady (handlers : Bool) (stmts args falls links : List ℕ) (n : ℕ) (lists scratch returns : List ℕ) (targets : ℕ) (succ pred : List ℕ) (room : ℕ) : Type 0 where
+  pub edges : EdgesReady handlers stmts args falls links n lists scratch returns targets succ pred room
+  pub few-targets : targets < 65536
 
-abbrev pub WrittenGraph : (handlers : Bool) (stmts args entries falls links frames dispatched : List ℕ) (lines n d : ℕ) (counts lists scratch returns : List ℕ) (targets : ℕ) (succ pred counts′ args′ lists′ succ′ pred′ : List ℕ) → Type 0
-WrittenGraph handlers stmts args entries falls links frames dispatched lines n d counts lists scratch returns targets succ pred counts′ args′ lists′ succ′ pred′ =
-    (L : Listing) (ks : List ℕ) → WriteHeld L ks handlers stmts args entries falls links frames dispatched lines n d counts lists scratch returns targets succ pred
-    → WiredGraph L ks counts′ args′ lists′ returns succ′ pred′
+pub record WrittenGraph (handlers : Bool) (stmts args falls links : List ℕ) (n : ℕ) (counts lists scratch returns : List ℕ) (targets : ℕ) (succ pred counts′ args′ lists′ succ′ pred′ : List ℕ) : Type 0 where
+  pub total : ℕ
+  pub edges : EdgesWritten handlers stmts args falls links n lists lists′ scratch returns targets succ succ′ pred pred′ total
+  pub cleared : ClearTold stmts n args args′
+  pub counted : counts′ ≡ set (set counts 3 total) 4 targets
 
 -- ---- zeros
 
@@ -103,72 +103,80 @@ edges-are L = edges-joined L ∙ ap (λ (k : List (List ℕ)). length (joinedLis
 lists-of : (L : Listing) (n : ℕ) → n ≡ nodeCount L → NodeLists n (allSuccessors L)
 lists-of L n e = rw e (successor-lists L)
 
-module _ {L : Listing} {ks : List ℕ} {handlers : Bool} {stmts args entries falls links frames dispatched : List ℕ} {lines n d : ℕ} {lists scratch returns : List ℕ} {targets : ℕ} {succ pred : List ℕ}
-    (q : EdgesHeld L ks handlers stmts args entries falls links frames dispatched lines n d lists scratch returns targets succ pred) where
-  pub lists-ready : {room : ℕ} → room ≡ 4096 → WritesReady handlers stmts args entries falls links frames dispatched lines n d lists scratch returns targets (length succ) room
-  lists-ready b =
+module _ {handlers : Bool} {stmts args falls links : List ℕ} {n : ℕ} {lists scratch returns : List ℕ} {targets : ℕ} {succ pred : List ℕ} {room : ℕ}
+    (q : EdgesReady handlers stmts args falls links n lists scratch returns targets succ pred room) {lists₁ succ₁ : List ℕ} {total : ℕ}
+    (s : WritesDone handlers stmts args falls links n lists lists₁ scratch returns targets succ succ₁ total) where
+  pub preds-ready : Ready n total succ₁ lists₁ pred
+  preds-ready =
+      let k = q .node-lists in
       record {
-        listing = L;
-        keys₀ = ks;
-        tables = q .tables;
-        held = q .held .skips;
-        rows = q .rows;
-        fits = omega (arith, q .succ-fits, edges-are L);
-        few = omega (arith, q .few-edges, edges-are L);
-        buffer-size = b;
+        ls = listsTo (finalList handlers stmts args falls links lists scratch returns targets) n;
+        held = stored-successors k (omega (arith, q .writes .fits, s .used)) s;
+        edges-are = s .used;
+        none = λ i h. s .rows .col3 i (omega (arith, k .size)) ∙ q .none i h;
+        room = record {
+          few-nodes = q .writes .calls .few;
+          few-edges = omega (arith, q .writes .few, s .used);
+          rows = omega (arith, q .writes .rows, s .rows .size);
+          space = omega (arith, q .pred-fits, s .used);
+        };
       }
 
+  pub total-few : total < 65536
+  total-few = omega (arith, q .writes .few, s .used)
+
+-- ---- for a listing
+
+module _ {L : Listing} {ks : List ℕ} {handlers : Bool} {stmts args entries falls links frames dispatched : List ℕ} {lines n d : ℕ} {lists scratch returns : List ℕ} {targets : ℕ} {succ pred : List ℕ}
+    (q : EdgesHeld L ks handlers stmts args entries falls links frames dispatched lines n d lists scratch returns targets succ pred) where
   nodes-are : n ≡ nodeCount L
   nodes-are = q .tables .prepared .nodes-are
 
-  module _ {lists₁ succ₁ : List ℕ} {total : ℕ} (w : WritesDone handlers stmts args entries falls links frames dispatched lines n d lists lists₁ scratch returns targets succ succ₁ total) where
-    stored : ListsStored (allSuccessors L) total lists lists₁ succ succ₁
-    stored = w L ks (q .tables) (q .held .skips)
+  finals : listsTo (finalList handlers stmts args falls links lists scratch returns targets) n ≡ allSuccessors L
+  finals = finals-are (q .tables) (q .held .skips)
+
+  no-preds : (i : ℕ) → i < n → predCount lists i ≡ 0
+  no-preds i h =
+      let k = q .held .skips in
+      let l = length-lists (skipSteps (wire L)) n in
+      k .stored .rows .col3 i (omega arith) ∙ zeros-at (k .lists₀) (i * 4 + 3) (q .held .zero-rows) (omega (arith, q .rows, k .stored .rows .size))
+
+  pub edges-ready : {room : ℕ} → room ≡ 4096 → EdgesReady handlers stmts args falls links n lists scratch returns targets succ pred room
+  edges-ready b =
+      record {
+        writes = writes-ready (q .tables) (q .held .skips) (q .rows) (omega (arith, q .succ-fits, edges-are L)) (omega (arith, q .few-edges, edges-are L)) b;
+        node-lists = rw finals (lists-of L n nodes-are);
+        none = no-preds;
+        pred-fits = omega (arith, q .pred-fits, edges-are L, ap (λ (x : List (List ℕ)). length (joinedLists x)) finals);
+      }
+
+  module _ {lists₂ succ₁ pred₂ : List ℕ} {total : ℕ} (w : EdgesWritten handlers stmts args falls links n lists lists₂ scratch returns targets succ succ₁ pred pred₂ total) where
+    stored : ListsStored (allSuccessors L) total lists (w .between) succ succ₁
+    stored = rw finals at (w .stored)
 
     size : length (allSuccessors L) ≡ n
     size = lists-of L n nodes-are .size
 
-    pub edges-counted : total ≡ edgeCount L
+    edges-counted : total ≡ edgeCount L
     edges-counted = stored .used ∙ sym (edges-are L)
 
-    successors-stand : Successors n (allSuccessors L) succ₁ lists₁
+    successors-stand : Successors n (allSuccessors L) succ₁ (w .between)
     successors-stand = stored-successors (lists-of L n nodes-are) (omega (arith, q .succ-fits, edges-counted)) stored
 
-    no-preds : (i : ℕ) → i < n → predCount lists₁ i ≡ 0
-    no-preds i h =
-        let k = q .held .skips in
-        let l = length-lists (skipSteps (wire L)) n in
-        stored .rows .col3 i (omega (arith, size)) ∙ k .stored .rows .col3 i (omega arith) ∙ zeros-at (k .lists₀) (i * 4 + 3) (q .held .zero-rows) (omega (arith, q .rows, k .stored .rows .size))
-
-    rest : drop (n * 4) lists₁ ≡ replicate (length (drop (n * 4) lists₁)) 0
+    rest : drop (n * 4) (w .between) ≡ replicate (length (drop (n * 4) (w .between))) 0
     rest =
         let k = q .held .skips in
-        let l : drop (n * 4) lists₁ ≡ drop (n * 4) lists = rw size at (columns-past (stored .rows)) in
+        let l : drop (n * 4) (w .between) ≡ drop (n * 4) lists = rw size at (columns-past (stored .rows)) in
         let m : drop (n * 4) lists ≡ drop (n * 4) (k .lists₀) = rw (length-lists (skipSteps (wire L)) n) at (columns-past (k .stored .rows)) in
         rw (l, m) (zeros-drop (n * 4) (k .lists₀) (q .held .zero-rows))
 
-    pub preds-ready : Ready n total succ₁ lists₁ pred
-    preds-ready =
-        record {
-          ls = allSuccessors L;
-          held = successors-stand;
-          edges-are = stored .used;
-          none = no-preds;
-          room = record {
-            few-nodes = q .tables .prepared .few;
-            few-edges = omega (arith, q .few-edges, edges-counted);
-            rows = omega (arith, q .rows, stored .rows .size);
-            space = omega (arith, q .pred-fits, edges-counted);
-          };
-        }
-
-    pub edges-written : {lists₂ pred₂ : List ℕ} → Written n total succ₁ lists₁ lists₂ pred pred₂ → EdgesAre L lists₂ succ₁ pred₂ total
-    edges-written {lists₂} {pred₂} p =
+    pub edges-written : EdgesAre L lists₂ succ₁ pred₂ total
+    edges-written =
         let ls = allSuccessors L in
-        let v = p ls successors-stand (stored .used) in
+        let v = w .written ls successors-stand (stored .used) in
         record {
           counted = edges-counted;
-          lists-are = zeros-behind (listRows ls (predsOf ls) n) (drop (n * 4) lists₁) lists₂ rest (v .rows) ∙ ap (λ (m : ℕ). padded (length lists₂) (listRows ls (predsOf ls) m)) nodes-are ∙ sym (list-table L (length lists₂));
+          lists-are = zeros-behind (listRows ls (predsOf ls) n) (drop (n * 4) (w .between)) lists₂ rest (v .rows) ∙ ap (λ (m : ℕ). padded (length lists₂) (listRows ls (predsOf ls) m)) nodes-are ∙ sym (list-table L (length lists₂));
           succ-are = zeros-behind (joinedLists ls) (drop total succ) succ₁ (zeros-drop total succ (q .zero-succ)) (stored .table) ∙ sym (succ-table L (length succ₁));
           pred-are = zeros-behind (joinedLists (predsOf ls)) (drop (length (joinedLists ls)) pred) pred₂ (zeros-drop (length (joinedLists ls)) pred (q .zero-pred)) (v .table) ∙ sym (pred-table L (length pred₂));
         }
@@ -188,10 +196,6 @@ args-back {ks = ks} {stmts = stmts} {args = args} {n = n} {args′ = args′} t 
 
 -- ---- the counts
 
-pub few-targets : (L : Listing) → length (returnTargets (wire L)) ≤ nodeCount L
-unfolding returnTargets
-few-targets L = few (nodeCount L) (distinct-all (each (continuation (wire L)) (below (nodeCount L))) dist[]) (target-ids L)
-
 counts-written : (L : Listing) (counts counts′ : List ℕ) (edges targets : ℕ) → counts ≡ padded 5 (countsOf L) → edges ≡ edgeCount L → targets ≡ length (returnTargets (wire L))
     → counts′ ≡ set (set counts 3 edges) 4 targets → counts′ ≡ countTable L 5
 unfolding padded countsOf
@@ -206,20 +210,20 @@ module _ {L : Listing} {ks : List ℕ} {handlers : Bool} {stmts args entries fal
       let t = q .edges .tables in
       s .fitting (read-sets stmts n args (record { few = t .prepared .few; in-stmts = t .prepared .stmts-fit; in-sets = omega (arith, t .prepared .args-fit, t .args-size) }))
 
-  module _ {lists′ succ′ pred′ : List ℕ} {total : ℕ} (w : EdgesWritten handlers stmts args entries falls links frames dispatched lines n d lists lists′ scratch returns targets succ succ′ pred pred′ total) where
-    pub counts-ready : (total < 65536) × (targets < 65536)
-    counts-ready =
-        let p = q .edges .tables .prepared in
-        (omega (arith, w L ks (q .edges) .counted, q .edges .few-edges), omega (arith, q .targets-are, few-targets L, p .nodes-are, p .few))
+  pub write-table : {room : ℕ} → room ≡ 4096 → WriteReady handlers stmts args falls links n lists scratch returns targets succ pred room
+  write-table b =
+      let p = q .edges .tables .prepared in
+      record { edges = edges-ready (q .edges) b; few-targets = omega (arith, q .targets-are, few-through L, p .nodes-are, p .few) }
 
-    pub graph-written : {args′ counts′ : List ℕ} → ClearTold stmts n args args′ → counts′ ≡ set (set counts 3 total) 4 targets → WiredGraph L ks counts′ args′ lists′ returns succ′ pred′
-    graph-written {args′} {counts′} s c =
-        let e = w L ks (q .edges) in
-        record {
-          counts-are = counts-written L counts counts′ total targets (q .counts-are) (e .counted) (q .targets-are) c;
-          args-are = args-back (q .edges .tables) (cleared s);
-          lists-are = e .lists-are;
-          returns-are = q .returns-are ∙ sym (return-table L (length returns));
-          succ-are = e .succ-are;
-          pred-are = e .pred-are;
-        }
+  pub graph-written : {counts′ args′ lists′ succ′ pred′ : List ℕ} → WrittenGraph handlers stmts args falls links n counts lists scratch returns targets succ pred counts′ args′ lists′ succ′ pred′
+      → WiredGraph L ks counts′ args′ lists′ returns succ′ pred′
+  graph-written {counts′} w =
+      let e = edges-written (q .edges) (w .edges) in
+      record {
+        counts-are = counts-written L counts counts′ (w .total) targets (q .counts-are) (e .counted) (q .targets-are) (w .counted);
+        args-are = args-back (q .edges .tables) (cleared (w .cleared));
+        lists-are = e .lists-are;
+        returns-are = q .returns-are ∙ sym (return-table L (length returns));
+        succ-are = e .succ-are;
+        pred-are = e .pred-are;
+      }

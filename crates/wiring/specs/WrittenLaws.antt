@@ -31,7 +31,8 @@ use Rattle.wiring.specs.Refusals.{LongEnough}
 use Rattle.passes.specs.GraphHeld.{GraphHeld}
 use Rattle.passes.specs.HoldsListing.{HoldsListing}
 use Rattle.passes.specs.GraphReads.{node-count, reads, succ-part, pred-part, continuation-is}
-use Rattle.wiring.specs.WriteGraph.{edges-are, few-targets}
+use Rattle.wiring.specs.WriteGraph.{edges-are}
+use Rattle.passes.specs.FinalLists.{few-through}
 
 -- ---- the tables hold the graph
 
@@ -63,7 +64,7 @@ graph-held L s T ok g w =
     let xe = again (s .entries) _ (T .entries) (omega (arith, entry-count (L .lines), hl .1)) (w .entries ∙ entries-table L (s .entries)) in
     let xf = again (s .falls) _ (T .falls) (omega (arith, rows-length (wire L .entries) (wire L .nodes), n, hn .in-falls)) (w .falls ∙ fall-table L (s .falls)) in
     let xi = again (s .lists) _ (T .lists) (omega (arith, length-rows (startOf ls) (λ j. length (getD ls j [])) (startOf ps) (λ j. length (getD ps j [])) (nodeCount L), n, hn .in-lists)) (w .lists ∙ list-table L (s .lists)) in
-    let xr = again (s .returns) _ (T .returns) (omega (arith, few-targets L, n, hn .in-returns)) (w .returns ∙ return-table L (s .returns)) in
+    let xr = again (s .returns) _ (T .returns) (omega (arith, few-through L, n, hn .in-returns)) (w .returns ∙ return-table L (s .returns)) in
     let xu = again (s .succ) _ (T .succ) (omega (arith, b, he .0)) (w .succ ∙ succ-table L (s .succ)) in
     let xp = again (s .pred) _ (T .pred) (omega (arith, preds-total (successor-lists L), b, he .1)) (w .pred ∙ pred-table L (s .pred)) in
     record {
@@ -84,7 +85,7 @@ graph-held L s T ok g w =
       entries-fit = omega (arith, xe .0, hl .1);
       falls-fit = omega (arith, xf .0, hn .in-falls);
       lists-fit = omega (arith, xi .0, hn .in-lists);
-      returns-fit = omega (arith, xr .0, few-targets L, n, hn .in-returns);
+      returns-fit = omega (arith, xr .0, few-through L, n, hn .in-returns);
       succ-fit = omega (arith, xu .0, b, he .0);
       pred-fit = omega (arith, xp .0, preds-total (successor-lists L), b, he .1);
       few-edges = omega (arith, b, he .2);

@@ -1,5 +1,5 @@
 // The successor lists of the graph, in node order.
-use crate::list_of::list_of;
+use crate::list_of::add_jump;
 use crate::store::append_list;
 use crate::store::move_list;
 use crate::store::store_list;
@@ -40,13 +40,8 @@ fn write_list(
     handlers: bool,
     stmts: &[u16],
     args: &[u64],
-    entries: &[u16],
     falls: &[u16],
     links: &[u16],
-    frames: &[u16],
-    dispatched: &[u16],
-    lines: usize,
-    d: usize,
     i: usize,
     at: usize,
     lists: &mut [u16],
@@ -56,8 +51,8 @@ fn write_list(
     succ: &mut [u16],
     buffer: &mut [u16],
 ) -> usize
-    requires { ⌜ WriteReady handlers (now stmts) (now args) (now entries) (now falls) (now links) (now frames) (now dispatched) lines d i at (now lists) (now scratch) (now returns) targets (length (now succ)) (length (now buffer)) ⌝ }
-    ensures { λ r. ⌜ WriteDone handlers (now (stmts .entry)) (now (args .entry)) (now (entries .entry)) (now (falls .entry)) (now (links .entry)) (now (frames .entry)) (now (dispatched .entry)) lines d i at (now (lists .entry)) (now (lists .exit)) (now (scratch .entry)) (now (returns .entry)) targets (now (succ .entry)) (now (succ .exit)) r ⌝ }
+    requires { ⌜ WriteReady handlers (now stmts) (now args) (now falls) (now links) i at (now lists) (now scratch) (now returns) targets (length (now succ)) (length (now buffer)) ⌝ }
+    ensures { λ r. ⌜ WriteDone handlers (now (stmts .entry)) (now (args .entry)) (now (falls .entry)) (now (links .entry)) i at (now (lists .entry)) (now (lists .exit)) (now (scratch .entry)) (now (returns .entry)) targets (now (succ .entry)) (now (succ .exit)) r ⌝ }
 {
     let word = stmts[i * 12];
     if word == RETURN {
@@ -65,19 +60,7 @@ fn write_list(
         return append_list(lists, succ, i, at, &buffer[..count], count);
     }
     if is_call(word) {
-        let count = list_of(
-            stmts,
-            args,
-            entries,
-            falls,
-            links,
-            frames,
-            dispatched,
-            lines,
-            d,
-            i,
-            buffer,
-        );
+        let count = add_jump(stmts, falls, links, i, buffer);
         return append_list(lists, succ, i, at, &buffer[..count], count);
     }
     move_list(lists, scratch, succ, i, at)
@@ -89,14 +72,9 @@ pub(crate) fn write_lists(
     handlers: bool,
     stmts: &[u16],
     args: &[u64],
-    entries: &[u16],
     falls: &[u16],
     links: &[u16],
-    frames: &[u16],
-    dispatched: &[u16],
-    lines: usize,
     n: usize,
-    d: usize,
     lists: &mut [u16],
     scratch: &[u16],
     returns: &[u16],
@@ -104,8 +82,8 @@ pub(crate) fn write_lists(
     succ: &mut [u16],
     buffer: &mut [u16],
 ) -> usize
-    requires { ⌜ WritesReady handlers (now stmts) (now args) (now entries) (now falls) (now links) (now frames) (now dispatched) lines n d (now lists) (now scratch) (now returns) targets (length (now succ)) (length (now buffer)) ⌝ }
-    ensures { λ r. ⌜ WritesDone handlers (now (stmts .entry)) (now (args .entry)) (now (entries .entry)) (now (falls .entry)) (now (links .entry)) (now (frames .entry)) (now (dispatched .entry)) lines n d (now (lists .entry)) (now (lists .exit)) (now (scratch .entry)) (now (returns .entry)) targets (now (succ .entry)) (now (succ .exit)) r ⌝ }
+    requires { ⌜ WritesReady handlers (now stmts) (now args) (now falls) (now links) n (now lists) (now scratch) (now returns) targets (length (now succ)) (length (now buffer)) ⌝ }
+    ensures { λ r. ⌜ WritesDone handlers (now (stmts .entry)) (now (args .entry)) (now (falls .entry)) (now (links .entry)) n (now (lists .entry)) (now (lists .exit)) (now (scratch .entry)) (now (returns .entry)) targets (now (succ .entry)) (now (succ .exit)) r ⌝ }
 {
     let mut at: usize = 0;
     let mut i: usize = 0;
@@ -114,13 +92,8 @@ pub(crate) fn write_lists(
             handlers,
             stmts,
             args,
-            entries,
             falls,
             links,
-            frames,
-            dispatched,
-            lines,
-            d,
             i,
             at,
             lists,

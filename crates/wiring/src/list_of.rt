@@ -115,7 +115,13 @@ fn add_run(
 }
 
 // GOTO, GOSUB and ON go to their targets, and ON falls after them. A RETURN has no target here.
-fn add_jump(stmts: &[u16], falls: &[u16], links: &[u16], i: usize, part: &mut [u16]) -> usize
+pub(crate) fn add_jump(
+    stmts: &[u16],
+    falls: &[u16],
+    links: &[u16],
+    i: usize,
+    part: &mut [u16],
+) -> usize
     requires { ⌜ (i * 12 + 12 ≤ length (now stmts)) × (i * 3 + 3 ≤ length (now falls)) × (i * 64 + 64 ≤ length (now links)) × (getD (now stmts) (i * 12 + 10) 0 ≤ 64) ⌝ }
     requires { ⌜ RoomToAdd (now part) 0 (jumpEdges (now stmts) (now falls) (now links) i) ⌝ }
     ensures { λ r. ⌜ Grows (now (part .entry)) 0 (now (part .exit)) r (jumpEdges (now (stmts .entry)) (now (falls .entry)) (now (links .entry)) i) ⌝ }

@@ -12,14 +12,9 @@ fn write_edges(
     handlers: bool,
     stmts: &[u16],
     args: &[u64],
-    entries: &[u16],
     falls: &[u16],
     links: &[u16],
-    frames: &[u16],
-    dispatched: &[u16],
-    lines: usize,
     n: usize,
-    d: usize,
     lists: &mut [u16],
     scratch: &[u16],
     returns: &[u16],
@@ -28,21 +23,16 @@ fn write_edges(
     pred: &mut [u16],
     buffer: &mut [u16],
 ) -> usize
-    requires { ⌜ EdgesReady handlers (now stmts) (now args) (now entries) (now falls) (now links) (now frames) (now dispatched) lines n d (now lists) (now scratch) (now returns) targets (now succ) (now pred) (length (now buffer)) ⌝ }
-    ensures { λ r. ⌜ EdgesWritten handlers (now (stmts .entry)) (now (args .entry)) (now (entries .entry)) (now (falls .entry)) (now (links .entry)) (now (frames .entry)) (now (dispatched .entry)) lines n d (now (lists .entry)) (now (lists .exit)) (now (scratch .entry)) (now (returns .entry)) targets (now (succ .entry)) (now (succ .exit)) (now (pred .entry)) (now (pred .exit)) r ⌝ }
+    requires { ⌜ EdgesReady handlers (now stmts) (now args) (now falls) (now links) n (now lists) (now scratch) (now returns) targets (now succ) (now pred) (length (now buffer)) ⌝ }
+    ensures { λ r. ⌜ EdgesWritten handlers (now (stmts .entry)) (now (args .entry)) (now (falls .entry)) (now (links .entry)) n (now (lists .entry)) (now (lists .exit)) (now (scratch .entry)) (now (returns .entry)) targets (now (succ .entry)) (now (succ .exit)) (now (pred .entry)) (now (pred .exit)) r ⌝ }
 {
     let total = write_lists(
         handlers,
         stmts,
         args,
-        entries,
         falls,
         links,
-        frames,
-        dispatched,
-        lines,
         n,
-        d,
         lists,
         scratch,
         returns,
@@ -68,14 +58,9 @@ pub(crate) fn write_graph(
     handlers: bool,
     stmts: &[u16],
     args: &mut [u64],
-    entries: &[u16],
     falls: &[u16],
     links: &[u16],
-    frames: &[u16],
-    dispatched: &[u16],
-    lines: usize,
     n: usize,
-    d: usize,
     counts: &mut [u32; 5],
     lists: &mut [u16],
     scratch: &[u16],
@@ -85,21 +70,16 @@ pub(crate) fn write_graph(
     pred: &mut [u16],
     buffer: &mut [u16],
 )
-    requires { ⌜ WriteReady handlers (now stmts) (now args) (now entries) (now falls) (now links) (now frames) (now dispatched) lines n d (now counts) (now lists) (now scratch) (now returns) targets (now succ) (now pred) (length (now buffer)) ⌝ }
-    ensures { λ _. ⌜ WrittenGraph handlers (now (stmts .entry)) (now (args .entry)) (now (entries .entry)) (now (falls .entry)) (now (links .entry)) (now (frames .entry)) (now (dispatched .entry)) lines n d (now (counts .entry)) (now (lists .entry)) (now (scratch .entry)) (now (returns .entry)) targets (now (succ .entry)) (now (pred .entry)) (now (counts .exit)) (now (args .exit)) (now (lists .exit)) (now (succ .exit)) (now (pred .exit)) ⌝ }
+    requires { ⌜ WriteReady handlers (now stmts) (now args) (now falls) (now links) n (now lists) (now scratch) (now returns) targets (now succ) (now pred) (length (now buffer)) ⌝ }
+    ensures { λ _. ⌜ WrittenGraph handlers (now (stmts .entry)) (now (args .entry)) (now (falls .entry)) (now (links .entry)) n (now (counts .entry)) (now (lists .entry)) (now (scratch .entry)) (now (returns .entry)) targets (now (succ .entry)) (now (pred .entry)) (now (counts .exit)) (now (args .exit)) (now (lists .exit)) (now (succ .exit)) (now (pred .exit)) ⌝ }
 {
     let total = write_edges(
         handlers,
         stmts,
         args,
-        entries,
         falls,
         links,
-        frames,
-        dispatched,
-        lines,
         n,
-        d,
         lists,
         scratch,
         returns,

@@ -1,8 +1,8 @@
 -- `write_list`: the list of a RETURN or a call from the buffer, any other's from scratch. Assumes nothing.
-use mathlib.Core.Path.{sym, _∙_}
+use mathlib.Core.Path.{refl, sym, _∙_}
 use borrow.Author.Needs.{needs}
 use Rattle.passes.specs.SkipLists.{list-kept}
-use Rattle.passes.specs.FinalLists.{return-ready, return-fits, return-done, call-ready, call-inside, call-kept, call-fits, call-done, move-fits, move-done}
+use Rattle.passes.specs.FinalLists.{return-ready, return-fits, return-done, call-ready, call-room, call-inside, call-kept, call-fits, call-done, move-fits, move-done}
 use Rattle.wiring.proofs.final_lists.write_list.Statement.{statement}
 use Rattle.wiring.proofs.final_lists.write_list.Tie as tie
 
@@ -28,13 +28,28 @@ slice-aggregate-append-list c = let at-return-list : tie.After-return-list = sea
 abbrev start-of-return-list : tie.After-return-list → tie.Start
 start-of-return-list c = search
 
-abbrev start-of-list-of : tie.After-list-of → tie.Start
-start-of-list-of c = search
+abbrev buffer-of-append-list : tie.After-append-list2 → tie.After-buffer2
+buffer-of-append-list c = search
+
+abbrev jump-of-buffer : tie.After-buffer2 → tie.After-add-jump
+jump-of-buffer c = search
+
+abbrev then-of-add-jump : tie.After-add-jump → tie.Then2
+then-of-add-jump c = search
+
+abbrev is-call-of-then : tie.Then2 → tie.After-is-call
+is-call-of-then c = search
+
+abbrev else-of-is-call : tie.After-is-call → tie.Else1
+else-of-is-call c = search
+
+abbrev start-of-else : tie.Else1 → tie.Start
+start-of-else c = search
 
 abbrev start-of-move-list : tie.After-move-list → tie.Start
 start-of-move-list c = search
 
-ruleset ways = (start-of-return-list, start-of-list-of, start-of-move-list)
+ruleset ways = (start-of-return-list, buffer-of-append-list, jump-of-buffer, then-of-add-jump, is-call-of-then, else-of-is-call, start-of-else, start-of-move-list)
 
 append-list-requires : tie.Need-append-list-requires
 append-list-requires c κs =
@@ -62,28 +77,44 @@ returns c =
 is-call-requires : tie.Need-is-call-requires
 is-call-requires c κs = search needs
 
-list-of-requires : tie.Need-list-of-requires
-list-of-requires c κs = let at-start : tie.Start = search in call-ready (at-start .pre) (c .before .before .before .if1 .left)
+add-jump-requires : tie.Need-add-jump-requires
+add-jump-requires c κs =
+    let at-then2 : tie.Then2 = search in
+    let at-is-call : tie.After-is-call = search in
+    let at-else1 : tie.Else1 = search in
+    let at-start : tie.Start = search ways in
+    let h = sym (at-is-call .is-call .ensures) ∙ at-then2 .if2 .taken in
+    (call-ready (at-start .pre) (at-else1 .if1 .left) h, call-room (at-start .pre) (at-else1 .if1 .left) h _ refl)
 
 slice-reshare-prefix-append-list-2 : tie.Need-slice-reshare-prefix-append-list-2
 slice-reshare-prefix-append-list-2 c =
+    let at-buffer2 : tie.After-buffer2 = search in
+    let at-add-jump : tie.After-add-jump = search in
+    let at-then2 : tie.Then2 = search in
+    let at-is-call : tie.After-is-call = search in
     let at-else1 : tie.Else1 = search in
-    let at-start : tie.Start = search in
-    call-inside (at-start .pre) (at-else1 .if1 .left) (c .before .before .before .before .list-of .ensures)
+    let at-start : tie.Start = search ways in
+    call-inside (at-start .pre) (at-else1 .if1 .left) (sym (at-is-call .is-call .ensures) ∙ at-then2 .if2 .taken) refl (at-buffer2 .buffer2 .given) (at-add-jump .add-jump .ensures)
 
 slice-aggregate-append-list-2 : tie.Need-slice-aggregate-append-list-2
 slice-aggregate-append-list-2 c =
-    let at-list-of : tie.After-list-of = search in
+    let at-buffer2 : tie.After-buffer2 = search in
+    let at-add-jump : tie.After-add-jump = search in
+    let at-then2 : tie.Then2 = search in
+    let at-is-call : tie.After-is-call = search in
     let at-else1 : tie.Else1 = search in
     let at-start : tie.Start = search ways in
-    call-kept (at-start .pre) (at-else1 .if1 .left) (at-list-of .list-of .ensures)
+    call-kept (at-start .pre) (at-else1 .if1 .left) (sym (at-is-call .is-call .ensures) ∙ at-then2 .if2 .taken) refl (at-buffer2 .buffer2 .given) (at-add-jump .add-jump .ensures)
 
 append-list-requires-2 : tie.Need-append-list-requires-2
 append-list-requires-2 c κs =
-    let at-list-of : tie.After-list-of = search in
+    let at-buffer2 : tie.After-buffer2 = search in
+    let at-add-jump : tie.After-add-jump = search in
+    let at-then2 : tie.Then2 = search in
+    let at-is-call : tie.After-is-call = search in
     let at-else1 : tie.Else1 = search in
     let at-start : tie.Start = search ways in
-    call-fits (at-start .pre) (at-else1 .if1 .left) (at-list-of .list-of .ensures)
+    call-fits (at-start .pre) (at-else1 .if1 .left) (sym (at-is-call .is-call .ensures) ∙ at-then2 .if2 .taken) refl (at-buffer2 .buffer2 .given) (at-add-jump .add-jump .ensures)
 
 same-length-4 : tie.Need-same-length-4
 same-length-4 c = c .before .before .before .lists2 .given
@@ -96,10 +127,14 @@ same-length-6 c = search
 
 returns-2 : tie.Need-returns-2
 returns-2 c =
-    let at-list-of : tie.After-list-of = search in
-    let at-else1 : tie.Else1 = search in
+    let at-append-list2 : tie.After-append-list2 = search in
+    let at-buffer2 : tie.After-buffer2 = search ways in
+    let at-add-jump : tie.After-add-jump = search ways in
+    let at-then2 : tie.Then2 = search ways in
+    let at-is-call : tie.After-is-call = search ways in
+    let at-else1 : tie.Else1 = search ways in
     let at-start : tie.Start = search ways in
-    call-done (at-start .pre) (at-else1 .if1 .left) (at-list-of .list-of .ensures) (c .before .before .before .before .append-list2 .ensures)
+    call-done (at-start .pre) (at-else1 .if1 .left) (sym (at-is-call .is-call .ensures) ∙ at-then2 .if2 .taken) refl (at-buffer2 .buffer2 .given) (at-add-jump .add-jump .ensures) (at-append-list2 .append-list2 .ensures)
 
 move-list-requires : tie.Need-move-list-requires
 move-list-requires c κs =
@@ -137,7 +172,7 @@ write-list-spec =
     same-length-3
     returns
     is-call-requires
-    list-of-requires
+    add-jump-requires
     slice-reshare-prefix-append-list-2
     slice-aggregate-append-list-2
     append-list-requires-2

@@ -1,14 +1,11 @@
 -- `write_graph`: the lists, then the arguments as read, then the counts. Assumes nothing.
 use borrow.Author.Needs.{needs}
-use Rattle.wiring.specs.WriteGraph.{counts-ready, graph-written}
+use Rattle.wiring.specs.WriteGraph.{total-few}
 use Rattle.wiring.proofs.write_graph.write_graph.Statement.{statement}
 use Rattle.wiring.proofs.write_graph.write_graph.Tie as tie
 
 write-edges-requires : tie.Need-write-edges-requires
-write-edges-requires c κs =
-    let at-start : tie.Start = search in
-    let q = at-start .pre in
-    record { listing = q .listing; keys₀ = q .keys₀; edges = q .held .edges; buffer-size = q .buffer-size }
+write-edges-requires c κs = let at-start : tie.Start = search in at-start .pre .edges
 
 clear-sets-requires : tie.Need-clear-sets-requires
 clear-sets-requires c κs = search needs
@@ -23,7 +20,7 @@ put-edge-counts-requires : tie.Need-put-edge-counts-requires
 put-edge-counts-requires c κs =
     let at-write-edges : tie.After-write-edges = search in
     let at-start : tie.Start = search ways in
-    counts-ready (at-start .pre .held) (at-write-edges .write-edges .ensures)
+    (total-few (at-start .pre .edges) (at-write-edges .write-edges .ensures .stored), at-start .pre .few-targets)
 
 same-length : tie.Need-same-length
 same-length c = c .before .before .before .args2 .given
@@ -43,7 +40,7 @@ same-length-5 c = search
 returns : tie.Need-returns
 returns c =
     let at-write-edges : tie.After-write-edges = search in
-    λ L ks q. graph-written q (at-write-edges .write-edges .ensures) (c .before .before .before .before .clear-sets .ensures) (c .put-edge-counts .ensures)
+    record { total = at-write-edges .write-edges .result; edges = at-write-edges .write-edges .ensures; cleared = c .before .before .before .before .clear-sets .ensures; counted = c .put-edge-counts .ensures }
 
 pub write-graph-spec : {M : Type 1} → statement M
 write-graph-spec =
