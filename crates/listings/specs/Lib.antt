@@ -12,6 +12,7 @@ pub mod NumberText
 pub mod WordText
 pub mod RowForms
 pub mod RowText
+pub mod Contents
 pub mod RowsTaken
 pub mod Shown
 pub mod ShownLaws

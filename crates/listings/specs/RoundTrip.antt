@@ -13,7 +13,7 @@ use Rattle.listings.specs.Read.{Position, begin, inModule, ended, inStmt
 use Rattle.listings.specs.ListingText.{listingRows, textOf, listingText, Within, InForm}
 use Rattle.listings.specs.RowForms.{split-text, text-split}
 use Rattle.listings.specs.RowText.{content-text}
-use Rattle.listings.specs.RowsTaken.{steps-plain, steps-read, listing-steps}
+use Rattle.listings.specs.RowsTaken.{listing-taken}
 use Rattle.listings.specs.Shown.{positionRows, shown, positionSize, openLines, Good, Next}
 use Rattle.listings.specs.ShownLaws.{row-next}
 use Rattle.listings.specs.ShownLaws.{good-start}
@@ -45,11 +45,10 @@ more-read vs us ps w (refusal n i) e x = tt
 pub in-form-accepted : (L : Listing) → InForm L → read (listingText L) ≡ listing L
 unfolding read listingText
 in-form-accepted L ok =
-    let h = listing-steps L (ok .within) in
+    let h = listing-taken L (ok .within) in
     pick-true (leb (length (listingText L)) 65536) _ _ (le→leb (length (listingText L)) 65536 (ok .byteCount))
-    ∙ ap (readRows start 0) (split-text (listingRows L) (steps-plain (h .1)))
-    ∙ steps-read (h .1) 0 (h .2)
-    ∙ ap listing (sym (h .3))
+    ∙ ap (readRows start 0) (split-text (listingRows L) (h .0))
+    ∙ h .1
 
 rows-read : (ps : List (List ℕ)) (r : Reading) (i : ℕ) → Good r (r .position) → Answered (shown r (r .position)) ps (readRows r i ps)
 unfolding readRows Answered Next

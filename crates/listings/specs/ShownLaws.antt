@@ -13,6 +13,7 @@ use Rattle.listings.specs.Read.{OpenCond, Branches, noBranch, oneBranch,
 use Rattle.listings.specs.ListingText.{endForm, simpleText, condText, branchRows, stmtRows, lineRows, listed, SimpleOk, BranchOk, NoBranch, SecondOk, BranchesOk, StmtsOk, lastNumber, Above, LinesOk, stmtsText, lineText, moduleText}
 use Rattle.listings.specs.NumberText.{IfParsed}
 use Rattle.listings.specs.RowText.{ContentText}
+use Rattle.listings.specs.Contents.{ContentOk, rowText, content-row}
 use Rattle.listings.specs.Shown.{Branch, rowsOf, firstRows, branchesRows, openRows, lineShown, positionRows, shown, firstSize, branchesSize, openSize, positionSize, openLines, ReadOk, FirstOk, AllRead, OpenOk, PositionOk, Good, Next}
 
 check-next : (ws : List (List ℕ)) (b : Bool) (n : ℕ) (o : Outcome Reading) → (T b → Next ws o) → Next ws (check b n o)
@@ -271,6 +272,11 @@ row-next r inModule c w x g = module-next r c w x g
 row-next r ended c w x g = tt
 row-next r (inStmts s fs) c w x g = stmts-next r s fs c w x g
 row-next r (inCond s k bs fs) c w x g = conds-next r s k bs fs c w x g
+
+-- by what the row says: the limits hold after it
+pub good-content : (r q : Reading) (d : Content) → ContentOk d → Good r (r .position) → readRow r (r .position) d ≡ taken q → Good q (q .position)
+unfolding Next
+good-content r q d o g e = subst (Next _) e (row-next r (r .position) d (rowText d) (content-row d o) g) .0
 
 -- before the first row
 pub good-start : Good start (start .position)
