@@ -1,21 +1,57 @@
--- What a row does to the tables and to the walk, and that the tables hold the records. Assumes nothing.
+-- What a row gives, what it does to the tables and to the walk, and what the code needs for that. Assumes nothing.
 use mathlib.Core.Path.{_≡_, sym, ap, _∙_, subst}
 use mathlib.Core.Bool.{Bool, true, false}
-use mathlib.Core.List.{List, _++_}
+use mathlib.Core.List.{List, [], _++_}
 use Prim.Native.Nat.{ℕ, _+_, _*_, _-_, _%_, _≤_, _<_}
 use lib.Dec.{eqb}
 use lib.ListN.{length, take, drop, set, getD}
 use Rattle.listings.specs.Bytes.{pick}
-use Rattle.listings.specs.Rows.{split}
+use Rattle.listings.specs.Rows.{malformed, invalid, parsed, Content, noForm, endRow, stmtsRow, moduleRow, lineRow, toRow, simpleRow, condRow}
+use Rattle.listings.specs.Records.{argsOf, detailOf}
 use Rattle.reader.specs.Tables.{appendRow}
+use Rattle.reader.specs.CodedRows.{asRow}
 use Rattle.reader.specs.AcceptedRows.{uncounted}
-use Rattle.reader.specs.Operands.{openingWord, rowEntries, rowDetail, inside}
 use Rattle.reader.specs.declared.machine.State.{State}
 use Rattle.reader.specs.declared.rows.Row.{Row}
 use Rattle.reader.specs.declared.rows.Row.the-variants as row
 use Rattle.reader.specs.declared.fill.Walk.{Walk}
 use Rattle.reader.specs.declared.tables.Entry.{Entry}
 use Rattle.reader.specs.declared.operands.Given.{Given}
+
+-- ---- what a row is to the tables, and what it gives
+
+-- how many numbers or slots it lists was judged before
+abbrev pub writtenRow : Content → Row
+writtenRow d = uncounted (asRow d)
+
+-- a statement's arguments and its detail
+pub record Operands : Type 0 where
+  pub entries : List ℕ
+  pub detail : ℕ
+
+abbrev pub noOperands : Operands
+noOperands = record { entries = []; detail = 0 }
+
+abbrev pub operandsOf : Content → Operands
+operandsOf noForm = noOperands
+operandsOf endRow = noOperands
+operandsOf stmtsRow = noOperands
+operandsOf (moduleRow h) = noOperands
+operandsOf (lineRow n) = noOperands
+operandsOf (toRow n) = noOperands
+operandsOf (simpleRow malformed) = noOperands
+operandsOf (simpleRow invalid) = noOperands
+operandsOf (simpleRow (parsed d)) = record { entries = argsOf (d .0); detail = detailOf (d .0) }
+operandsOf (condRow k) = noOperands
+
+-- what a reader has of a row that says d, whatever it reads from
+pub record Says (d : Content) (e : Row) (x : Operands) : Type 0 where
+  pub row : e ≡ writtenRow d
+  pub operands : x ≡ operandsOf d
+
+-- what the code keeps of them once the arguments are in their table
+abbrev pub asGiven : Operands → Given
+asGiven x = record { count = length (x .entries); detail = x .detail }
 
 -- ---- what the code does to the tables
 
@@ -39,18 +75,11 @@ endWalk t s w =
     pick (eqb (s .position) 3) (pick (eqb (s .depth) 0) outsideWalk w)
     (pick (eqb (s .position) 4) (record { holder = getD t ((w .holder - 1) * 12 + 2) 0; index = getD t ((w .holder - 1) * 12 + 3) 0 + 1 }) outsideWalk)
 
--- a row's arguments and detail
-abbrev pub entriesIn : List ℕ → List ℕ
-entriesIn l = rowEntries (split 32 (inside l))
-
-abbrev pub detailIn : List ℕ → ℕ
-detailIn l = rowDetail (split 32 (inside l))
-
-abbrev pub addSimple : List ℕ → State → Walk → List ℕ → ℕ → List ℕ
-addSimple t s w l k = appendRow t (s .stmts) (entryOf s w k (s .stmts + 1) (record { count = length (entriesIn l); detail = detailIn l }))
+abbrev pub addSimple : List ℕ → State → Walk → ℕ → Given → List ℕ
+addSimple t s w k g = appendRow t (s .stmts) (entryOf s w k (s .stmts + 1) g)
 
 abbrev pub addCond : List ℕ → State → Walk → ℕ → List ℕ
-addCond t s w k = appendRow t (s .stmts) (entryOf s w (k + 2) 0 (record { count = 0; detail = 0 }))
+addCond t s w k = appendRow t (s .stmts) (entryOf s w (k + 2) 0 (asGiven noOperands))
 
 abbrev pub addEntries : List ℕ → ℕ → List ℕ → List ℕ
 addEntries a n es = take (n * 64) a ++ (es ++ drop (n * 64 + length es) a)
@@ -61,25 +90,26 @@ addedWalk w = record { holder = w .holder; index = w .index + 1 }
 abbrev pub insideWalk : State → Walk
 insideWalk s = record { holder = s .stmts + 1; index = 0 }
 
-abbrev pub stmtTable : List ℕ → State → Walk → List ℕ → Row → List ℕ
-stmtTable t s w l (row.Refused m p) = t
-stmtTable t s w l row.End = endTable t s w
-stmtTable t s w l row.Stmts = t
-stmtTable t s w l (row.Module h) = t
-stmtTable t s w l (row.Line n) = t
-stmtTable t s w l (row.To n) = branchStmts t (w .holder - 1) (eqb (s .branches) 1) 2 n (s .stmts)
-stmtTable t s w l (row.Simple k n) = addSimple t s w l k
-stmtTable t s w l (row.Cond k) = addCond t s w k
+abbrev pub stmtTable : List ℕ → State → Walk → Row → Given → List ℕ
+stmtTable t s w (row.Refused m p) g = t
+stmtTable t s w row.End g = endTable t s w
+stmtTable t s w row.Stmts g = t
+stmtTable t s w (row.Module h) g = t
+stmtTable t s w (row.Line n) g = t
+stmtTable t s w (row.To n) g = branchStmts t (w .holder - 1) (eqb (s .branches) 1) 2 n (s .stmts)
+stmtTable t s w (row.Simple k n) g = addSimple t s w k g
+stmtTable t s w (row.Cond k) g = addCond t s w k
 
-abbrev pub argTable : List ℕ → State → List ℕ → Row → List ℕ
-argTable a s l (row.Refused m p) = a
-argTable a s l row.End = a
-argTable a s l row.Stmts = a
-argTable a s l (row.Module h) = a
-argTable a s l (row.Line n) = a
-argTable a s l (row.To n) = a
-argTable a s l (row.Simple k n) = addEntries a (s .stmts) (entriesIn l)
-argTable a s l (row.Cond k) = a
+-- the arguments of statement n
+abbrev pub argTable : List ℕ → ℕ → Row → Operands → List ℕ
+argTable a n (row.Refused m p) x = a
+argTable a n row.End x = a
+argTable a n row.Stmts x = a
+argTable a n (row.Module h) x = a
+argTable a n (row.Line m) x = a
+argTable a n (row.To m) x = a
+argTable a n (row.Simple k m) x = addEntries a n (x .entries)
+argTable a n (row.Cond k) x = a
 
 abbrev pub lineTable : List ℕ → State → Row → List ℕ
 lineTable t s (row.Refused m p) = t
@@ -101,22 +131,19 @@ walkBy t s w (row.To n) = w
 walkBy t s w (row.Simple k n) = addedWalk w
 walkBy t s w (row.Cond k) = insideWalk s
 
-pub record Wrote (n t a : List ℕ) (s : State) (w : Walk) (l : List ℕ) (d : Row) (n′ t′ a′ : List ℕ) (r : Walk) : Type 0 where
+-- the operands x of statement n: its arguments are in the table, the code has the rest
+abbrev pub OperandsPut : List ℕ → ℕ → Operands → List ℕ → Given → Type 0
+OperandsPut a n x a′ g = (a′ ≡ addEntries a n (x .entries)) × (g ≡ asGiven x)
+
+-- those of a row, before the rest is written
+pub record Placed (a : List ℕ) (n : ℕ) (d : Row) (x : Operands) (a′ : List ℕ) (g : Given) : Type 0 where
+  pub args : a′ ≡ argTable a n d x
+  pub given : g ≡ asGiven x
+
+pub record Wrote (n t : List ℕ) (s : State) (w : Walk) (d : Row) (g : Given) (n′ t′ : List ℕ) (r : Walk) : Type 0 where
   pub walk : r ≡ walkBy t s w d
   pub lines : n′ ≡ lineTable n s d
-  pub stmts : t′ ≡ stmtTable t s w l d
-  pub args : a′ ≡ argTable a s l d
-
--- a statement without branches
-pub record Added (t a : List ℕ) (s : State) (w : Walk) (l : List ℕ) (k : ℕ) (t′ a′ : List ℕ) (r : Walk) : Type 0 where
-  pub walk : r ≡ addedWalk w
-  pub stmts : t′ ≡ addSimple t s w l k
-  pub args : a′ ≡ addEntries a (s .stmts) (entriesIn l)
-
-pub record OperandsPut (l a : List ℕ) (n : ℕ) (a′ : List ℕ) (r : Given) : Type 0 where
-  pub count : r .count ≡ length (entriesIn l)
-  pub detail : r .detail ≡ detailIn l
-  pub table : a′ ≡ addEntries a n (entriesIn l)
+  pub stmts : t′ ≡ stmtTable t s w d g
 
 -- ---- what the code needs
 
@@ -142,22 +169,29 @@ pub record AddReady (t : List ℕ) (s : State) (w : Walk) (k : ℕ) : Type 0 whe
   pub index : w .index ≤ 4096
   pub word : k ≤ 28
 
-pub record RowReady (l a : List ℕ) (n k : ℕ) : Type 0 where
-  pub long : 2 ≤ length l
-  pub word : k ≡ openingWord (split 32 (inside l))
-  pub small : n < 4096
-  pub fits : n * 64 + 64 ≤ length a
-  pub short : length (entriesIn l) ≤ 64
+abbrev pub Ready : List ℕ → List ℕ → State → Walk → Row → Given → Type 0
+Ready n t s w (row.Refused m p) g = Unit {0}
+Ready n t s w row.End g = EndReady t s w
+Ready n t s w row.Stmts g = Unit {0}
+Ready n t s w (row.Module h) g = Unit {0}
+Ready n t s w (row.Line m) g = s .lines < length n
+Ready n t s w (row.To m) g = ToReady t s w
+Ready n t s w (row.Simple k m) g = AddReady t s w k × (g .count ≤ 64)
+Ready n t s w (row.Cond k) g = AddReady t s w (k + 2)
 
-abbrev pub Ready : List ℕ → List ℕ → List ℕ → State → Walk → List ℕ → Row → Type 0
-Ready n t a s w l (row.Refused m p) = Unit {0}
-Ready n t a s w l row.End = EndReady t s w
-Ready n t a s w l row.Stmts = Unit {0}
-Ready n t a s w l (row.Module h) = Unit {0}
-Ready n t a s w l (row.Line m) = s .lines < length n
-Ready n t a s w l (row.To m) = ToReady t s w
-Ready n t a s w l (row.Simple k m) = AddReady t s w k × RowReady l a (s .stmts) k
-Ready n t a s w l (row.Cond k) = AddReady t s w (k + 2)
+-- room for the arguments of statement n
+abbrev pub HasRoom : List ℕ → ℕ → Operands → Type 0
+HasRoom a n x = (n * 64 + 64 ≤ length a) × (length (x .entries) ≤ 64)
+
+abbrev pub ArgsReady : List ℕ → ℕ → Row → Operands → Type 0
+ArgsReady a n (row.Refused m p) x = Unit {0}
+ArgsReady a n row.End x = Unit {0}
+ArgsReady a n row.Stmts x = Unit {0}
+ArgsReady a n (row.Module h) x = Unit {0}
+ArgsReady a n (row.Line m) x = Unit {0}
+ArgsReady a n (row.To m) x = Unit {0}
+ArgsReady a n (row.Simple k m) x = HasRoom a n x
+ArgsReady a n (row.Cond k) x = Unit {0}
 
 pub walk-is : {w : Walk} {a b : ℕ} → w .holder ≡ a → w .index ≡ b → w ≡ record { holder = a; index = b }
 walk-is {w} {a} {b} p q = ap {B = Walk} (λ (x : ℕ). record { holder = x; index = w .index }) p ∙ ap {B = Walk} (λ (x : ℕ). record { holder = a; index = x }) q
@@ -166,28 +200,5 @@ pub given-is : {g : Given} {a b : ℕ} → g .count ≡ a → g .detail ≡ b �
 given-is {g} {a} {b} p q = ap {B = Given} (λ (x : ℕ). record { count = x; detail = g .detail }) p ∙ ap {B = Given} (λ (x : ℕ). record { count = a; detail = x }) q
 
 -- by which row it is
-pub wrote-as : {n t a : List ℕ} {s : State} {w : Walk} {l : List ℕ} {d e : Row} {n′ t′ a′ : List ℕ} {r : Walk} → d ≡ e → Wrote n t a s w l e n′ t′ a′ r → Wrote n t a s w l d n′ t′ a′ r
-wrote-as {n} {t} {a} {s} {w} {l} {d} {e} {n′} {t′} {a′} {r} p = subst (λ (x : Row). Wrote n t a s w l x n′ t′ a′ r) (sym p)
-
--- ---- a statement's count is nothing to the tables
-
-module _ (n t a : List ℕ) (s : State) (w : Walk) (l : List ℕ) where
-  pub ready-uncounted : (d : Row) → Ready n t a s w l d → Ready n t a s w l (uncounted d)
-  ready-uncounted (row.Refused m p) h = h
-  ready-uncounted row.End h = h
-  ready-uncounted row.Stmts h = h
-  ready-uncounted (row.Module b) h = h
-  ready-uncounted (row.Line m) h = h
-  ready-uncounted (row.To m) h = h
-  ready-uncounted (row.Simple k m) h = h
-  ready-uncounted (row.Cond k) h = h
-
-  pub wrote-counted : (d : Row) (n′ t′ a′ : List ℕ) (r : Walk) → Wrote n t a s w l (uncounted d) n′ t′ a′ r → Wrote n t a s w l d n′ t′ a′ r
-  wrote-counted (row.Refused m p) n′ t′ a′ r h = h
-  wrote-counted row.End n′ t′ a′ r h = h
-  wrote-counted row.Stmts n′ t′ a′ r h = h
-  wrote-counted (row.Module b) n′ t′ a′ r h = h
-  wrote-counted (row.Line m) n′ t′ a′ r h = h
-  wrote-counted (row.To m) n′ t′ a′ r h = h
-  wrote-counted (row.Simple k m) n′ t′ a′ r h = record { walk = h .walk; lines = h .lines; stmts = h .stmts; args = h .args }
-  wrote-counted (row.Cond k) n′ t′ a′ r h = h
+pub wrote-as : {n t : List ℕ} {s : State} {w : Walk} {d e : Row} {g : Given} {n′ t′ : List ℕ} {r : Walk} → d ≡ e → Wrote n t s w e g n′ t′ r → Wrote n t s w d g n′ t′ r
+wrote-as {n} {t} {s} {w} {d} {e} {g} {n′} {t′} {r} p = subst (λ (x : Row). Wrote n t s w x g n′ t′ r) (sym p)

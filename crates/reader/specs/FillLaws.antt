@@ -11,22 +11,21 @@ use lib.Seq.{getD-append-seam}
 use borrow.Author.Tests.{eq-eqb, ne-eqb, leb-true}
 use Rattle.listings.specs.Bytes.{bytes, same}
 use Rattle.listings.specs.Listing.{Simple, goto, gosub, return, run, runto, ongoto, ongosub, for, next, repeat, loop, until, endloop, exit, exitif, doif, else, done, clr, stop, any, CondWord, if, ifelse, rcomp, BranchForm, to, stmts, absent, Stmts, ∅, size, len, total, count}
-use Rattle.listings.specs.Rows.{malformed, invalid, parsed, Counted, Content, noForm, endRow, stmtsRow, moduleRow, lineRow, toRow, simpleRow, condRow, contentOf, rowOf, openingWords}
+use Rattle.listings.specs.Rows.{malformed, invalid, parsed, Counted, Content, noForm, endRow, stmtsRow, moduleRow, lineRow, toRow, simpleRow, condRow, openingWords}
 use Rattle.listings.specs.Read.{OpenCond, Branches, noBranch, oneBranch, twoBranches, Position, begin, inModule, ended, inStmts, inCond, Reading, Outcome, taken, refused, goTo, oneMore, orRefused, check, ascends, atBegin, readLine, atModule, readSimple, readCond, numberOf, branched, endStmts, atStmts, NextBranch, noMore, mayFollow, nextBranch, condStmt, endCond, readTo, readStmts, atCond, readRow}
-use Rattle.listings.specs.ListingText.{simpleWord, condWord}
+use Rattle.listings.specs.ListingText.{simpleWord, condWord, listed}
+use Rattle.listings.specs.Contents.{IsParsed, ContentOk}
 use Rattle.listings.specs.WordTable.{words, first, wordIndex}
 use Rattle.listings.specs.Shown.{firstSize, branchesSize, positionSize, openLines, Good}
-use Rattle.reader.specs.CodedRows.{wordNumber, condNumber, asRow}
-use Rattle.reader.specs.Machine.{firstCode, condCode, packed, branchCount, positionCode, openConds, branchCode, stateAt}
+use Rattle.reader.specs.CodedRows.{wordNumber, condNumber}
+use Rattle.reader.specs.Machine.{firstCode, condCode, packed, branchCount, positionCode, openConds, branchCode, stateAt, asState}
 use Rattle.listings.specs.Records.{Rec, recRow, branchNumber, branchLine, simpleRec, condRec, stmtRecs, lineNumbers, argsOf, detailOf}
 use Rattle.listings.specs.ReadingRecords.{firstNode, holderOf, firstLen, firstIndex, branchesOf, partialRec, openRec, branchRecs, listRecs, openRecs, positionRecs, recsOf, openNumbers, numbersOf, amend, withEnd, withBranch, first-node, recs-length, numbers-length, before, before-length, cond-split, simple-law, cond-law, stmts-law, branch-law, end-law₁, end-law₂, line-law}
-use Rattle.reader.specs.Operands.{stated, stated-short}
-use Rattle.reader.specs.Fill.{entryOf, branchStmts, outsideWalk, addEntries, entriesIn, detailIn, stmtTable, argTable, lineTable, walkBy, walk-is}
+use Rattle.reader.specs.Fill.{writtenRow, operandsOf, asGiven, entryOf, branchStmts, outsideWalk, addEntries, stmtTable, argTable, lineTable, walkBy, walk-is}
 use Rattle.reader.specs.Tables.{appendRow}
+use Rattle.reader.specs.ReadBack.{args-short}
 use Rattle.reader.specs.Holds.{Holds, holds-as, holds-line, holds-record, holds-bare, holds-end, isSome, holds-branch, holds-get}
 use Rattle.reader.specs.declared.machine.State.{State}
-use Rattle.reader.specs.declared.rows.Row.{Row}
-use Rattle.reader.specs.declared.rows.Row.the-variants as row
 use Rattle.reader.specs.declared.fill.Walk.{Walk}
 
 -- ---- the numbers of the opening words
@@ -61,6 +60,11 @@ unfolding wordIndex words openingWords first same bytes condWord condNumber
 cond-number if = refl
 cond-number ifelse = refl
 cond-number rcomp = refl
+
+-- ---- "8 a 65th number or slot": what is taken has room
+
+pub args-few : (d : Counted) → d .1 ≡ listed (d .0) → d .1 ≤ 64 → length (argsOf (d .0)) ≤ 64
+args-few d e h = args-short (d .0) (omega arith)
 
 -- ---- the walk that stands for a reading
 
@@ -142,22 +146,23 @@ module _ (r : Reading) (nl ns na : ℕ) (n t a : List ℕ) where
   Tab : Position → Type 0
   Tab p = Holds (numbersOf r p) (recsOf r p) nl ns na n t a
 
-  -- of an outcome: what the row l, which is d, makes of the tables and the walk
-  Done : State → Walk → List ℕ → Row → Outcome Reading → Type 0
-  Done s w l d (taken q) =
-      Fits nl ns na q → Holds (numbersOf q (q .position)) (recsOf q (q .position)) nl ns na (lineTable n s d) (stmtTable t s w l d) (argTable a s l d) × (walkBy t s w d ≡ walkAt q (q .position))
-  Done s w l d (refused m) = Unit {0}
+  -- of an outcome: what a row that says d makes of the tables and the walk
+  Done : State → Walk → Content → Outcome Reading → Type 0
+  Done s w d (taken q) =
+      Fits nl ns na q → Holds (numbersOf q (q .position)) (recsOf q (q .position)) nl ns na (lineTable n s (writtenRow d)) (stmtTable t s w (writtenRow d) (asGiven (operandsOf d))) (argTable a (s .stmts) (writtenRow d) (operandsOf d))
+      × (walkBy t s w (writtenRow d) ≡ walkAt q (q .position))
+  Done s w d (refused m) = Unit {0}
 
-  check-done : (s : State) (w : Walk) (l : List ℕ) (d : Row) (b : Bool) (m : ℕ) (o : Outcome Reading) → Done s w l d o → Done s w l d (check b m o)
+  check-done : (s : State) (w : Walk) (d : Content) (b : Bool) (m : ℕ) (o : Outcome Reading) → Done s w d o → Done s w d (check b m o)
   unfolding check Done
-  check-done s w l d true m o h = h
-  check-done s w l d false m o h = tt
+  check-done s w d true m o h = h
+  check-done s w d false m o h = tt
 
   -- as above, with the test's result
-  check-so : (s : State) (w : Walk) (l : List ℕ) (d : Row) (b : Bool) (m : ℕ) (o : Outcome Reading) → (b ≡ true → Done s w l d o) → Done s w l d (check b m o)
+  check-so : (s : State) (w : Walk) (d : Content) (b : Bool) (m : ℕ) (o : Outcome Reading) → (b ≡ true → Done s w d o) → Done s w d (check b m o)
   unfolding check Done
-  check-so s w l d true m o h = h refl
-  check-so s w l d false m o h = tt
+  check-so s w d true m o h = h refl
+  check-so s w d false m o h = tt
 
   -- facts of a list's next statement
   next-node : (s : Stmts) (fs : List OpenCond) → Good r (inStmts s fs)
@@ -167,33 +172,31 @@ module _ (r : Reading) (nl ns na : ℕ) (n t a : List ℕ) where
       let e = first-node (total (r .lines)) fs in
       (omega (arith, g .stmtSum), omega (arith, g .lineSum), omega (arith, g .stmtSum, recs-length r (inStmts s fs)))
 
-  simple-done : (s : Stmts) (fs : List OpenCond) (l : List ℕ) (d : Counted) → contentOf (rowOf l) ≡ simpleRow (parsed d) → Good r (inStmts s fs) → Tab (inStmts s fs)
-      → Done (stateAt r (inStmts s fs)) (walkAt r (inStmts s fs)) l (row.Simple (wordNumber (d .0)) (d .1)) (readSimple r s fs d)
+  simple-done : (s : Stmts) (fs : List OpenCond) (d : Counted) → d .1 ≡ listed (d .0) → Good r (inStmts s fs) → Tab (inStmts s fs)
+      → Done (stateAt r (inStmts s fs)) (walkAt r (inStmts s fs)) (simpleRow (parsed d)) (readSimple r s fs d)
   unfolding readSimple Done stateAt walkAt oneMore Tab recsOf numbersOf openNumbers len simpleRec recRow
-  simple-done s fs l d c g h =
-      check-done _ _ _ _ (ltb (r .stmtCount) 4096) 6 _ (check-done _ _ _ _ (leb (length fs) 16) 7 _ (check-so _ _ _ _ (leb (d .1) 64) 8 _ λ b f.
+  simple-done s fs d c g h =
+      check-done _ _ _ (ltb (r .stmtCount) 4096) 6 _ (check-done _ _ _ (leb (length fs) 16) 7 _ (check-so _ _ _ (leb (d .1) 64) 8 _ λ b f.
       (let q = next-node s fs g in
       let T = total (r .lines) in
       let li = count (r .lines) in
       let o = d .0 in
-      let k = stated l d c in
       let x = simpleRec o li (holderOf T fs) (firstIndex fs + len s) (firstNode T fs + size s) in
       let v : suc (firstNode T fs + size s) ≡ r .stmtCount + 1 = omega (arith, q .0) in
       let y = entry-row (wordIndex (simpleWord o)) li (holderOf T fs) (firstIndex fs + len s) (suc (firstNode T fs + size s)) (length (argsOf o)) (detailOf o)
-      (word-number o) (sym (q .1)) v (sym (ap length (k .entries))) (sym (k .detail)) in
+      (word-number o) (sym (q .1)) v refl refl in
       let i : firstIndex fs + len s + 1 ≡ firstIndex fs + suc (len s) = omega arith in
-      let e = entryOf (stateAt r (inStmts s fs)) (walkAt r (inStmts s fs)) (wordNumber o) (r .stmtCount + 1) (record { count = length (entriesIn l); detail = detailIn l }) in (
-        holds-as nl ns na n (appendRow t (r .stmtCount) e) (addEntries a (r .stmtCount) (entriesIn l)) refl (sym (simple-law (r .lines) li s fs o))
-            (holds-record nl ns na n t a _ (recsOf r (inStmts s fs)) x (r .stmtCount) e (entriesIn l) (q .2) y (sym (k .entries))
-            (let z = stated-short l d c (leb-true (d .1) 64 b) in omega (arith, ap length (k .entries))) (f .args) h),
+      let e = entryOf (stateAt r (inStmts s fs)) (walkAt r (inStmts s fs)) (wordNumber o) (r .stmtCount + 1) (record { count = length (argsOf o); detail = detailOf o }) in (
+        holds-as nl ns na n (appendRow t (r .stmtCount) e) (addEntries a (r .stmtCount) (argsOf o)) refl (sym (simple-law (r .lines) li s fs o))
+            (holds-record nl ns na n t a _ (recsOf r (inStmts s fs)) x (r .stmtCount) e (argsOf o) (q .2) y refl (args-few d c (leb-true (d .1) 64 b)) (f .args) h),
         ap {B = Walk} (λ (z : ℕ). record { holder = holderOf T fs; index = z }) i,
       ))))
 
-  cond-done : (s : Stmts) (fs : List OpenCond) (l : List ℕ) (k : CondWord) → Good r (inStmts s fs) → Tab (inStmts s fs)
-      → Done (stateAt r (inStmts s fs)) (walkAt r (inStmts s fs)) l (row.Cond (condNumber k)) (readCond r s fs k)
+  cond-done : (s : Stmts) (fs : List OpenCond) (k : CondWord) → Good r (inStmts s fs) → Tab (inStmts s fs)
+      → Done (stateAt r (inStmts s fs)) (walkAt r (inStmts s fs)) (condRow k) (readCond r s fs k)
   unfolding readCond Done stateAt walkAt oneMore Tab recsOf numbersOf openNumbers branchesLen condRec recRow branchNumber branchLine
-  cond-done s fs l k g h =
-      check-done _ _ _ _ (ltb (r .stmtCount) 4096) 6 _ (check-done _ _ _ _ (leb (length fs) 16) 7 _ λ f.
+  cond-done s fs k g h =
+      check-done _ _ _ (ltb (r .stmtCount) 4096) 6 _ (check-done _ _ _ (leb (length fs) 16) 7 _ λ f.
       (let q = next-node s fs g in
       let T = total (r .lines) in
       let li = count (r .lines) in
@@ -207,11 +210,11 @@ module _ (r : Reading) (nl ns na : ℕ) (n t a : List ℕ) where
       )))
 
   -- `)` after statements
-  stmts-done : (s : Stmts) (fs : List OpenCond) (l : List ℕ) → Good r (inStmts s fs) → Tab (inStmts s fs)
-      → Done (stateAt r (inStmts s fs)) (walkAt r (inStmts s fs)) l row.End (taken (endStmts r s fs))
+  stmts-done : (s : Stmts) (fs : List OpenCond) → Good r (inStmts s fs) → Tab (inStmts s fs)
+      → Done (stateAt r (inStmts s fs)) (walkAt r (inStmts s fs)) endRow (taken (endStmts r s fs))
   unfolding Done endStmts stateAt positionCode openConds walkAt Tab goTo recsOf numbersOf openNumbers positionRecs lineNumbers holderOf firstIndex branchNumber branchLine
-  stmts-done s [] l g h f = (holds-as nl ns na n t a (sym (append-nil _)) (line-law (r .lines) (numberOf (r .last)) s) h, refl)
-  stmts-done s (o ∷ fs) l g h f =
+  stmts-done s [] g h f = (holds-as nl ns na n t a (sym (append-nil _)) (line-law (r .lines) (numberOf (r .last)) s) h, refl)
+  stmts-done s (o ∷ fs) g h f =
       let q = next-node s (o ∷ fs) g in
       let T = total (r .lines) in
       let li = count (r .lines) in
@@ -261,11 +264,11 @@ module _ (r : Reading) (nl ns na : ℕ) (n t a : List ℕ) where
   way-back T li s w (twoBranches a b) fs = (refl, refl)
 
   -- `)` of an IF: what both cases share
-  closing : (s : Stmts) (w : CondWord) (bs : Branches) (fs : List OpenCond) (l : List ℕ) (z : Stmts) → len z ≡ suc (len s) → Good r (inCond s w bs fs) → Tab (inCond s w bs fs)
+  closing : (s : Stmts) (w : CondWord) (bs : Branches) (fs : List OpenCond) (z : Stmts) → len z ≡ suc (len s) → Good r (inCond s w bs fs) → Tab (inCond s w bs fs)
       → recsOf r (inStmts z fs) ≡ amend (recsOf r (inCond s w bs fs)) (firstNode (total (r .lines)) fs + size s) (withEnd (r .stmtCount))
-      → Done (stateAt r (inCond s w bs fs)) (walkAt r (inCond s w bs fs)) l row.End (taken (goTo r (inStmts z fs)))
+      → Done (stateAt r (inCond s w bs fs)) (walkAt r (inCond s w bs fs)) endRow (taken (goTo r (inStmts z fs)))
   unfolding Done stateAt positionCode walkAt Tab goTo recsOf numbersOf openNumbers
-  closing s w bs fs l z lz g h c f =
+  closing s w bs fs z lz g h c f =
       let T = total (r .lines) in
       let li = count (r .lines) in
       let j = firstNode T fs + size s in
@@ -279,34 +282,34 @@ module _ (r : Reading) (nl ns na : ℕ) (n t a : List ℕ) where
             (ap (λ (m : ℕ). getD t (m * 12 + 3) 0 + 1) i ∙ omega (arith, cond-get s w bs fs g h 3 (omega arith), y .1, lz)),
       )
 
-  close-done : (s : Stmts) (w : CondWord) (bs : Branches) (fs : List OpenCond) (l : List ℕ) → Good r (inCond s w bs fs) → Tab (inCond s w bs fs)
-      → Done (stateAt r (inCond s w bs fs)) (walkAt r (inCond s w bs fs)) l row.End (endCond r fs (condStmt s w bs))
+  close-done : (s : Stmts) (w : CondWord) (bs : Branches) (fs : List OpenCond) → Good r (inCond s w bs fs) → Tab (inCond s w bs fs)
+      → Done (stateAt r (inCond s w bs fs)) (walkAt r (inCond s w bs fs)) endRow (endCond r fs (condStmt s w bs))
   unfolding Done endCond condStmt recsOf branchesSize len
-  close-done s if noBranch fs l g h = tt
-  close-done s ifelse noBranch fs l g h = tt
-  close-done s rcomp noBranch fs l g h = tt
-  close-done s if (oneBranch b) fs l g h = closing s if (oneBranch b) fs l _ refl g h (end-law₁ (r .lines) (count (r .lines)) s fs if b (r .stmtCount) (cond-node s if (oneBranch b) fs g .0))
-  close-done s ifelse (oneBranch b) fs l g h = tt
-  close-done s rcomp (oneBranch b) fs l g h = closing s rcomp (oneBranch b) fs l _ refl g h (end-law₁ (r .lines) (count (r .lines)) s fs rcomp b (r .stmtCount) (cond-node s rcomp (oneBranch b) fs g .0))
-  close-done s if (twoBranches b c) fs l g h = tt
-  close-done s ifelse (twoBranches b c) fs l g h =
-      closing s ifelse (twoBranches b c) fs l _ refl g h (end-law₂ (r .lines) (count (r .lines)) s fs ifelse b c (r .stmtCount) (omega (arith, cond-node s ifelse (twoBranches b c) fs g .0)))
-  close-done s rcomp (twoBranches b c) fs l g h =
-      closing s rcomp (twoBranches b c) fs l _ refl g h (end-law₂ (r .lines) (count (r .lines)) s fs rcomp b c (r .stmtCount) (omega (arith, cond-node s rcomp (twoBranches b c) fs g .0)))
+  close-done s if noBranch fs g h = tt
+  close-done s ifelse noBranch fs g h = tt
+  close-done s rcomp noBranch fs g h = tt
+  close-done s if (oneBranch b) fs g h = closing s if (oneBranch b) fs _ refl g h (end-law₁ (r .lines) (count (r .lines)) s fs if b (r .stmtCount) (cond-node s if (oneBranch b) fs g .0))
+  close-done s ifelse (oneBranch b) fs g h = tt
+  close-done s rcomp (oneBranch b) fs g h = closing s rcomp (oneBranch b) fs _ refl g h (end-law₁ (r .lines) (count (r .lines)) s fs rcomp b (r .stmtCount) (cond-node s rcomp (oneBranch b) fs g .0))
+  close-done s if (twoBranches b c) fs g h = tt
+  close-done s ifelse (twoBranches b c) fs g h =
+      closing s ifelse (twoBranches b c) fs _ refl g h (end-law₂ (r .lines) (count (r .lines)) s fs ifelse b c (r .stmtCount) (omega (arith, cond-node s ifelse (twoBranches b c) fs g .0)))
+  close-done s rcomp (twoBranches b c) fs g h =
+      closing s rcomp (twoBranches b c) fs _ refl g h (end-law₂ (r .lines) (count (r .lines)) s fs rcomp b c (r .stmtCount) (omega (arith, cond-node s rcomp (twoBranches b c) fs g .0)))
 
-  into-done : (s : Stmts) (w : CondWord) (o : Option (BranchForm × Stmts)) (fs : List OpenCond) (l : List ℕ) → Tab (inCond s w (branchesOf o) fs)
-      → Done (stateAt r (inCond s w (branchesOf o) fs)) (walkAt r (inCond s w (branchesOf o) fs)) l row.Stmts (readStmts r s w fs (mayFollow o))
+  into-done : (s : Stmts) (w : CondWord) (o : Option (BranchForm × Stmts)) (fs : List OpenCond) → Tab (inCond s w (branchesOf o) fs)
+      → Done (stateAt r (inCond s w (branchesOf o) fs)) (walkAt r (inCond s w (branchesOf o) fs)) stmtsRow (readStmts r s w fs (mayFollow o))
   unfolding Done readStmts walkAt goTo Tab recsOf numbersOf openNumbers holderOf firstIndex len
-  into-done s w o fs l h f =
+  into-done s w o fs h f =
       let i : branchesLen (branchesOf o) ≡ firstLen o + 0 = omega (arith, first-branch o .0) in (
         holds-as nl ns na n t a refl (sym (stmts-law (r .lines) (count (r .lines)) s fs w o)) h,
         ap {B = Walk} (λ (z : ℕ). record { holder = suc (firstNode (total (r .lines)) fs + size s); index = z }) i,
       )
 
-  to-done : (s : Stmts) (w : CondWord) (o : Option (BranchForm × Stmts)) (fs : List OpenCond) (l : List ℕ) (m : ℕ) → Good r (inCond s w (branchesOf o) fs) → Tab (inCond s w (branchesOf o) fs)
-      → Done (stateAt r (inCond s w (branchesOf o) fs)) (walkAt r (inCond s w (branchesOf o) fs)) l (row.To m) (readTo r s w fs (mayFollow o) (parsed m))
+  to-done : (s : Stmts) (w : CondWord) (o : Option (BranchForm × Stmts)) (fs : List OpenCond) (m : ℕ) → Good r (inCond s w (branchesOf o) fs) → Tab (inCond s w (branchesOf o) fs)
+      → Done (stateAt r (inCond s w (branchesOf o) fs)) (walkAt r (inCond s w (branchesOf o) fs)) (toRow (parsed m)) (readTo r s w fs (mayFollow o) (parsed m))
   unfolding Done readTo orRefused stateAt branchCode walkAt goTo Tab recsOf numbersOf openNumbers branchNumber branchLine len
-  to-done s w o fs l m g h f =
+  to-done s w o fs m g h f =
       let T = total (r .lines) in
       let li = count (r .lines) in
       let j = firstNode T fs + size s in
@@ -324,107 +327,105 @@ module _ (r : Reading) (nl ns na : ℕ) (n t a : List ℕ) where
         ap {B = Walk} (λ (z : ℕ). record { holder = suc j; index = z }) x,
       )
 
-  begin-done : (l : List ℕ) (d : Content) → Tab begin → Done (stateAt r begin) (walkAt r begin) l (asRow d) (atBegin r d)
+  begin-done : (d : Content) → Tab begin → Done (stateAt r begin) (walkAt r begin) d (atBegin r d)
   unfolding atBegin Done walkAt Tab recsOf positionRecs numbersOf openNumbers
-  begin-done l noForm h = tt
-  begin-done l endRow h = tt
-  begin-done l stmtsRow h = tt
-  begin-done l (moduleRow b) h = λ f. (record { lines = h .lines; stmts = h .stmts; args = h .args; wide = h .wide }, refl)
-  begin-done l (lineRow m) h = tt
-  begin-done l (toRow m) h = tt
-  begin-done l (simpleRow o) h = tt
-  begin-done l (condRow k) h = tt
+  begin-done noForm h = tt
+  begin-done endRow h = tt
+  begin-done stmtsRow h = tt
+  begin-done (moduleRow b) h = λ f. (record { lines = h .lines; stmts = h .stmts; args = h .args; wide = h .wide }, refl)
+  begin-done (lineRow m) h = tt
+  begin-done (toRow m) h = tt
+  begin-done (simpleRow o) h = tt
+  begin-done (condRow k) h = tt
 
-  line-done : (l : List ℕ) (m : ℕ) → Good r inModule → Tab inModule → Done (stateAt r inModule) (walkAt r inModule) l (row.Line m) (readLine r m)
+  line-done : (m : ℕ) → Good r inModule → Tab inModule → Done (stateAt r inModule) (walkAt r inModule) (lineRow (parsed m)) (readLine r m)
   unfolding Done readLine stateAt walkAt Tab recsOf numbersOf openNumbers positionRecs openRecs listRecs stmtRecs holderOf firstIndex len openLines numberOf
-  line-done l m g h =
-      check-done _ _ _ _ (ascends m (r .last)) 4 _ (check-done _ _ _ _ (ltb (r .lineCount) 1024) 5 _ λ f.
+  line-done m g h =
+      check-done _ _ _ (ascends m (r .last)) 4 _ (check-done _ _ _ (ltb (r .lineCount) 1024) 5 _ λ f.
       (let q : r .lineCount ≡ length (numbersOf r inModule) = omega (arith, g .lineSum, numbers-length r inModule) in (
         holds-as nl ns na (set n (r .lineCount) m) t a (append-assoc (lineNumbers (r .lines)) [] (m ∷ [])) refl
             (holds-line nl ns na n t a (numbersOf r inModule) (recsOf r inModule) (r .lineCount) m q (f .lines) h),
         refl,
       )))
 
-  module-done : (l : List ℕ) (d : Content) → Good r inModule → Tab inModule → Done (stateAt r inModule) (walkAt r inModule) l (asRow d) (atModule r d)
+  module-done : (d : Content) → Good r inModule → Tab inModule → Done (stateAt r inModule) (walkAt r inModule) d (atModule r d)
   unfolding atModule Done stateAt positionCode walkAt Tab recsOf positionRecs numbersOf openNumbers goTo orRefused
-  module-done l noForm g h = tt
-  module-done l endRow g h = λ f. (record { lines = h .lines; stmts = h .stmts; args = h .args; wide = h .wide }, refl)
-  module-done l stmtsRow g h = tt
-  module-done l (moduleRow b) g h = tt
-  module-done l (lineRow malformed) g h = tt
-  module-done l (lineRow invalid) g h = tt
-  module-done l (lineRow (parsed m)) g h = line-done l m g h
-  module-done l (toRow m) g h = tt
-  module-done l (simpleRow o) g h = tt
-  module-done l (condRow k) g h = tt
+  module-done noForm g h = tt
+  module-done endRow g h = λ f. (record { lines = h .lines; stmts = h .stmts; args = h .args; wide = h .wide }, refl)
+  module-done stmtsRow g h = tt
+  module-done (moduleRow b) g h = tt
+  module-done (lineRow malformed) g h = tt
+  module-done (lineRow invalid) g h = tt
+  module-done (lineRow (parsed m)) g h = line-done m g h
+  module-done (toRow m) g h = tt
+  module-done (simpleRow o) g h = tt
+  module-done (condRow k) g h = tt
 
-  list-done : (s : Stmts) (fs : List OpenCond) (l : List ℕ) (d : Content) → contentOf (rowOf l) ≡ d → Good r (inStmts s fs) → Tab (inStmts s fs)
-      → Done (stateAt r (inStmts s fs)) (walkAt r (inStmts s fs)) l (asRow d) (atStmts r s fs d)
-  unfolding atStmts Done orRefused
-  list-done s fs l noForm c g h = tt
-  list-done s fs l endRow c g h = stmts-done s fs l g h
-  list-done s fs l stmtsRow c g h = tt
-  list-done s fs l (moduleRow b) c g h = tt
-  list-done s fs l (lineRow m) c g h = tt
-  list-done s fs l (toRow m) c g h = tt
-  list-done s fs l (simpleRow malformed) c g h = tt
-  list-done s fs l (simpleRow invalid) c g h = tt
-  list-done s fs l (simpleRow (parsed o)) c g h = simple-done s fs l o c g h
-  list-done s fs l (condRow k) c g h = cond-done s fs l k g h
+  list-done : (s : Stmts) (fs : List OpenCond) (d : Content) → ContentOk d → Good r (inStmts s fs) → Tab (inStmts s fs)
+      → Done (stateAt r (inStmts s fs)) (walkAt r (inStmts s fs)) d (atStmts r s fs d)
+  unfolding atStmts Done orRefused ContentOk IsParsed
+  list-done s fs noForm c g h = tt
+  list-done s fs endRow c g h = stmts-done s fs g h
+  list-done s fs stmtsRow c g h = tt
+  list-done s fs (moduleRow b) c g h = tt
+  list-done s fs (lineRow m) c g h = tt
+  list-done s fs (toRow m) c g h = tt
+  list-done s fs (simpleRow malformed) c g h = tt
+  list-done s fs (simpleRow invalid) c g h = tt
+  list-done s fs (simpleRow (parsed o)) c g h = simple-done s fs o (c .1) g h
+  list-done s fs (condRow k) c g h = cond-done s fs k g h
 
-  into-by : (s : Stmts) (w : CondWord) (bs : Branches) (fs : List OpenCond) (l : List ℕ) (m : NextBranch) → NextIs m bs → Tab (inCond s w bs fs)
-      → Done (stateAt r (inCond s w bs fs)) (walkAt r (inCond s w bs fs)) l row.Stmts (readStmts r s w fs m)
+  into-by : (s : Stmts) (w : CondWord) (bs : Branches) (fs : List OpenCond) (m : NextBranch) → NextIs m bs → Tab (inCond s w bs fs)
+      → Done (stateAt r (inCond s w bs fs)) (walkAt r (inCond s w bs fs)) stmtsRow (readStmts r s w fs m)
   unfolding NextIs Done readStmts
-  into-by s w bs fs l noMore q h = tt
-  into-by s w bs fs l (mayFollow o) q h =
-      subst (λ (b : Branches). Tab (inCond s w b fs) → Done (stateAt r (inCond s w b fs)) (walkAt r (inCond s w b fs)) l row.Stmts (readStmts r s w fs (mayFollow o))) q (into-done s w o fs l) h
+  into-by s w bs fs noMore q h = tt
+  into-by s w bs fs (mayFollow o) q h =
+      subst (λ (b : Branches). Tab (inCond s w b fs) → Done (stateAt r (inCond s w b fs)) (walkAt r (inCond s w b fs)) stmtsRow (readStmts r s w fs (mayFollow o))) q (into-done s w o fs) h
 
-  to-by : (s : Stmts) (w : CondWord) (bs : Branches) (fs : List OpenCond) (l : List ℕ) (m : NextBranch) (k : ℕ) → NextIs m bs → Good r (inCond s w bs fs) → Tab (inCond s w bs fs)
-      → Done (stateAt r (inCond s w bs fs)) (walkAt r (inCond s w bs fs)) l (row.To k) (readTo r s w fs m (parsed k))
+  to-by : (s : Stmts) (w : CondWord) (bs : Branches) (fs : List OpenCond) (m : NextBranch) (k : ℕ) → NextIs m bs → Good r (inCond s w bs fs) → Tab (inCond s w bs fs)
+      → Done (stateAt r (inCond s w bs fs)) (walkAt r (inCond s w bs fs)) (toRow (parsed k)) (readTo r s w fs m (parsed k))
   unfolding NextIs Done readTo
-  to-by s w bs fs l noMore k q g h = tt
-  to-by s w bs fs l (mayFollow o) k q g h =
-      subst (λ (b : Branches). Good r (inCond s w b fs) → Tab (inCond s w b fs) → Done (stateAt r (inCond s w b fs)) (walkAt r (inCond s w b fs)) l (row.To k) (readTo r s w fs (mayFollow o) (parsed k))) q (to-done s w o fs l k) g h
+  to-by s w bs fs noMore k q g h = tt
+  to-by s w bs fs (mayFollow o) k q g h =
+      subst (λ (b : Branches). Good r (inCond s w b fs) → Tab (inCond s w b fs) → Done (stateAt r (inCond s w b fs)) (walkAt r (inCond s w b fs)) (toRow (parsed k)) (readTo r s w fs (mayFollow o) (parsed k))) q (to-done s w o fs k) g h
 
-  to-bad : (s : Stmts) (w : CondWord) (fs : List OpenCond) (m : NextBranch) (v : State) (u : Walk) (l : List ℕ) (d : Row) → Done v u l d (readTo r s w fs m malformed) × Done v u l d (readTo r s w fs m invalid)
+  to-bad : (s : Stmts) (w : CondWord) (fs : List OpenCond) (m : NextBranch) (v : State) (u : Walk) (d : Content) → Done v u d (readTo r s w fs m malformed) × Done v u d (readTo r s w fs m invalid)
   unfolding Done readTo orRefused
-  to-bad s w fs noMore v u l d = (tt, tt)
-  to-bad s w fs (mayFollow o) v u l d = (tt, tt)
+  to-bad s w fs noMore v u d = (tt, tt)
+  to-bad s w fs (mayFollow o) v u d = (tt, tt)
 
-  branches-done : (s : Stmts) (w : CondWord) (bs : Branches) (fs : List OpenCond) (l : List ℕ) (d : Content) → Good r (inCond s w bs fs) → Tab (inCond s w bs fs)
-      → Done (stateAt r (inCond s w bs fs)) (walkAt r (inCond s w bs fs)) l (asRow d) (atCond r s w bs fs d)
+  branches-done : (s : Stmts) (w : CondWord) (bs : Branches) (fs : List OpenCond) (d : Content) → Good r (inCond s w bs fs) → Tab (inCond s w bs fs)
+      → Done (stateAt r (inCond s w bs fs)) (walkAt r (inCond s w bs fs)) d (atCond r s w bs fs d)
   unfolding atCond Done
-  branches-done s w bs fs l noForm g h = tt
-  branches-done s w bs fs l endRow g h = close-done s w bs fs l g h
-  branches-done s w bs fs l stmtsRow g h = into-by s w bs fs l (nextBranch w bs) (next-is w bs) h
-  branches-done s w bs fs l (moduleRow b) g h = tt
-  branches-done s w bs fs l (lineRow m) g h = tt
-  branches-done s w bs fs l (toRow malformed) g h = to-bad s w fs (nextBranch w bs) _ _ _ _ .0
-  branches-done s w bs fs l (toRow invalid) g h = to-bad s w fs (nextBranch w bs) _ _ _ _ .1
-  branches-done s w bs fs l (toRow (parsed m)) g h = to-by s w bs fs l (nextBranch w bs) m (next-is w bs) g h
-  branches-done s w bs fs l (simpleRow o) g h = tt
-  branches-done s w bs fs l (condRow k) g h = tt
+  branches-done s w bs fs noForm g h = tt
+  branches-done s w bs fs endRow g h = close-done s w bs fs g h
+  branches-done s w bs fs stmtsRow g h = into-by s w bs fs (nextBranch w bs) (next-is w bs) h
+  branches-done s w bs fs (moduleRow b) g h = tt
+  branches-done s w bs fs (lineRow m) g h = tt
+  branches-done s w bs fs (toRow malformed) g h = to-bad s w fs (nextBranch w bs) _ _ _ .0
+  branches-done s w bs fs (toRow invalid) g h = to-bad s w fs (nextBranch w bs) _ _ _ .1
+  branches-done s w bs fs (toRow (parsed m)) g h = to-by s w bs fs (nextBranch w bs) m (next-is w bs) g h
+  branches-done s w bs fs (simpleRow o) g h = tt
+  branches-done s w bs fs (condRow k) g h = tt
 
-  row-done : (p : Position) (l : List ℕ) (d : Content) → contentOf (rowOf l) ≡ d → Good r p → Tab p → Done (stateAt r p) (walkAt r p) l (asRow d) (readRow r p d)
+  row-done : (p : Position) (d : Content) → ContentOk d → Good r p → Tab p → Done (stateAt r p) (walkAt r p) d (readRow r p d)
   unfolding readRow Done
-  row-done begin l d c g h = begin-done l d h
-  row-done inModule l d c g h = module-done l d g h
-  row-done ended l d c g h = tt
-  row-done (inStmts s fs) l d c g h = list-done s fs l d c g h
-  row-done (inCond s w bs fs) l d c g h = branches-done s w bs fs l d g h
+  row-done begin d c g h = begin-done d h
+  row-done inModule d c g h = module-done d g h
+  row-done ended d c g h = tt
+  row-done (inStmts s fs) d c g h = list-done s fs d c g h
+  row-done (inCond s w bs fs) d c g h = branches-done s w bs fs d g h
 
 -- a row that is taken: the tables and the walk after it
-pub fill-law : (r q : Reading) (nl ns na : ℕ) (n t a l : List ℕ) → Good r (r .position) → Holds (numbersOf r (r .position)) (recsOf r (r .position)) nl ns na n t a
-    → readRow r (r .position) (contentOf (rowOf l)) ≡ taken q → Fits nl ns na q
+pub fill-law : (r q : Reading) (nl ns na : ℕ) (n t a : List ℕ) (d : Content) → ContentOk d → Good r (r .position) → Holds (numbersOf r (r .position)) (recsOf r (r .position)) nl ns na n t a
+    → readRow r (r .position) d ≡ taken q → Fits nl ns na q
     → Holds (numbersOf q (q .position)) (recsOf q (q .position)) nl ns na
-    (lineTable n (stateAt r (r .position)) (asRow (contentOf (rowOf l))))
-    (stmtTable t (stateAt r (r .position)) (walkAt r (r .position)) l (asRow (contentOf (rowOf l))))
-    (argTable a (stateAt r (r .position)) l (asRow (contentOf (rowOf l))))
-    × (walkBy t (stateAt r (r .position)) (walkAt r (r .position)) (asRow (contentOf (rowOf l))) ≡ walkAt q (q .position))
-unfolding Done Tab
-fill-law r q nl ns na n t a l g h e f =
-    subst (Done r nl ns na n t a (stateAt r (r .position)) (walkAt r (r .position)) l (asRow (contentOf (rowOf l)))) e
-    (row-done r nl ns na n t a (r .position) l (contentOf (rowOf l)) refl g h) f
+    (lineTable n (asState r) (writtenRow d))
+    (stmtTable t (asState r) (walkAt r (r .position)) (writtenRow d) (asGiven (operandsOf d)))
+    (argTable a (r .stmtCount) (writtenRow d) (operandsOf d))
+    × (walkBy t (asState r) (walkAt r (r .position)) (writtenRow d) ≡ walkAt q (q .position))
+unfolding Done Tab asState stateAt
+fill-law r q nl ns na n t a d o g h e f = subst (Done r nl ns na n t a (asState r) (walkAt r (r .position)) d) e (row-done r nl ns na n t a (r .position) d o g h) f
 
 -- the number of an open IF in its list, read back from the table
 pub cond-index : (r : Reading) (nl ns na : ℕ) (n t a : List ℕ) (s : Stmts) (w : CondWord) (bs : Branches) (fs : List OpenCond) → Good r (inCond s w bs fs)

@@ -10,6 +10,8 @@ pub mod Fill
 pub mod Holds
 pub mod FillLaws
 pub mod FillReady
+pub mod FillSteps
+pub mod RowOperands
 pub mod FillLoop
 pub mod Listed
 pub mod ReadBack

@@ -108,9 +108,7 @@ module _ (text counts lines stmts args : List ℕ) (h : Bool) (nl ns : ℕ) (j :
             tree = j .tree;
             reads = j .reads;
             short = short text (j .tree) (j .reads);
-            lines = omega (arith, j .lineCount);
-            stmts = omega (arith, j .stmtCount);
-            args = omega (arith, j .stmtCount);
+            room = record { lines = omega (arith, j .lineCount); stmts = omega (arith, j .stmtCount); args = omega (arith, j .stmtCount) };
           };
           lines = j .zeroLines;
           stmts = j .zeroStmts;

@@ -14,7 +14,7 @@ use borrow.Author.Tests.{ne-eqb}
 use Rattle.listings.specs.Bytes.{bytes, same, pick, decimal}
 use Rattle.listings.specs.Listing.{Name, Tier, static, framed, dispatched, Mark, orphan, Slot, Simple, goto, gosub, return, run, runto, ongoto, ongosub, for, next, repeat, loop, until, endloop, exit, exitif, doif, else, done, clr, stop, any}
 use Rattle.listings.specs.Rows.{split, all, Parse, malformed, invalid, parsed, parseNumber, parseName, isName, isCapital, openingWords, contentOf, rowOf, simpleRow, Counted}
-use Rattle.listings.specs.ListingText.{spacedWords, closedForm, simpleWord, simpleArgs, simpleText, tierWord, markWord, slotWord, listed, SimpleOk, NumbersOk, SlotsOk}
+use Rattle.listings.specs.ListingText.{spacedWords, closedForm, simpleWord, simpleArgs, simpleText, tierWord, markWord, slotWord, SimpleOk, NumbersOk, SlotsOk}
 use Rattle.listings.specs.WordTable.{words, forms, first, wordIndex, kind, kindOf, kindAt}
 use Rattle.listings.specs.NumberText.{number-text, both-true}
 use Rattle.listings.specs.WordText.{inWord, isToken, areTokens, token-lacks, tokens-lack, decimal-token, decimals-tokens, name-token, name-text, slots-tokens, tier-token, mark-token}
@@ -355,31 +355,6 @@ simple-detail stop = refl
 simple-detail any = refl
 simple-detail Simple.plain = refl
 
-pub args-short : (o : Simple) → listed o ≤ 64 → length (argsOf o) ≤ 64
-unfolding argsOf listed
-args-short (goto n) h = omega arith
-args-short (gosub n) h = omega arith
-args-short return h = omega arith
-args-short run h = omega arith
-args-short (runto n) h = omega arith
-args-short (ongoto ns) h = h
-args-short (ongosub ns) h = h
-args-short (for v t) h = omega arith
-args-short (next m ss) h = omega (arith, length-map ss slotKey)
-args-short repeat h = omega arith
-args-short loop h = omega arith
-args-short until h = omega arith
-args-short endloop h = omega arith
-args-short exit h = omega arith
-args-short exitif h = omega arith
-args-short doif h = omega arith
-args-short else h = omega arith
-args-short done h = omega arith
-args-short clr h = omega arith
-args-short stop h = omega arith
-args-short any h = omega arith
-args-short Simple.plain h = omega arith
-
 -- ---- a statement's row without its brackets
 
 simple-tokens : (o : Simple) → SimpleOk o → areTokens (simpleWord o ∷ simpleArgs o) ≡ true
@@ -442,7 +417,3 @@ stated row d e =
     ap (λ (l : List ℕ). split 32 (inside l)) (q .0) ∙ ap (split 32) (inside-closed (simpleWord o) (simpleArgs o) ∙ sym (join-words (simpleWord o) (simpleArgs o)))
     ∙ split-join 32 (simpleWord o) (simpleArgs o) (token-lacks 32 refl (simpleWord o) (p .0)) (tokens-lack 32 refl (simpleArgs o) (p .1)) in
     record { long = closed-long (simpleWord o) (simpleArgs o) row (q .0); word = ap openingWord s; entries = ap rowEntries s ∙ simple-entries o (q .1); detail = ap rowDetail s ∙ simple-detail o }
-
--- "8 a 65th number or slot": what is accepted has room
-pub stated-short : (row : List ℕ) (d : Counted) → contentOf (rowOf row) ≡ simpleRow (parsed d) → d .1 ≤ 64 → length (argsOf (d .0)) ≤ 64
-stated-short row d e h = args-short (d .0) (omega (arith, row-simple row d e .2))

@@ -30,7 +30,8 @@ ghost use Prim.Native.Nat.{_+_, _*_, _-_, _≤_, _<_};
 ghost use lib.ListN.{length, set};
 ghost use lib.Dec.{eqb};
 ghost use Rattle.reader.specs.FillLoop.{Zeroed, Filled};
-ghost use Rattle.reader.specs.Fill.{entryOf, branchStmts, endTable, endWalk, outsideWalk, insideWalk, addCond, OperandsPut, Added, Wrote, Ready, EndReady, ToReady, AddReady, RowReady};
+ghost use Rattle.reader.specs.Fill.{entryOf, branchStmts, endTable, endWalk, outsideWalk, addedWalk, insideWalk, addSimple, addCond, OperandsPut, Placed, Wrote, Ready, EndReady, ToReady, AddReady, HasRoom, ArgsReady};
+ghost use Rattle.reader.specs.RowOperands.{operandsIn, rowOperands, IsStatement, RowReady};
 
 // In which IF the next statement stands (one more than its node, or 0), and the number it gets there.
 pub(crate) struct Walk {
@@ -121,12 +122,26 @@ fn to_row(t: &mut [u16], s: State, w: Walk, n: u16) -> Walk
 
 // The arguments of statement n, whose row is given, into its own 64 entries.
 fn put_row_operands(word: usize, row: &[u8], args: &mut [u64], n: usize) -> Given
-    requires { ⌜ RowReady (now row) (now args) n word ⌝ }
-    ensures { λ r. ⌜ OperandsPut (now (row .entry)) (now (args .entry)) n (now (args .exit)) r ⌝ }
+    requires { ⌜ IsStatement (now row) word × HasRoom (now args) n (operandsIn (now row)) ⌝ }
+    ensures { λ r. ⌜ OperandsPut (now (args .entry)) n (operandsIn (now (row .entry))) (now (args .exit)) r ⌝ }
 {
     let from = n * ARG_ENTRIES;
     let last = row.len() - 1;
     put_operands(word, &row[1..last], &mut args[from..])
+}
+
+// What a row gives besides what it is: a statement's operands; the others have none.
+fn row_operands(text: &[u8], args: &mut [u64], n: usize, row: Row) -> Given
+    requires { ⌜ RowReady (now text) row × ArgsReady (now args) n row (rowOperands (now text) row) ⌝ }
+    ensures { λ r. ⌜ Placed (now (args .entry)) n row (rowOperands (now (text .entry)) row) (now (args .exit)) r ⌝ }
+{
+    let Row::Simple { word, count: _ } = row else {
+        return Given {
+            count: 0,
+            detail: 0,
+        };
+    };
+    put_row_operands(word, text, args, n)
 }
 
 fn entry_of(s: State, w: Walk, word: usize, end: usize, g: Given) -> Entry
@@ -144,19 +159,11 @@ fn entry_of(s: State, w: Walk, word: usize, end: usize, g: Given) -> Entry
     }
 }
 
-fn add_simple(
-    row: &[u8],
-    stmts: &mut [u16],
-    args: &mut [u64],
-    s: State,
-    w: Walk,
-    word: usize,
-) -> Walk
-    requires { ⌜ AddReady (now stmts) s w word × RowReady (now row) (now args) (s .stmts) word ⌝ }
-    ensures { λ r. ⌜ Added (now (stmts .entry)) (now (args .entry)) s w (now (row .entry)) word (now (stmts .exit)) (now (args .exit)) r ⌝ }
+fn add_simple(stmts: &mut [u16], s: State, w: Walk, word: usize, given: Given) -> Walk
+    requires { ⌜ AddReady (now stmts) s w word × (given .count ≤ 64) ⌝ }
+    ensures { λ r. ⌜ (r ≡ addedWalk w) × (now (stmts .exit) ≡ addSimple (now (stmts .entry)) s w word given) ⌝ }
 {
-    let g = put_row_operands(word, row, args, s.stmts);
-    append(stmts, s.stmts, entry_of(s, w, word, s.stmts + 1, g));
+    append(stmts, s.stmts, entry_of(s, w, word, s.stmts + 1, given));
     Walk {
         holder: w.holder,
         index: next_index(w.index),
@@ -190,18 +197,17 @@ fn add_line(lines: &mut [u16], at: usize, n: u16) -> Walk
     }
 }
 
-// What a row that is taken appends or amends.
-fn write_row(
-    text: &[u8],
+// What a row that is taken appends or amends. given: of a statement, whose arguments are in their entries.
+pub(crate) fn write_row(
     lines: &mut [u16],
     stmts: &mut [u16],
-    args: &mut [u64],
     s: State,
     w: Walk,
     row: Row,
+    given: Given,
 ) -> Walk
-    requires { ⌜ Ready (now lines) (now stmts) (now args) s w (now text) row ⌝ }
-    ensures { λ r. ⌜ Wrote (now (lines .entry)) (now (stmts .entry)) (now (args .entry)) s w (now (text .entry)) row (now (lines .exit)) (now (stmts .exit)) (now (args .exit)) r ⌝ }
+    requires { ⌜ Ready (now lines) (now stmts) s w row given ⌝ }
+    ensures { λ r. ⌜ Wrote (now (lines .entry)) (now (stmts .entry)) s w row given (now (lines .exit)) (now (stmts .exit)) r ⌝ }
 {
     match row {
         Row::Refused { number: _, due: _ } => w,
@@ -213,7 +219,7 @@ fn write_row(
         },
         Row::Line(n) => add_line(lines, s.lines, n),
         Row::To(n) => to_row(stmts, s, w, n),
-        Row::Simple { word, count: _ } => add_simple(text, stmts, args, s, w, word),
+        Row::Simple { word, count: _ } => add_simple(stmts, s, w, word, given),
         Row::Cond(k) => add_cond(stmts, s, w, k),
     }
 }
@@ -241,7 +247,8 @@ pub(crate) fn fill(text: &[u8], lines: &mut [u16], stmts: &mut [u16], args: &mut
                 return;
             }
             Step::Taken(n) => {
-                w = write_row(&text[at..to], lines, stmts, args, s, w, row);
+                let given = row_operands(&text[at..to], args, s.stmts, row);
+                w = write_row(lines, stmts, s, w, row, given);
                 s = n;
             }
         }

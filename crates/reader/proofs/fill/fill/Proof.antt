@@ -1,29 +1,67 @@
 -- The tables hold the records of the rows read so far, from row to row. Assumes nothing.
 use borrow.Author.Needs.{needs}
 use native.Mathlib.Omega.{arith}
-use mathlib.Core.Path.{ap, _∙_}
-use Prim.Native.Nat.{suc, _-_, _≤_}
-use lib.ListN.{length}
-use Rattle.listings.specs.Scan.{next-more}
-use Rattle.reader.specs.Machine.{stepRow}
-use Rattle.reader.specs.FillLoop.{Accepts, Fills, zeroed-start, fills-bounded, fills-long, fills-last, fills-formed, fills-refused, fills-ready, fills-taken, filled}
+use mathlib.Core.List.{List, _∷_}
+use Prim.Native.Nat.{ℕ, suc, _+_, _-_, _≤_, _<_}
+use lib.ListN.{length, drop}
+use Rattle.listings.specs.Rows.{split, contentOf, rowOf}
+use Rattle.listings.specs.Scan.{pieceAt, next-more}
+use Rattle.reader.specs.Fill.{Says}
+use Rattle.reader.specs.RowOperands.{rowOperands, row-says, row-ready}
+use Rattle.reader.specs.FillSteps.{Room, Fills, fills-bounded, fills-long, fills-formed, fills-room, fills-ready, fills-refused, fills-taken}
+use Rattle.reader.specs.FillLoop.{Accepts, rowsIn, zeroed-start, text-ends, text-goes-on}
 use Rattle.reader.proofs.fill.fill.Statement.{statement}
 use Rattle.reader.proofs.fill.fill.Tie as tie
 
 abbrev Inv-loop : tie.InvT-loop
 Inv-loop text lines₀ stmts₀ args₀ s₀ w₀ at₀ lines stmts args s w at =
-    (h : at ≤ length text) × (g : Accepts text (length lines₀) (length stmts₀) (length args₀)) × Fills text (length lines₀) (length stmts₀) (length args₀) (g .tree) s w lines stmts args at
+    (h : at ≤ length text) × (g : Accepts text (length lines₀) (length stmts₀) (length args₀)) × Fills (g .tree) (length lines₀) (length stmts₀) (length args₀) (rowsIn (split 10 (drop at text))) s w lines stmts args
 
 abbrev μ-loop : tie.MeasureT-loop
 μ-loop text lines₀ stmts₀ args₀ s₀ w₀ at₀ lines stmts args s w at = suc (length text) - at
+
+-- ---- at a row
+
+abbrev start-of : tie.Else1 Inv-loop μ-loop → tie.Start Inv-loop μ-loop
+start-of c = search
+
+abbrev loop-of : tie.Else1 Inv-loop μ-loop → tie.At-loop Inv-loop μ-loop
+loop-of c = search
+
+abbrev piece : tie.Else1 Inv-loop μ-loop → List ℕ
+piece c = pieceAt (start-of c .args .text .now) (loop-of c .loop .at) (c .before .find .result)
+
+row-inside : (c : tie.Else1 Inv-loop μ-loop) → loop-of c .loop .at + c .before .find .result < length (start-of c .args .text .now)
+row-inside c =
+    let v = loop-of c .loop in
+    let e = c .before .find in
+    next-more 10 (start-of c .args .text .now) (v .at) (e .result) (v .inv .0) (e .ensures .0) (c .if1 .left) (e .ensures .1) .0
+
+-- what it says is the first of what is ahead
+ahead : (c : tie.Else1 Inv-loop μ-loop)
+    → let a = start-of c .args in
+    let v = loop-of c .loop in
+    Fills (v .inv .1 .tree) (length (a .lines .now)) (length (a .stmts .now)) (length (a .args .now)) (contentOf (rowOf (piece c)) ∷ rowsIn (split 10 (drop (v .at + c .before .find .result + 1) (a .text .now)))) (v .s) (v .w) (v .lines) (v .stmts) (v .args)
+ahead c =
+    let v = loop-of c .loop in
+    let e = c .before .find in
+    text-goes-on (start-of c .args .text .now) (v .at) (e .result) (v .inv .0) (e .ensures .0) (c .if1 .left) (e .ensures .1) (v .inv .2)
+
+says : (c : tie.After-accepted-row Inv-loop μ-loop) → Says (contentOf (rowOf (piece (c .before .before)))) (c .accepted-row .result) (rowOperands (piece (c .before .before)) (c .accepted-row .result))
+says c = row-says (piece (c .before .before)) (c .accepted-row .result) (c .accepted-row .ensures)
+
+abbrev room : (c : tie.Else1 Inv-loop μ-loop) → let a = start-of c .args in Room (loop-of c .loop .inv .1 .tree) (length (a .lines .now)) (length (a .stmts .now)) (length (a .args .now))
+room c = loop-of c .loop .inv .1 .room
+
+-- ---- the needs
 
 start-state-requires : tie.Need-start-state-requires Inv-loop μ-loop
 start-state-requires c κs = search needs
 
 loop-holds : tie.Need-loop-holds Inv-loop μ-loop
 loop-holds c =
-    let o = c .before .before .before .before .before in
-    (omega arith, o .pre .accepts, zeroed-start (o .args .text .now) (o .args .lines .now) (o .args .stmts .now) (o .args .args .now) (o .pre) (c .start-state .result) (c .start-state .ensures))
+    let start : tie.Start Inv-loop μ-loop = search in
+    (omega arith, start .pre .accepts, zeroed-start (start .args .text .now) (start .args .lines .now) (start .args .stmts .now) (start .args .args .now) (start .pre) (c .start-state .result) (c .start-state .ensures))
 
 sub-find : tie.Need-sub-find Inv-loop μ-loop
 sub-find c = search needs
@@ -42,44 +80,30 @@ add-to c = search needs
 
 same-length : tie.Need-same-length Inv-loop μ-loop
 same-length c =
-    let o = c .before .before .before in
-    let b = o .before .before .before .before .before .before .args in
-    let x = b .text .now in
-    let v = o .loop in
-    let g = v .inv .1 in
-    let f = v .inv .2 in
-    fills-long x (length (b .lines .now)) (length (b .stmts .now)) (length (b .args .now)) g (v .s) (v .w) (v .lines) (v .stmts) (v .args) (v .at) f .lines
+    let at : tie.At-loop Inv-loop μ-loop = search in
+    let v = at .loop in
+    fills-long (v .inv .1 .room) (v .inv .2) .lines
 
 same-length-2 : tie.Need-same-length-2 Inv-loop μ-loop
 same-length-2 c =
-    let o = c .before .before .before in
-    let b = o .before .before .before .before .before .before .args in
-    let x = b .text .now in
-    let v = o .loop in
-    let g = v .inv .1 in
-    let f = v .inv .2 in
-    fills-long x (length (b .lines .now)) (length (b .stmts .now)) (length (b .args .now)) g (v .s) (v .w) (v .lines) (v .stmts) (v .args) (v .at) f .stmts
+    let at : tie.At-loop Inv-loop μ-loop = search in
+    let v = at .loop in
+    fills-long (v .inv .1 .room) (v .inv .2) .stmts
 
 same-length-3 : tie.Need-same-length-3 Inv-loop μ-loop
 same-length-3 c =
-    let o = c .before .before .before in
-    let b = o .before .before .before .before .before .before .args in
-    let x = b .text .now in
-    let v = o .loop in
-    let g = v .inv .1 in
-    let f = v .inv .2 in
-    fills-long x (length (b .lines .now)) (length (b .stmts .now)) (length (b .args .now)) g (v .s) (v .w) (v .lines) (v .stmts) (v .args) (v .at) f .args
+    let at : tie.At-loop Inv-loop μ-loop = search in
+    let v = at .loop in
+    fills-long (v .inv .1 .room) (v .inv .2) .args
 
 returns : tie.Need-returns Inv-loop μ-loop
 returns c =
-    let o = c .before .before .before in
-    let b = o .before .before .before .before .before .before .args in
-    let x = b .text .now in
-    let v = o .loop in
-    let g = v .inv .1 in
-    let f = v .inv .2 in
-    filled x (length (b .lines .now)) (length (b .stmts .now)) (length (b .args .now)) (v .lines) (v .stmts) (v .args) g
-    (fills-last x (length (b .lines .now)) (length (b .stmts .now)) (length (b .args .now)) g (v .s) (v .w) (v .lines) (v .stmts) (v .args) (v .at) f (c .before .find .result) (omega arith) (c .before .find .ensures .0) (c .if1 .taken))
+    let start : tie.Start Inv-loop μ-loop = search in
+    let at : tie.At-loop Inv-loop μ-loop = search in
+    let v = at .loop in
+    let found : tie.After-find Inv-loop μ-loop = search in
+    let e = found .find in
+    text-ends (start .args .text .now) (v .at) (e .result) (v .inv .0) (e .ensures .0) (v .inv .1) (v .inv .2) (c .if1 .taken)
 
 sub-accepted-row : tie.Need-sub-accepted-row Inv-loop μ-loop
 sub-accepted-row c = search needs
@@ -91,104 +115,91 @@ part-accepted-row-end : tie.Need-part-accepted-row-end Inv-loop μ-loop
 part-accepted-row-end c = search needs
 
 accepted-row-requires : tie.Need-accepted-row-requires Inv-loop μ-loop
-accepted-row-requires c κs =
-    let o = c .before .before .before .before in
-    let b = o .before .before .before .before .before .before .args in
-    let x = b .text .now in
-    let v = o .loop in
-    let g = v .inv .1 in
-    let f = v .inv .2 in
-    let e = c .before .before .find in
-    fills-formed x (length (b .lines .now)) (length (b .stmts .now)) (length (b .args .now)) g (v .s) (v .w) (v .lines) (v .stmts) (v .args) (v .at) f (e .result) (omega arith) (e .ensures .0) (c .before .if1 .left) (e .ensures .1)
+accepted-row-requires c κs = fills-formed (room (c .before)) (ahead (c .before))
 
 step-row-requires : tie.Need-step-row-requires Inv-loop μ-loop
-step-row-requires c κs = let b = fills-bounded (c .before .before .before .before .before .loop .inv .2) in (b .openConds, b .word, b .branches, b .depth)
+step-row-requires c κs =
+    let at : tie.At-loop Inv-loop μ-loop = search in
+    let v = at .loop in
+    let b = fills-bounded (v .inv .2) in
+    (b .openConds, b .word, b .branches, b .depth)
 
 enum-told : tie.Need-enum-told Inv-loop μ-loop
 enum-told c = search needs
 
 same-length-4 : tie.Need-same-length-4 Inv-loop μ-loop
 same-length-4 c =
-    let o = c .before .before .before .before .before .before .before .before in
-    let b = o .before .before .before .before .before .before .args in
-    let x = b .text .now in
-    let v = o .loop in
-    let g = v .inv .1 in
-    let f = v .inv .2 in
-    fills-long x (length (b .lines .now)) (length (b .stmts .now)) (length (b .args .now)) g (v .s) (v .w) (v .lines) (v .stmts) (v .args) (v .at) f .lines
+    let at : tie.At-loop Inv-loop μ-loop = search in
+    let v = at .loop in
+    fills-long (v .inv .1 .room) (v .inv .2) .lines
 
 same-length-5 : tie.Need-same-length-5 Inv-loop μ-loop
 same-length-5 c =
-    let o = c .before .before .before .before .before .before .before .before in
-    let b = o .before .before .before .before .before .before .args in
-    let x = b .text .now in
-    let v = o .loop in
-    let g = v .inv .1 in
-    let f = v .inv .2 in
-    fills-long x (length (b .lines .now)) (length (b .stmts .now)) (length (b .args .now)) g (v .s) (v .w) (v .lines) (v .stmts) (v .args) (v .at) f .stmts
+    let at : tie.At-loop Inv-loop μ-loop = search in
+    let v = at .loop in
+    fills-long (v .inv .1 .room) (v .inv .2) .stmts
 
 same-length-6 : tie.Need-same-length-6 Inv-loop μ-loop
 same-length-6 c =
-    let o = c .before .before .before .before .before .before .before .before in
-    let b = o .before .before .before .before .before .before .args in
-    let x = b .text .now in
-    let v = o .loop in
-    let g = v .inv .1 in
-    let f = v .inv .2 in
-    fills-long x (length (b .lines .now)) (length (b .stmts .now)) (length (b .args .now)) g (v .s) (v .w) (v .lines) (v .stmts) (v .args) (v .at) f .args
+    let at : tie.At-loop Inv-loop μ-loop = search in
+    let v = at .loop in
+    fills-long (v .inv .1 .room) (v .inv .2) .args
 
 returns-2 : tie.Need-returns-2 Inv-loop μ-loop
 returns-2 c =
-    let o = c .before .before .before .before .before .before .before .before in
-    let b = o .before .before .before .before .before .before .args in
-    let x = b .text .now in
-    let v = o .loop in
-    let g = v .inv .1 in
-    let f = v .inv .2 in
-    absurd (fills-refused x (length (b .lines .now)) (length (b .stmts .now)) (length (b .args .now)) g (v .s) (v .w) (v .lines) (v .stmts) (v .args) (v .at) f (c .before .before .before .before .before .before .find .result) (omega arith) (c .before .before .before .before .before .before .find .ensures .0) (c .before .before .before .before .before .if1 .left) (c .before .before .before .before .before .before .find .ensures .1) (c .before .before .step-row .result) (c .before .before .step-row .ensures ∙ ap (stepRow (v .s)) (c .before .before .before .accepted-row .ensures)) (c .enum-told .given .0 .0) (c .enum-told .given .1))
+    let row : tie.After-accepted-row Inv-loop μ-loop = search in
+    let more = row .before .before in
+    absurd (fills-refused (room more) (ahead more) (says row) (c .before .before .step-row .ensures) (c .enum-told .given .1))
 
 enum-known-n : tie.Need-enum-known-n Inv-loop μ-loop
 enum-known-n c = search needs
 
-sub-write-row : tie.Need-sub-write-row Inv-loop μ-loop
-sub-write-row c = search needs
+sub-row-operands : tie.Need-sub-row-operands Inv-loop μ-loop
+sub-row-operands c = search needs
 
-part-write-row-start : tie.Need-part-write-row-start Inv-loop μ-loop
-part-write-row-start c = search needs
+part-row-operands-start : tie.Need-part-row-operands-start Inv-loop μ-loop
+part-row-operands-start c = search needs
 
-part-write-row-end : tie.Need-part-write-row-end Inv-loop μ-loop
-part-write-row-end c = search needs
+part-row-operands-end : tie.Need-part-row-operands-end Inv-loop μ-loop
+part-row-operands-end c = search needs
+
+row-operands-requires : tie.Need-row-operands-requires Inv-loop μ-loop
+row-operands-requires c κs =
+    let row : tie.After-accepted-row Inv-loop μ-loop = search in
+    let more = row .before .before in
+    (row-ready (piece more) (row .accepted-row .result) (row .accepted-row .ensures), fills-room (room more) (ahead more) (says row))
 
 write-row-requires : tie.Need-write-row-requires Inv-loop μ-loop
 write-row-requires c κs =
-    let o = c .before .before .before .before .before .before .before .before .before .before .before .before .before in
-    let b = o .before .before .before .before .before .before .args in
-    let x = b .text .now in
-    let v = o .loop in
-    let g = v .inv .1 in
-    let f = v .inv .2 in
-    fills-ready x (length (b .lines .now)) (length (b .stmts .now)) (length (b .args .now)) g (v .s) (v .w) (v .lines) (v .stmts) (v .args) (v .at) f (c .before .before .before .before .before .before .before .before .before .before .before .find .result) (omega arith) (c .before .before .before .before .before .before .before .before .before .before .before .find .ensures .0) (c .before .before .before .before .before .before .before .before .before .before .if1 .left) (c .before .before .before .before .before .before .before .before .before .before .before .find .ensures .1) (c .before .before .before .before .before .before .before .before .accepted-row .result) (c .before .before .before .before .before .before .before .before .accepted-row .ensures)
+    let put : tie.After-row-operands Inv-loop μ-loop = search in
+    let row : tie.After-accepted-row Inv-loop μ-loop = search in
+    let more = row .before .before in
+    fills-ready (room more) (ahead more) (says row) (put .row-operands .result) (put .row-operands .ensures .given)
 
 add-at : tie.Need-add-at Inv-loop μ-loop
-add-at c = search needs
+add-at c =
+    let row : tie.After-accepted-row Inv-loop μ-loop = search in
+    let more = row .before .before in
+    let z = row-inside more in
+    omega arith
 
 loop-less : tie.Need-loop-less Inv-loop μ-loop
-loop-less c = search needs
+loop-less c =
+    let row : tie.After-accepted-row Inv-loop μ-loop = search in
+    let more = row .before .before in
+    let z = row-inside more in
+    omega arith
 
 loop-again : tie.Need-loop-again Inv-loop μ-loop
 loop-again c =
-    let o = c .before .before .before .before .before .before .before .before .before .before .before .before .before .before .before .before .before .before .before .before in
-    let b = o .before .before .before .before .before .before .args in
-    let x = b .text .now in
-    let v = o .loop in
-    let g = v .inv .1 in
-    let f = v .inv .2 in
-    let r = c .before .before .before .before .before .before .write-row in (
-      let z = next-more 10 x (v .at) (c .before .before .before .before .before .before .before .before .before .before .before .before .before .before .before .before .before .before .find .result) (v .inv .0) (c .before .before .before .before .before .before .before .before .before .before .before .before .before .before .before .before .before .before .find .ensures .0) (c .before .before .before .before .before .before .before .before .before .before .before .before .before .before .before .before .before .if1 .left) (c .before .before .before .before .before .before .before .before .before .before .before .before .before .before .before .before .before .before .find .ensures .1) .0 in omega arith,
-      g,
-      fills-taken x (length (b .lines .now)) (length (b .stmts .now)) (length (b .args .now)) g (v .s) (v .w) (v .lines) (v .stmts) (v .args) (v .at) f (c .before .before .before .before .before .before .before .before .before .before .before .before .before .before .before .before .before .before .find .result) (omega arith) (c .before .before .before .before .before .before .before .before .before .before .before .before .before .before .before .before .before .before .find .ensures .0) (c .before .before .before .before .before .before .before .before .before .before .before .before .before .before .before .before .before .if1 .left) (c .before .before .before .before .before .before .before .before .before .before .before .before .before .before .before .before .before .before .find .ensures .1) (c .before .before .before .before .before .before .before .before .before .before .before .before .before .before .step-row .result) (c .before .before .before .before .before .before .before .before .before .before .before .before .before .before .step-row .ensures ∙ ap (stepRow (v .s)) (c .before .before .before .before .before .before .before .before .before .before .before .before .before .before .before .accepted-row .ensures)) (c .before .before .before .before .before .before .before .before .before .before .before .before .n .given .0 .0) (c .before .before .before .before .before .before .before .before .before .before .before .before .n .given .1) (c .before .before .before .before .before .before .before .before .before .before .before .before .before .before .before .accepted-row .result) (c .before .before .before .before .before .before .before .before .before .before .before .before .before .before .before .accepted-row .ensures)
-          (r .result) (r .last .1 .0) (r .last .1 .1 .0) (r .last .1 .1 .1 .0) (r .ensures),
-    )
+    let wrote : tie.After-write-row Inv-loop μ-loop = search in
+    let put : tie.After-row-operands Inv-loop μ-loop = search in
+    let took : tie.After-n Inv-loop μ-loop = search in
+    let step : tie.After-step-row Inv-loop μ-loop = search in
+    let row : tie.After-accepted-row Inv-loop μ-loop = search in
+    let more = row .before .before in
+    let z = row-inside more in
+    (omega arith, loop-of more .loop .inv .1, fills-taken (room more) (ahead more) (says row) (step .step-row .ensures) (took .n .given .1) (put .row-operands .ensures) (wrote .write-row .ensures))
 
 pub fill-spec : {M : Type 1} → statement M
 fill-spec =
@@ -218,9 +229,10 @@ fill-spec =
     same-length-6
     returns-2
     enum-known-n
-    sub-write-row
-    part-write-row-start
-    part-write-row-end
+    sub-row-operands
+    part-row-operands-start
+    part-row-operands-end
+    row-operands-requires
     write-row-requires
     add-at
     loop-less

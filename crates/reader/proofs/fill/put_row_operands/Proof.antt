@@ -4,7 +4,8 @@ use native.Mathlib.Omega.{arith}
 use Prim.Native.Nat.{_*_, _-_}
 use lib.ListN.{length, length-drop}
 use Rattle.reader.specs.Tables.{whole}
-use Rattle.reader.specs.Fill.{entriesIn}
+use Rattle.reader.specs.Fill.{given-is}
+use Rattle.reader.specs.RowOperands.{operandsIn}
 use Rattle.reader.proofs.fill.put_row_operands.Statement.{statement}
 use Rattle.reader.proofs.fill.put_row_operands.Tie as tie
 
@@ -43,14 +44,14 @@ same-length c = search needs
 
 returns : tie.Need-returns
 returns c =
-    let a = c .before .before .before .before .before .before .before .args in
-    let p = c .before .before .put-operands .ensures in
-    let es = entriesIn (a .row .now) in
-    record {
-      count = p .count;
-      detail = p .detail;
-      table = whole (a .args .now) (c .before .before .put-operands .last .1 .1 .0) es (a .n * 64) (length (a .args .now) - a .n * 64) (length es) (omega (arith, length-drop (a .n * 64) (a .args .now))) (p .table);
-    }
+    let start : tie.Start = search in
+    let put : tie.After-put-operands = search in
+    let a = start .args in
+    let p = put .put-operands .ensures in
+    let es = operandsIn (a .row .now) .entries in (
+      whole (a .args .now) (put .put-operands .last .1 .1 .0) es (a .n * 64) (length (a .args .now) - a .n * 64) (length es) (omega (arith, length-drop (a .n * 64) (a .args .now))) (p .table),
+      given-is (p .count) (p .detail),
+    )
 
 pub put-row-operands-spec : {M : Type 1} → statement M
 put-row-operands-spec =
