@@ -20,10 +20,11 @@ same-length c = search needs
 
 returns : tie.Need-returns
 returns c =
-    let f = c .before .before .before .before .before .before .before .before in
-    let a = f .before .before .args in
-    c .before .before .store2 .ensures ∙ ap (λ (l : List ℕ). set l (a .i * 12 + 9) (a .number)) (c .before .before .before .before .before .before .store .ensures)
-    ∙ ap (λ (b : Bool). branchStmts (a .t .now) (a .i) b (a .form) (a .number) (a .n)) (sym (f .if1 .taken))
+    let at-store : tie.After-store = search in
+    let at-then1 : tie.Then1 = search in
+    let a = at-then1 .before .before .args in
+    c .before .before .store2 .ensures ∙ ap (λ (l : List ℕ). set l (a .i * 12 + 9) (a .number)) (at-store .store .ensures)
+    ∙ ap (λ (b : Bool). branchStmts (a .t .now) (a .i) b (a .form) (a .number) (a .n)) (sym (at-then1 .if1 .taken))
 
 narrow-requires : tie.Need-narrow-requires
 narrow-requires c κs = search needs
@@ -42,13 +43,15 @@ same-length-2 c = search needs
 
 returns-2 : tie.Need-returns-2
 returns-2 c =
-    let f = c .before .before .before .before .before .before .before .before .before .before .before .before .before in
-    let a = f .before .before .args in
-    let n = c .before .before .before .before .before .before .before .before .before .before .before in
+    let at-store4 : tie.After-store4 = search in
+    let at-store3 : tie.After-store3 = search in
+    let at-narrow : tie.After-narrow = search in
+    let at-else1 : tie.Else1 = search in
+    let a = at-else1 .before .before .args in
     c .before .before .store5 .ensures
-    ∙ ap (λ (l : List ℕ). set l (a .i * 12 + 7) (a .number)) (c .before .before .before .before .before .before .store4 .ensures)
-    ∙ ap (λ (l : List ℕ). set (set l (a .i * 12 + 6) (a .form)) (a .i * 12 + 7) (a .number)) (c .before .before .before .before .before .before .before .before .before .before .store3 .ensures ∙ ap (set (a .t .now) (a .i * 12 + 5)) (n .narrow .ensures))
-    ∙ ap (λ (b : Bool). branchStmts (a .t .now) (a .i) b (a .form) (a .number) (a .n)) (sym (f .if1 .left))
+    ∙ ap (λ (l : List ℕ). set l (a .i * 12 + 7) (a .number)) (at-store4 .store4 .ensures)
+    ∙ ap (λ (l : List ℕ). set (set l (a .i * 12 + 6) (a .form)) (a .i * 12 + 7) (a .number)) (at-store3 .store3 .ensures ∙ ap (set (a .t .now) (a .i * 12 + 5)) (at-narrow .narrow .ensures))
+    ∙ ap (λ (b : Bool). branchStmts (a .t .now) (a .i) b (a .form) (a .number) (a .n)) (sym (at-else1 .if1 .left))
 
 pub end-branch-spec : {M : Type 1} → statement M
 end-branch-spec =

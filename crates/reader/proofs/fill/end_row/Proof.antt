@@ -15,48 +15,50 @@ returns c = (rw (eq-eqb _ _ (c .before .before .if1 .taken), eq-eqb _ _ (c .if2 
 
 node-of-requires : tie.Need-node-of-requires
 node-of-requires c κs =
-    let a = c .before .before .before .before .before .before in
-    a .pre .inner (c .before .before .before .if1 .taken) (omega (arith, c .before .if2 .left))
+    let at-start : tie.Start = search in
+    at-start .pre .inner (c .before .before .before .if1 .taken) (omega (arith, c .before .if2 .left))
 
 end-branch-requires : tie.Need-end-branch-requires
 end-branch-requires c κs =
-    let a = c .before .before .before .before .before .before .before .before in
-    let h : 0 < a .args .w .holder = a .pre .inner (c .before .before .before .before .before .if1 .taken) (omega (arith, c .before .before .before .if2 .left)) in
-    let f = a .pre .fits in
-    let m = a .pre .small in
+    let at-then1 : tie.Then1 = search in
+    let at-start : tie.Start = search in
+    let h : 0 < at-start .args .w .holder = at-start .pre .inner (at-then1 .if1 .taken) (omega (arith, c .before .before .before .if2 .left)) in
+    let f = at-start .pre .fits in
+    let m = at-start .pre .small in
     let e = c .before .node-of .ensures in
-    (omega arith, omega arith, a .pre .most)
+    (omega arith, omega arith, at-start .pre .most)
 
 same-length : tie.Need-same-length
 same-length c = search needs
 
 returns-2 : tie.Need-returns-2
 returns-2 c =
+    let at-start : tie.Start = search in
     let n = c .before .before .before .before in
     let p = n .before .before in
-    let a = p .before .before .before .before .before .args in
+    let a = at-start .args in
     let x = eq-eqb _ _ (p .before .before .if1 .taken) in
     let y = ne-eqb _ _ (p .if2 .left) in
     (rw (x, y), rw (x, y) (c .before .before .end-branch .ensures ∙ ap (λ (i : ℕ). branchStmts (a .t .now) i (eqb (a .s .open_conds % 2) 1) 1 0 (a .s .stmts)) (n .node-of .ensures)))
 
 node-of-requires-2 : tie.Need-node-of-requires-2
-node-of-requires-2 c κs = c .before .before .before .before .before .pre .held (c .if3 .taken)
+node-of-requires-2 c κs = let at-start : tie.Start = search in at-start .pre .held (c .if3 .taken)
 
 fetch-requires : tie.Need-fetch-requires
 fetch-requires c κs =
-    let a = c .before .before .before .before .before .before .before in
-    let h : 0 < a .args .w .holder = a .pre .held (c .before .before .if3 .taken) in
-    let f = a .pre .fits in
-    let m = a .pre .small in
+    let at-start : tie.Start = search in
+    let h : 0 < at-start .args .w .holder = at-start .pre .held (c .before .before .if3 .taken) in
+    let f = at-start .pre .fits in
+    let m = at-start .pre .small in
     let e = c .before .node-of2 .ensures in
     (omega arith, omega arith, omega arith)
 
 fetch-requires-2 : tie.Need-fetch-requires-2
 fetch-requires-2 c κs =
-    let a = c .before .before .before .before .before .before .before .before .before in
-    let h : 0 < a .args .w .holder = a .pre .held (c .before .before .before .before .if3 .taken) in
-    let f = a .pre .fits in
-    let m = a .pre .small in
+    let at-start : tie.Start = search in
+    let h : 0 < at-start .args .w .holder = at-start .pre .held (c .before .before .before .before .if3 .taken) in
+    let f = at-start .pre .fits in
+    let m = at-start .pre .small in
     let e = c .before .before .before .node-of2 .ensures in
     (omega arith, omega arith, omega arith)
 
@@ -65,19 +67,22 @@ narrow-requires c κs = search needs
 
 store-requires : tie.Need-store-requires
 store-requires c κs =
-    let a = c .before .before .before .before .before .before .before .before .before .before .before .before in
-    let h : 0 < a .args .w .holder = a .pre .held (c .before .before .before .before .before .before .before .if3 .taken) in
-    let f = a .pre .fits in
-    let m = a .pre .small in
-    let e = c .before .before .before .before .before .before .node-of2 .ensures in
+    let at-node-of2 : tie.After-node-of2 = search in
+    let at-then3 : tie.Then3 = search in
+    let at-start : tie.Start = search in
+    let h : 0 < at-start .args .w .holder = at-start .pre .held (at-then3 .if3 .taken) in
+    let f = at-start .pre .fits in
+    let m = at-start .pre .small in
+    let e = at-node-of2 .node-of2 .ensures in
     (omega arith, omega arith, omega arith)
 
 next-index-requires : tie.Need-next-index-requires
 next-index-requires c κs =
-    let a = c .before .before .before .before .before .before .before .before .before .before .before .before .before .before .before in
-    let n = c .before .before .before .before .before .before .before .before .before in
-    let i = a .pre .index (n .before .if3 .taken) in
-    let e = c .before .before .before .before .before .fetch2 .ensures ∙ ap (λ (i : ℕ). getD (a .args .t .now) (i * 12 + 3) 0) (n .node-of2 .ensures) in
+    let at-fetch2 : tie.After-fetch2 = search in
+    let at-node-of2 : tie.After-node-of2 = search in
+    let at-start : tie.Start = search in
+    let i = at-start .pre .index (at-node-of2 .before .if3 .taken) in
+    let e = at-fetch2 .fetch2 .ensures ∙ ap (λ (i : ℕ). getD (at-start .args .t .now) (i * 12 + 3) 0) (at-node-of2 .node-of2 .ensures) in
     omega arith
 
 same-length-2 : tie.Need-same-length-2
@@ -85,15 +90,18 @@ same-length-2 c = search needs
 
 returns-3 : tie.Need-returns-3
 returns-3 c =
-    let n = c .before .before .before .before .before .before .before .before .before .before in
-    let p = n .before in
-    let a = p .before .before .before .before .before .args in
+    let at-fetch2 : tie.After-fetch2 = search in
+    let at-fetch : tie.After-fetch = search in
+    let at-node-of2 : tie.After-node-of2 = search in
+    let at-start : tie.Start = search in
+    let p = at-node-of2 .before in
+    let a = at-start .args in
     let t = a .t .now in
     let x = ne-eqb _ _ (p .before .before .if1 .left) in
     let y = eq-eqb _ _ (p .if3 .taken) in
-    let e = n .node-of2 .ensures in (
-      rw (x, y) (walk-is (c .before .before .before .before .before .before .before .before .fetch .ensures ∙ ap (λ (i : ℕ). getD t (i * 12 + 2) 0) e)
-          (c .next-index .ensures ∙ ap (λ (k : ℕ). k + 1) (c .before .before .before .before .before .before .fetch2 .ensures ∙ ap (λ (i : ℕ). getD t (i * 12 + 3) 0) e))),
+    let e = at-node-of2 .node-of2 .ensures in (
+      rw (x, y) (walk-is (at-fetch .fetch .ensures ∙ ap (λ (i : ℕ). getD t (i * 12 + 2) 0) e)
+          (c .next-index .ensures ∙ ap (λ (k : ℕ). k + 1) (at-fetch2 .fetch2 .ensures ∙ ap (λ (i : ℕ). getD t (i * 12 + 3) 0) e))),
       rw (x, y) (c .before .before .before .store .ensures ∙ ap (λ (i : ℕ). set t (i * 12 + 4) (c .before .before .before .before .narrow .result)) e ∙ ap (set t ((a .w .holder - 1) * 12 + 4)) (c .before .before .before .before .narrow .ensures)),
     )
 

@@ -26,15 +26,28 @@ enum-known-number c = search needs
 enum-known-handlers : tie.Need-enum-known-handlers
 enum-known-handlers c = search needs
 
+-- Ways back from a place to an earlier one. `search` finds each by its type.
+abbrev start-of-put-counts : tie.After-put-counts → tie.Start
+start-of-put-counts c = search
+
+ruleset ways = (start-of-put-counts)
+
 write-listing-requires : tie.Need-write-listing-requires
 write-listing-requires c κs =
-    let g = c .before .before .before .before .before .handlers .given in
-    let b = c .before .before .before .before .before .before .before .before .before .before .before .before .before .before .before .before .before .before .before .before .before .before .before .before .before .before .args in
-    let k = c .before .before .before .before .before .before .before .before .before .before .before .before .before .before .before .before .before .before .before .before .put-counts in
-    let l = c .before .before .before .before .before .before .before .before .before .before .before .before .before .before .before .before .before .before .zero16 in
-    let t = c .before .before .before .before .before .before .before .before .before .before .before .before .before .before .zero162 in
-    let a = c .before .before .before .before .before .before .before .before .before .before .zero64 in
-    let v = c .before .before .before .before .before .before .before .judge in
+    let at-handlers : tie.After-handlers = search in
+    let at-judge : tie.After-judge = search in
+    let at-zero64 : tie.After-zero64 = search in
+    let at-zero162 : tie.After-zero162 = search in
+    let at-zero16 : tie.After-zero16 = search in
+    let at-put-counts : tie.After-put-counts = search in
+    let at-start : tie.Start = search ways in
+    let g = at-handlers .handlers .given in
+    let b = at-start .args in
+    let k = at-put-counts .put-counts in
+    let l = at-zero16 .zero16 in
+    let t = at-zero162 .zero162 in
+    let a = at-zero64 .zero64 in
+    let v = at-judge .judge in
     zeroed-judged (b .text .now) (k .last .0) (l .last .0) (t .last .0) (a .last .0) (length (b .lines .now)) (length (b .stmts .now)) (length (b .args .now)) (k .ensures) (l .ensures) (t .ensures) (a .ensures) (v .result) (v .ensures)
     (g .0 .0) (g .0 .1 .0) (g .0 .1 .1 .0) (g .1)
 
@@ -49,12 +62,17 @@ same-length-3 c = search needs
 
 returns : tie.Need-returns
 returns c =
+    let at-zero64 : tie.After-zero64 = search in
+    let at-zero162 : tie.After-zero162 = search in
+    let at-zero16 : tie.After-zero16 = search in
+    let at-put-counts : tie.After-put-counts = search in
+    let at-start : tie.Start = search ways in
     let g = c .before .number .given in
-    let b = c .before .before .before .before .before .before .before .before .before .before .before .before .before .before .before .before .before .before .before .before .before .before .args in
-    let k = c .before .before .before .before .before .before .before .before .before .before .before .before .before .before .before .before .put-counts in
-    let l = c .before .before .before .before .before .before .before .before .before .before .before .before .before .before .zero16 in
-    let t = c .before .before .before .before .before .before .before .before .before .before .zero162 in
-    let a = c .before .before .before .before .before .before .zero64 in
+    let b = at-start .args in
+    let k = at-put-counts .put-counts in
+    let l = at-zero16 .zero16 in
+    let t = at-zero162 .zero162 in
+    let a = at-zero64 .zero64 in
     let v = c .before .before .before .judge in
     zeroed-refused (b .text .now) (k .last .0) (l .last .0) (t .last .0) (a .last .0) (length (b .lines .now)) (length (b .stmts .now)) (length (b .args .now)) (k .ensures) (l .ensures) (t .ensures) (a .ensures) (v .result) (v .ensures)
     (g .0 .0) (g .0 .1 .0) (g .1)
@@ -70,13 +88,20 @@ same-length-6 c = search needs
 
 returns-2 : tie.Need-returns-2
 returns-2 c =
-    let w = c .before .before .before .before .before .before .write-listing in
-    let b = c .before .before .before .before .before .before .before .before .before .before .before .before .before .before .before .before .before .before .before .before .before .before .before .before .before .before .before .before .before .before .before .before .before .args in
-    let k = c .before .before .before .before .before .before .before .before .before .before .before .before .before .before .before .before .before .before .before .before .before .before .before .before .before .before .before .put-counts in
-    let l = c .before .before .before .before .before .before .before .before .before .before .before .before .before .before .before .before .before .before .before .before .before .before .before .before .before .zero16 in
-    let t = c .before .before .before .before .before .before .before .before .before .before .before .before .before .before .before .before .before .before .before .before .before .zero162 in
-    let a = c .before .before .before .before .before .before .before .before .before .before .before .before .before .before .before .before .before .zero64 in
-    let v = c .before .before .before .before .before .before .before .before .before .before .before .before .before .before .judge in
+    let at-write-listing : tie.After-write-listing = search in
+    let at-judge : tie.After-judge = search in
+    let at-zero64 : tie.After-zero64 = search in
+    let at-zero162 : tie.After-zero162 = search in
+    let at-zero16 : tie.After-zero16 = search in
+    let at-put-counts : tie.After-put-counts = search in
+    let at-start : tie.Start = search ways in
+    let w = at-write-listing .write-listing in
+    let b = at-start .args in
+    let k = at-put-counts .put-counts in
+    let l = at-zero16 .zero16 in
+    let t = at-zero162 .zero162 in
+    let a = at-zero64 .zero64 in
+    let v = at-judge .judge in
     zeroed-written (b .text .now) (k .last .0) (l .last .0) (t .last .0) (a .last .0) (length (b .lines .now)) (length (b .stmts .now)) (length (b .args .now)) (k .ensures) (l .ensures) (t .ensures) (a .ensures) (v .result) (v .ensures)
     (w .last .1 .0) (w .last .1 .1 .0) (w .last .1 .1 .1 .0) (w .last .1 .1 .1 .1 .0) (w .result) (w .ensures)
 
