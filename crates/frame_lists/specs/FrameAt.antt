@@ -8,6 +8,7 @@ use Rattle.listings.specs.Bytes.{pick}
 use Rattle.listings.specs.Listing.{Name}
 use Rattle.listings.specs.Rows.{isName}
 use Rattle.listings.specs.Records.{nameKey}
+use Rattle.layout.specs.Layout.{returnWord, runWord, forWord, nextWord, clrWord, stmtEntries, argEntries, fallEntries, listEntries}
 use Rattle.tables.specs.Columns.{callWord, wordOf, fallEntry, succStart, succCount, succPart}
 use Rattle.graph.specs.Questions.{Reply, refused, kept, ifRoom}
 use Rattle.statements.specs.StatementAt.{noStatement, unlessRefused}
@@ -16,20 +17,20 @@ use Rattle.statements.specs.StatementAt.{noStatement, unlessRefused}
 
 -- "nothing for CLR, RUN, RETURN"
 unfoldable pub forgetsWord : ℕ → Bool
-forgetsWord w = eqb w 24 || (eqb w 10 || eqb w 9)
+forgetsWord w = eqb w clrWord || (eqb w runWord || eqb w returnWord)
 
 -- ".. and a FOR of that name": a is the key in the record, k that of the name asked for
 unfoldable pub endsFrame : (w a k : ℕ) → Bool
-endsFrame w a k = forgetsWord w || (eqb w 13 && eqb a k)
+endsFrame w a k = forgetsWord w || (eqb w forWord && eqb a k)
 
 -- "a NEXT with the flag"
 unfoldable pub keepsShared : ℕ → Bool → Bool
-keepsShared w flag = eqb w 14 && flag
+keepsShared w flag = eqb w nextWord && flag
 
 -- the rest of the rule: "keeps those successors that the header has; a call gives its continuation, if any; else all successors"
 unfoldable pub frameRead : (stmts args falls lists succ : List ℕ) → (header node key : ℕ) → Bool → List ℕ
 frameRead stmts args falls lists succ h i k flag =
-    pick (endsFrame (wordOf stmts i) (getD args (i * 64) 0) k) []
+    pick (endsFrame (wordOf stmts i) (getD args (i * argEntries) 0) k) []
     (pick (keepsShared (wordOf stmts i) flag) (kept (succPart lists succ h) (succPart lists succ i))
     (pick (callWord (wordOf stmts i)) (fallEntry falls i) (succPart lists succ i)))
 
@@ -37,14 +38,14 @@ frameRead stmts args falls lists succ h i k flag =
 
 -- n statements do not fit a table of so many entries
 unfoldable pub shortTables : (n stmts args falls lists : ℕ) → Bool
-shortTables n stmts args falls lists = ltb stmts (n * 12) || (ltb args (n * 64) || (ltb falls (n * 3) || ltb lists (n * 4)))
+shortTables n stmts args falls lists = ltb stmts (n * stmtEntries) || (ltb args (n * argEntries) || (ltb falls (n * fallEntries) || ltb lists (n * listEntries)))
 
 unfoldable pub partOutside : (lists succ : List ℕ) → ℕ → Bool
 partOutside lists succ i = ltb (length succ) (succStart lists i + succCount lists i)
 
 -- a call falls to no node
 unfoldable pub fallOutside : ℕ → (stmts falls : List ℕ) → ℕ → Bool
-fallOutside n stmts falls i = callWord (wordOf stmts i) && ltb n (getD falls (i * 3) 0)
+fallOutside n stmts falls i = callWord (wordOf stmts i) && ltb n (getD falls (i * fallEntries) 0)
 
 unfoldable pub frameOutside : ℕ → (stmts args falls lists succ : List ℕ) → (header node : ℕ) → Bool
 frameOutside n stmts args falls lists succ h i =

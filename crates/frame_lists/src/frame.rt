@@ -5,6 +5,15 @@ use frame_slices::slices::copy_list;
 use frame_slices::slices::give_fall;
 use frame_slices::slices::give_nothing;
 use frame_slices::slices::keep_shared;
+use layout::columns::ARG_ENTRIES;
+use layout::columns::FALL_ENTRIES;
+use layout::columns::LIST_ENTRIES;
+use layout::columns::STMT_ENTRIES;
+use layout::words::CLR;
+use layout::words::FOR;
+use layout::words::NEXT;
+use layout::words::RETURN;
+use layout::words::RUN;
 use statements::statement::no_statement;
 use tables::calls::is_call;
 use tables::widths::count_of;
@@ -21,17 +30,6 @@ ghost use Rattle.graph.specs.Questions.{kept, ifRoom};
 ghost use Rattle.frame_lists.specs.FrameAt.{forgetsWord, endsFrame, keepsShared, shortTables, partOutside, fallOutside, frameOutside, frameRead, frameIn, frameAt};
 ghost use Rattle.frame_slices.specs.Told.{FrameTold};
 ghost use Rattle.frame_lists.specs.FrameChecks.{PartInside, FrameInside};
-
-// Numbers of opening words.
-const RETURN: u16 = 9;
-
-const RUN: u16 = 10;
-
-const FOR: u16 = 13;
-
-const NEXT: u16 = 14;
-
-const CLR: u16 = 24;
 
 fn forgets(word: u16) -> bool
     ensures { λ r. ⌜ r ≡ forgetsWord word ⌝ }
@@ -96,15 +94,15 @@ fn write_frame(
     requires { ⌜ FrameInside (now counts) (now stmts) (now args) (now falls) (now lists) (now succ) header node ⌝ }
     ensures { λ r. ⌜ FrameTold (ifRoom (length (now (out .entry))) (frameRead (now (stmts .entry)) (now (args .entry)) (now (falls .entry)) (now (lists .entry)) (now (succ .entry)) header node key flag)) (now (out .entry)) (now (out .exit)) r ⌝ }
 {
-    let word = stmts[node * 12];
-    if ends_frame(word, args[node * 64], key) {
+    let word = stmts[node * STMT_ENTRIES];
+    if ends_frame(word, args[node * ARG_ENTRIES], key) {
         return give_nothing(out);
     }
     if keeps_shared(word, flag) {
         return keep_part(counts, lists, succ, header, node, out);
     }
     if is_call(word) {
-        return give_fall(falls[node * 3], out);
+        return give_fall(falls[node * FALL_ENTRIES], out);
     }
     copy_part(counts, lists, succ, node, out)
 }
@@ -113,16 +111,16 @@ fn write_frame(
 fn short_tables(n: usize, stmts: &[u16], args: &[u64], falls: &[u16], lists: &[u16]) -> bool
     ensures { λ r. ⌜ r ≡ shortTables n (length (now (stmts .entry))) (length (now (args .entry))) (length (now (falls .entry))) (length (now (lists .entry))) ⌝ }
 {
-    if stmts.len() / 12 < n {
+    if stmts.len() / STMT_ENTRIES < n {
         return true;
     }
-    if args.len() / 64 < n {
+    if args.len() / ARG_ENTRIES < n {
         return true;
     }
-    if falls.len() / 3 < n {
+    if falls.len() / FALL_ENTRIES < n {
         return true;
     }
-    lists.len() / 4 < n
+    lists.len() / LIST_ENTRIES < n
 }
 
 // By a difference, so that no sum can wrap.

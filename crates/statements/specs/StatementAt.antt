@@ -5,6 +5,7 @@ use mathlib.Core.Bool.{Bool, false, _||_}
 use lib.Dec.{eqb, ltb, leb}
 use lib.ListN.{length, getD}
 use Rattle.listings.specs.Bytes.{pick}
+use Rattle.layout.specs.Layout.{ifWord, ifelseWord, rcompWord, stmtEntries}
 use Rattle.tables.specs.Columns.{wordOf, holderOf, indexOf, lineOf}
 use Rattle.graph.specs.Questions.{Reply, answer, refused}
 use Rattle.statements.specs.StatementWords.{noStatementWord}
@@ -16,17 +17,17 @@ unfoldable pub statedOf : Reply (ℕ × ℕ) → Stated
 statedOf (answer d) = stated.Stmt (d .0) (d .1)
 statedOf (refused n p) = stated.Refused n p
 
--- "25 a used count or a record that the call reads points outside its table (place 0)": n statements of 12 entries each
+-- "25 a used count or a record that the call reads points outside its table (place 0)": n statements, each with its entries
 unfoldable pub ifRows : {A : Type 0} → ℕ → List ℕ → Reply A → Reply A
-ifRows n stmts r = pick (ltb (length stmts) (n * 12)) (refused 25 0) r
+ifRows n stmts r = pick (ltb (length stmts) (n * stmtEntries)) (refused 25 0) r
 
 -- and the record of node i: its word opens no statement, or its line index is none of so many lines
 unfoldable pub recordOutside : (lines : ℕ) (stmts : List ℕ) (i : ℕ) → Bool
 recordOutside lines stmts i = noStatementWord (wordOf stmts i) || leb lines (lineOf stmts i)
 
--- `(if`, `(ifelse` and `(rcomp` alone hold statements: 2, 3 and 4 of the opening words
+-- `(if`, `(ifelse` and `(rcomp` alone hold statements
 unfoldable pub branchingWord : ℕ → Bool
-branchingWord w = eqb w 2 || (eqb w 3 || eqb w 4)
+branchingWord w = eqb w ifWord || (eqb w ifelseWord || eqb w rcompWord)
 
 -- ---- down a path
 
@@ -84,7 +85,7 @@ noStatement lines stmts n i = pick (recordOutside lines stmts i) 25 (climb lines
 
 -- the same of any node of any table: 25 where n statements have no record of it there
 unfoldable pub noStatementIn : (lines : ℕ) (stmts : List ℕ) (n i : ℕ) → ℕ
-noStatementIn lines stmts n i = pick (ltb i n) (pick (ltb (length stmts) (n * 12)) 25 (noStatement lines stmts n i)) 25
+noStatementIn lines stmts n i = pick (ltb i n) (pick (ltb (length stmts) (n * stmtEntries)) 25 (noStatement lines stmts n i)) 25
 
 -- 0 is no refusal
 unfoldable pub unlessRefused : {A : Type 0} → ℕ → Reply A → Reply A

@@ -8,10 +8,11 @@ use borrow.Author.Tests.{ltb-false}
 use lib.Dec.{eqb, ltb}
 use Rattle.listings.specs.Rows.{Form, moduleForm, lineForm, toForm, stmtsForm, runForm, forForm, nextForm, condForm, bareForm, numberForm, numbersForm, openingWords}
 use Rattle.listings.specs.WordTable.{forms}
+use Rattle.layout.specs.Layout.{moduleWord, lineWord, toWord, stmtsWord, plainWord}
 
--- "The 28 opening words stand in one constant table": `module` (0) and `line` (1) hold what the listing is made of, "A branch is" `to` (5) or `stmts` (6); the other 24 open statements
+-- "The 28 opening words stand in one constant table": `module` and `line` hold what the listing is made of, "A branch is" `to` or `stmts`; the other 24, up to `plain`, open statements
 unfoldable pub noStatementWord : ℕ → Bool
-noStatementWord w = eqb w 0 || (eqb w 1 || (eqb w 5 || (eqb w 6 || ltb 27 w)))
+noStatementWord w = eqb w moduleWord || (eqb w lineWord || (eqb w toWord || (eqb w stmtsWord || ltb plainWord w)))
 
 pub low-word : (w : ℕ) → noStatementWord w ≡ false → w ≤ 27
 unfolding noStatementWord

@@ -1,9 +1,18 @@
 // The statement at a path, and a node's statement. Nothing is assumed of the tables.
-use reader::tables::HOLDER;
-use reader::tables::INDEX;
-use reader::tables::LINE;
-use reader::tables::STMT_ENTRIES;
-use reader::tables::WORD;
+use layout::columns::HOLDER;
+use layout::columns::INDEX;
+use layout::columns::LINE;
+use layout::columns::STMT_ENTRIES;
+use layout::columns::WORD;
+use layout::limits::MAX_DEPTH;
+use layout::words::IF;
+use layout::words::IFELSE;
+use layout::words::LINE as LINE_WORD;
+use layout::words::MODULE;
+use layout::words::PLAIN;
+use layout::words::RCOMP;
+use layout::words::STMTS;
+use layout::words::TO;
 use tables::widths::count_of;
 use tables::widths::wide;
 ghost use mathlib.Core.Path.{_≡_};
@@ -11,27 +20,6 @@ ghost use Prim.Native.Nat.{_+_, _*_, _≤_, _<_};
 ghost use lib.ListN.{length};
 ghost use Rattle.statements.specs.StatementWords.{noStatementWord};
 ghost use Rattle.statements.specs.StatementAt.{statedOf, branchingWord, recordOutside, standsAt, childAt, statementFrom, stmtAt, pathStatement, climb as climbed, noStatement, noStatementIn, nodeStatement};
-
-// Numbers of opening words: the four that open no statement, and the three whose statements hold others.
-const MODULE: u16 = 0;
-
-const LINE_FORM: u16 = 1;
-
-const TO: u16 = 5;
-
-const STMTS: u16 = 6;
-
-const IF: u16 = 2;
-
-const IFELSE: u16 = 3;
-
-const RCOMP: u16 = 4;
-
-// The number of the last of the 28 opening words.
-const LAST_WORD: u16 = 27;
-
-// "depth 16 is accepted": so many IFs can hold a statement.
-const DEPTH: usize = 16;
 
 // A statement by its node id and the number of its opening word, or document 01's number and place.
 pub enum Stated {
@@ -46,11 +34,11 @@ fn is_branching(word: u16) -> bool
     word == IF || (word == IFELSE || word == RCOMP)
 }
 
-// Whether no statement opens with this word.
+// Whether no statement opens with this word: PLAIN is the last of the 28.
 fn no_statement_word(word: u16) -> bool
     ensures { λ r. ⌜ r ≡ noStatementWord word ⌝ }
 {
-    word == MODULE || (word == LINE_FORM || (word == TO || (word == STMTS || LAST_WORD < word)))
+    word == MODULE || (word == LINE_WORD || (word == TO || (word == STMTS || PLAIN < word)))
 }
 
 // Whether the record of node i points outside: its word opens no statement, or its line index is none of so many lines.
@@ -161,13 +149,13 @@ pub fn ask_path(counts: &[u32; 5], stmts: &[u16], line: usize, path: &[u16]) -> 
     follow(lines, stmts, n, line, path)
 }
 
-// 0 if a record with that holder gives a path, else document 01's number. Up from holder to holder, `DEPTH` of them at most.
+// 0 if a record with that holder gives a path, else document 01's number. Up from holder to holder, `MAX_DEPTH` of them at most.
 fn climb(lines: usize, stmts: &[u16], n: usize, holder: usize) -> u8
     requires { ⌜ n * 12 ≤ length (now stmts) ⌝ }
     ensures { λ r. ⌜ r ≡ climbed lines (now (stmts .entry)) n 16 holder ⌝ }
 {
     let mut at = holder;
-    let mut left: usize = DEPTH;
+    let mut left: usize = MAX_DEPTH;
     while at != 0 {
         if n < at {
             return 25;

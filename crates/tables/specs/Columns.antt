@@ -6,22 +6,23 @@ use mathlib.Core.Option.{Option, none, some}
 use lib.Dec.{eqb}
 use lib.ListN.{length, getD, take, drop}
 use Rattle.listings.specs.Bytes.{pick}
+use Rattle.layout.specs.Layout.{gosubWord, ongosubWord, stmtEntries, fallEntries, listEntries, lineColumn, holderColumn, indexColumn}
 use Rattle.graph_laws.specs.Adding.{decode}
 use Rattle.graph.specs.Nodes.{LineEntry}
 
 -- ---- a statement's record (12 entries), and where it falls (3 entries)
 
--- whether an opening word is that of a call: 8 is GOSUB, 12 ON GOSUB
+-- "only GOSUB and ON GOSUB are calls": whether an opening word is that of a call
 unfoldable pub callWord : ℕ → Bool
-callWord w = eqb w 8 || eqb w 12
+callWord w = eqb w gosubWord || eqb w ongosubWord
 
 -- the number of its opening word
 unfoldable pub wordOf : List ℕ → ℕ → ℕ
-wordOf stmts i = getD stmts (i * 12) 0
+wordOf stmts i = getD stmts (i * stmtEntries) 0
 
 -- where it falls: one more than the node, or 0
 unfoldable pub fallEntry : List ℕ → ℕ → List ℕ
-fallEntry falls i = decode (getD falls (i * 3) 0)
+fallEntry falls i = decode (getD falls (i * fallEntries) 0)
 
 -- where a statement continues, if it is a call
 unfoldable pub continuationEntry : List ℕ → List ℕ → ℕ → List ℕ
@@ -29,15 +30,15 @@ continuationEntry stmts falls i = pick (callWord (wordOf stmts i)) (fallEntry fa
 
 -- the IF that holds it: one more than its node, or 0
 abbrev pub holderOf : List ℕ → ℕ → ℕ
-holderOf stmts i = getD stmts (i * 12 + 2) 0
+holderOf stmts i = getD stmts (i * stmtEntries + holderColumn) 0
 
 -- the last number of its path
 abbrev pub indexOf : List ℕ → ℕ → ℕ
-indexOf stmts i = getD stmts (i * 12 + 3) 0
+indexOf stmts i = getD stmts (i * stmtEntries + indexColumn) 0
 
 -- the line that it stands in
 abbrev pub lineOf : List ℕ → ℕ → ℕ
-lineOf stmts i = getD stmts (i * 12 + 1) 0
+lineOf stmts i = getD stmts (i * stmtEntries + lineColumn) 0
 
 -- ---- a node's path
 
@@ -52,22 +53,22 @@ pathIn stmts (suc k) i = heldBy (λ h. pathIn stmts k h) (holderOf stmts i) ++ (
 
 -- n statements, of which each is held by one of them or by none
 pub record Holders (stmts : List ℕ) (n : ℕ) : Type 0 where
-  pub rows : n * 12 ≤ length stmts
+  pub rows : n * stmtEntries ≤ length stmts
   pub held : (i : ℕ) → i < n → holderOf stmts i ≤ n
 
 -- ---- a node's row of four: where its successors and its predecessors stand, and how many
 
 abbrev pub succStart : List ℕ → ℕ → ℕ
-succStart t i = getD t (i * 4) 0
+succStart t i = getD t (i * listEntries) 0
 
 abbrev pub succCount : List ℕ → ℕ → ℕ
-succCount t i = getD t (i * 4 + 1) 0
+succCount t i = getD t (i * listEntries + 1) 0
 
 abbrev pub predStart : List ℕ → ℕ → ℕ
-predStart t i = getD t (i * 4 + 2) 0
+predStart t i = getD t (i * listEntries + 2) 0
 
 abbrev pub predCount : List ℕ → ℕ → ℕ
-predCount t i = getD t (i * 4 + 3) 0
+predCount t i = getD t (i * listEntries + 3) 0
 
 -- the parts of the edge tables that a node's row names
 abbrev pub succPart : (lists succ : List ℕ) → ℕ → List ℕ
@@ -80,7 +81,7 @@ predPart lists pred i = take (predCount lists i) (drop (predStart lists i) pred)
 pub record NodesReadable (lines stmts lists succ pred : List ℕ) (n : ℕ) : Type 0 where
   pub holders : Holders stmts n
   pub numbered : (i : ℕ) → i < n → lineOf stmts i < length lines
-  pub rows : n * 4 ≤ length lists
+  pub rows : n * listEntries ≤ length lists
   pub succ-in : (i : ℕ) → i < n → succStart lists i + succCount lists i ≤ length succ
   pub pred-in : (i : ℕ) → i < n → predStart lists i + predCount lists i ≤ length pred
 

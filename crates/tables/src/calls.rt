@@ -1,11 +1,8 @@
 // Which statements are calls.
+use layout::words::GOSUB;
+use layout::words::ONGOSUB;
 ghost use mathlib.Core.Path.{_≡_};
 ghost use Rattle.tables.specs.Columns.{callWord};
-
-// Numbers of opening words.
-const GOSUB: u16 = 8;
-
-const ONGOSUB: u16 = 12;
 
 pub fn is_call(word: u16) -> bool
     ensures { λ r. ⌜ r ≡ callWord word ⌝ }
