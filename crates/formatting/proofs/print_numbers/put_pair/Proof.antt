@@ -17,7 +17,11 @@ same-length : tie.Need-same-length
 same-length c = search needs
 
 returns : tie.Need-returns
-returns c = let a = c .before .before .before .before .before .before .before .before .before .before .before .before .before .before .args in puts-pair _ _ _ _ _ _ _ _ (a .word .now) (a .a) (a .b) (c .before .before .before .before .before .before .before .before .before .before .put-bytes .ensures) (c .before .before .before .before .before .before .put-number .ensures) (c .before .before .put-number2 .ensures)
+returns c =
+    let at-put-number : tie.After-put-number = search in
+    let at-put-bytes : tie.After-put-bytes = search in
+    let at-start : tie.Start = search in
+    let a = at-start .args in puts-pair _ _ _ _ _ _ _ _ (a .word .now) (a .a) (a .b) (at-put-bytes .put-bytes .ensures) (at-put-number .put-number .ensures) (c .before .before .put-number2 .ensures)
 
 pub put-pair-spec : {M : Type 1} → statement M
 put-pair-spec =

@@ -19,7 +19,10 @@ same-length c = search needs
 
 returns : tie.Need-returns
 unfolding bytes
-returns c = let a = c .before .before .before .before .before .before .before .before .before .before .before .args in puts-row _ _ _ _ _ _ (a .word .now) (a .a) (a .b) (c .before .before .before .before .before .before .before .put-pair .ensures) (c .before .before .put-bytes .ensures)
+returns c =
+    let at-put-pair : tie.After-put-pair = search in
+    let at-start : tie.Start = search in
+    let a = at-start .args in puts-row _ _ _ _ _ _ (a .word .now) (a .a) (a .b) (at-put-pair .put-pair .ensures) (c .before .before .put-bytes .ensures)
 
 pub put-pair-row-spec : {M : Type 1} → statement M
 put-pair-row-spec =

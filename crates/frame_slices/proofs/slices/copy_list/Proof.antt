@@ -22,8 +22,10 @@ same-length c = search needs
 
 returns-2 : tie.Need-returns-2
 returns-2 c =
-    let a = c .before .before .before .before .before .before .before .before .before .before .before .args in
-    let s = c .before .before .before .before .before .before .store-list in
+    let at-store-list : tie.After-store-list = search in
+    let at-start : tie.Start = search in
+    let a = at-start .args in
+    let s = at-store-list .store-list in
     let z = c .before .before .clear-behind in
     told-list (a .list .now) (a .out .now) (s .last .1 .0) (z .last .0) (length (a .list .now)) refl (search needs) (s .ensures) (z .ensures)
 

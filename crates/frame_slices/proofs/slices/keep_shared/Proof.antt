@@ -10,7 +10,8 @@ count-kept-requires c κs = search needs
 
 returns : tie.Need-returns
 returns c =
-    let a = c .before .before .before .before .before .args in
+    let at-start : tie.Start = search in
+    let a = at-start .args in
     let n = c .before .count-kept in
     told-long (kept (a .header .now) (a .list .now)) (a .out .now) (n .result) (n .ensures) (search needs)
 
@@ -25,9 +26,12 @@ same-length c = search needs
 
 returns-2 : tie.Need-returns-2
 returns-2 c =
-    let a = c .before .before .before .before .before .before .before .before .before .before .before .before .before .args in
-    let n = c .before .before .before .before .before .before .before .before .before .count-kept in
-    let s = c .before .before .before .before .before .before .store-kept in
+    let at-store-kept : tie.After-store-kept = search in
+    let at-count-kept : tie.After-count-kept = search in
+    let at-start : tie.Start = search in
+    let a = at-start .args in
+    let n = at-count-kept .count-kept in
+    let s = at-store-kept .store-kept in
     let z = c .before .before .clear-behind in
     told-list (kept (a .header .now) (a .list .now)) (a .out .now) (s .last .1 .1 .0) (z .last .0) (n .result) (n .ensures) (search needs) (s .ensures) (z .ensures)
 
