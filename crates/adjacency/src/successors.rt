@@ -1,4 +1,5 @@
 // A node's successors and predecessors, read off tables that any caller may have written.
+use layout::columns::LIST_ENTRIES;
 use tables::widths::count_of;
 ghost use mathlib.Core.Path.{_≡_};
 ghost use Prim.Native.Nat.{_+_, _*_, _<_, _≤_};
@@ -30,14 +31,14 @@ fn ask_list(counts: &[u32; 5], lists: &[u16], size: usize, node: usize, column: 
             place: node,
         };
     }
-    if lists.len() < nodes * 4 {
+    if lists.len() < nodes * LIST_ENTRIES {
         return Asked::Refused {
             number: 25,
             place: 0,
         };
     }
-    let start = entry_of(lists[node * 4 + column]);
-    let count = entry_of(lists[node * 4 + (column + 1)]);
+    let start = entry_of(lists[node * LIST_ENTRIES + column]);
+    let count = entry_of(lists[node * LIST_ENTRIES + (column + 1)]);
     if size < start + count {
         return Asked::Refused {
             number: 25,

@@ -14,6 +14,7 @@ use crate::words::frame_words;
 use crate::words::open_row;
 use formatting::print_rows::put_refusal;
 use frame_slices::slices::Framed;
+use layout::limits::MAX_STMTS;
 use questions::entry::line_first;
 use questions::frame::frame_successors;
 use questions::statement::resolve_path;
@@ -175,10 +176,10 @@ fn answer_path(
 }
 
 // As many nodes as a listing can have.
-fn frame_room() -> [u16; 4096]
+fn frame_room() -> [u16; MAX_STMTS]
     ensures { λ r. ⌜ r ≡ replicate 4096 0 ⌝ }
 {
-    [0u16; 4096]
+    [0u16; MAX_STMTS]
 }
 
 fn put_frame(

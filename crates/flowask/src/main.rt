@@ -1,6 +1,14 @@
 // A listing with questions on standard input; their answers, or the listing's refusal, on standard output.
 use asking::ask::ask_text;
 use formatting::print_rows::put_refusal;
+use layout::limits::ARGS_LENGTH;
+use layout::limits::FALLS_LENGTH;
+use layout::limits::LINKS_LENGTH;
+use layout::limits::LISTS_LENGTH;
+use layout::limits::MAX_EDGES;
+use layout::limits::MAX_LINES;
+use layout::limits::MAX_STMTS;
+use layout::limits::STMTS_LENGTH;
 use libc::STDIN_FILENO;
 use libc::STDOUT_FILENO;
 ghost use Rattle.graph.specs.Build.{limits};
@@ -19,16 +27,16 @@ fn ask_at_limits(text: &[u8], out: &mut [u8]) -> usize
     ensures { λ r. ⌜ Puts (now (out .entry)) 0 (now (out .exit)) r (askText limits (now (text .entry))) ⌝ }
 {
     let mut counts = [0u32; 5];
-    let mut lines = [0u16; 1024];
-    let mut stmts = [0u16; 49152];
-    let mut args = [0u64; 262144];
-    let mut entries = [0u16; 1024];
-    let mut falls = [0u16; 12288];
-    let mut links = [0u16; 262144];
-    let mut lists = [0u16; 16384];
-    let mut returns = [0u16; 4096];
-    let mut succ = [0u16; 32768];
-    let mut pred = [0u16; 32768];
+    let mut lines = [0u16; MAX_LINES];
+    let mut stmts = [0u16; STMTS_LENGTH];
+    let mut args = [0u64; ARGS_LENGTH];
+    let mut entries = [0u16; MAX_LINES];
+    let mut falls = [0u16; FALLS_LENGTH];
+    let mut links = [0u16; LINKS_LENGTH];
+    let mut lists = [0u16; LISTS_LENGTH];
+    let mut returns = [0u16; MAX_STMTS];
+    let mut succ = [0u16; MAX_EDGES];
+    let mut pred = [0u16; MAX_EDGES];
     ask_text(
         text,
         &mut counts,

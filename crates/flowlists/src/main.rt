@@ -1,4 +1,12 @@
 // Framed texts on standard input (a row with the byte count, then the bytes); for each its graph or its refusal, framed in the same way.
+use layout::limits::ARGS_LENGTH;
+use layout::limits::FALLS_LENGTH;
+use layout::limits::LINKS_LENGTH;
+use layout::limits::LISTS_LENGTH;
+use layout::limits::MAX_EDGES;
+use layout::limits::MAX_LINES;
+use layout::limits::MAX_STMTS;
+use layout::limits::STMTS_LENGTH;
 ghost use mathlib.Core.Path.{_≡_};
 ghost use Rattle.graph.specs.Build.{flowlist};
 ghost use Rattle.printing.specs.Limits.{Whole};
@@ -52,16 +60,16 @@ fn list_text(text: &[u8], out: &mut [u8; 1048576]) -> usize
     ensures { λ r. ⌜ Whole (now (out .exit)) r (flowlist (now (text .entry))) ⌝ }
 {
     let mut counts = [0u32; 5];
-    let mut lines = [0u16; 1024];
-    let mut stmts = [0u16; 49152];
-    let mut args = [0u64; 262144];
-    let mut entries = [0u16; 1024];
-    let mut falls = [0u16; 12288];
-    let mut links = [0u16; 262144];
-    let mut lists = [0u16; 16384];
-    let mut returns = [0u16; 4096];
-    let mut succ = [0u16; 32768];
-    let mut pred = [0u16; 32768];
+    let mut lines = [0u16; MAX_LINES];
+    let mut stmts = [0u16; STMTS_LENGTH];
+    let mut args = [0u64; ARGS_LENGTH];
+    let mut entries = [0u16; MAX_LINES];
+    let mut falls = [0u16; FALLS_LENGTH];
+    let mut links = [0u16; LINKS_LENGTH];
+    let mut lists = [0u16; LISTS_LENGTH];
+    let mut returns = [0u16; MAX_STMTS];
+    let mut succ = [0u16; MAX_EDGES];
+    let mut pred = [0u16; MAX_EDGES];
     list_graph(
         text,
         &mut counts,

@@ -9,6 +9,7 @@ use layout::columns::ARG_ENTRIES;
 use layout::columns::FALL_ENTRIES;
 use layout::columns::LIST_ENTRIES;
 use layout::columns::STMT_ENTRIES;
+use layout::columns::SUCC_COUNT;
 use layout::words::CLR;
 use layout::words::FOR;
 use layout::words::NEXT;
@@ -128,19 +129,19 @@ fn part_outside(lists: &[u16], succ: &[u16], i: usize) -> bool
     requires { ⌜ i * 4 + 1 < length (now lists) ⌝ }
     ensures { λ r. ⌜ r ≡ partOutside (now (lists .entry)) (now (succ .entry)) i ⌝ }
 {
-    let start = wide(lists[i * 4]);
+    let start = wide(lists[i * LIST_ENTRIES]);
     if succ.len() < start {
         return true;
     }
-    succ.len() - start < wide(lists[i * 4 + 1])
+    succ.len() - start < wide(lists[i * LIST_ENTRIES + SUCC_COUNT])
 }
 
 fn fall_outside(n: usize, stmts: &[u16], falls: &[u16], i: usize) -> bool
     requires { ⌜ (i * 12 < length (now stmts)) × (i * 3 < length (now falls)) ⌝ }
     ensures { λ r. ⌜ r ≡ fallOutside n (now (stmts .entry)) (now (falls .entry)) i ⌝ }
 {
-    if is_call(stmts[i * 12]) {
-        return n < wide(falls[i * 3]);
+    if is_call(stmts[i * STMT_ENTRIES]) {
+        return n < wide(falls[i * FALL_ENTRIES]);
     }
     false
 }

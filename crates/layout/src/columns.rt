@@ -37,21 +37,23 @@ pub const COUNT: usize = 10;
 
 pub const DETAIL: usize = 11;
 
-// Where a statement falls and where its branches lead, in `falls`.
-pub const FALL: usize = 0;
-
+// Where its branches lead, in `falls`, after where it falls.
 pub const FIRST_BRANCH: usize = 1;
 
 pub const SECOND_BRANCH: usize = 2;
 
-// Where its lists stand, in `lists`.
-pub const SUCC_START: usize = 0;
-
+// Where its lists stand, in `lists`, after where its successors begin.
 pub const SUCC_COUNT: usize = 1;
 
 pub const PRED_START: usize = 2;
 
 pub const PRED_COUNT: usize = 3;
+
+// The build's own rows of frames: after the opener of the frame that a statement closes or joins, the closer of the frame that it opens, and a DOIF's
+// first ELSE or an ELSE's next one.
+pub const CLOSER: usize = 1;
+
+pub const ELSE_LINK: usize = 2;
 
 // A branch's form: none, statements, a line number.
 pub const NO_BRANCH: u16 = 0;

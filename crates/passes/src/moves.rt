@@ -1,22 +1,13 @@
 // What a statement does to the loop stack and to the DO stack.
+use layout::words::DOIF;
+use layout::words::DONE;
+use layout::words::ELSE;
+use layout::words::EXIT;
+use layout::words::REPEAT;
+use layout::words::UNTIL;
 ghost use mathlib.Core.Path.{_≡_};
 ghost use Rattle.passes.specs.Frames.{loopMove, doMove};
 ghost use Rattle.passes.specs.FramePass.{moveOf, movesStack};
-
-// The words that move one of the two stacks follow each other in the table of opening words.
-pub(crate) const REPEAT: u16 = 15;
-
-pub(crate) const UNTIL: u16 = 17;
-
-pub const EXIT: u16 = 19;
-
-pub const EXITIF: u16 = 20;
-
-pub const DOIF: u16 = 21;
-
-pub const ELSE: u16 = 22;
-
-pub(crate) const DONE: u16 = 23;
 
 // What a statement does to a stack.
 pub enum FrameMove {

@@ -4,7 +4,8 @@ use formatting::print_numbers::put_bytes;
 use formatting::print_numbers::put_pair;
 use formatting::print_numbers::put_spaced;
 use formatting::print_rows::put_pair_row;
-use reader::tables::STMT_ENTRIES;
+use layout::columns::FALL_ENTRIES;
+use layout::columns::STMT_ENTRIES;
 use tables::calls::is_call;
 use tables::widths::wide;
 ghost use mathlib.Core.Path.{_≡_};
@@ -52,7 +53,7 @@ fn put_back(out: &mut [u8], at: usize, stmts: &[u16], falls: &[u16], i: usize) -
     ensures { λ r. ⌜ Puts (now (out .entry)) at (now (out .exit)) r (backText (now (stmts .entry)) (now (falls .entry)) i) ⌝ }
 {
     if is_call(stmts[i * STMT_ENTRIES]) {
-        return put_some(out, at, b"(back", i, falls[i * 3]);
+        return put_some(out, at, b"(back", i, falls[i * FALL_ENTRIES]);
     }
     at
 }

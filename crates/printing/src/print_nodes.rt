@@ -6,10 +6,11 @@ use formatting::print_numbers::put_decimal;
 use formatting::print_numbers::put_number;
 use formatting::print_numbers::put_pair;
 use formatting::print_numbers::put_spaced;
-use reader::tables::HOLDER;
-use reader::tables::INDEX;
-use reader::tables::LINE;
-use reader::tables::STMT_ENTRIES;
+use layout::columns::HOLDER;
+use layout::columns::INDEX;
+use layout::columns::LINE;
+use layout::columns::STMT_ENTRIES;
+use layout::limits::MAX_DEPTH;
 use tables::widths::wide;
 ghost use mathlib.Core.Path.{_≡_};
 ghost use mathlib.Core.List.{_++_};
@@ -20,9 +21,6 @@ ghost use Rattle.graph.specs.Print.{spaced, joined};
 ghost use Rattle.tables.specs.Columns.{succStart, succCount, predStart, predCount, Holders, pathIn, succPart, predPart, NodesReadable};
 ghost use Rattle.formatting.specs.Printing.{Puts};
 ghost use Rattle.printing.specs.PrintedTables.{headText, listsText, nodeText};
-
-// "depth 16 is accepted": so many IFs can hold a statement.
-const DEPTH: usize = 16;
 
 // The path of node i among n: that of the IF that holds it, and then its own number. It goes up through `left` IFs at most.
 fn put_path(out: &mut [u8], at: usize, stmts: &[u16], n: usize, i: usize, left: usize) -> usize
@@ -97,7 +95,7 @@ fn put_node(
 {
     let line = wide(stmts[i * STMT_ENTRIES + LINE]);
     let r = put_head(out, at, i, wide(lines[line]), line);
-    let r = put_path(out, r, stmts, n, i, DEPTH);
+    let r = put_path(out, r, stmts, n, i, MAX_DEPTH);
     put_lists(out, r, counts, lists, succ, pred, i)
 }
 

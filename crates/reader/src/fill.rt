@@ -9,21 +9,23 @@ use super::rows::IN_COND;
 use super::rows::IN_STMTS;
 use super::rows::Row;
 use super::rows::accepted_row;
-use super::tables::ARG_ENTRIES;
-use super::tables::END;
 use super::tables::Entry;
-use super::tables::FORM1;
-use super::tables::FORM2;
-use super::tables::HOLDER;
-use super::tables::INDEX;
-use super::tables::NUMBER1;
-use super::tables::NUMBER2;
-use super::tables::SECOND;
 use super::tables::append;
 use super::tables::fetch;
 use super::tables::narrow;
 use super::tables::store;
 use super::tables::wide;
+use layout::columns::ARG_ENTRIES;
+use layout::columns::END;
+use layout::columns::FORM1;
+use layout::columns::FORM2;
+use layout::columns::HOLDER;
+use layout::columns::INDEX;
+use layout::columns::NUMBER1;
+use layout::columns::NUMBER2;
+use layout::columns::SECOND;
+use layout::columns::STMTS_BRANCH;
+use layout::columns::TO_BRANCH;
 use tokens::scan::find;
 ghost use mathlib.Core.Path.{_≡_};
 ghost use Prim.Native.Nat.{_+_, _*_, _-_, _≤_, _<_};
@@ -38,11 +40,6 @@ pub(crate) struct Walk {
     pub(crate) holder: u16,
     pub(crate) index: u16,
 }
-
-// A branch's form in a record.
-const STMTS_BRANCH: u16 = 1;
-
-const TO_BRANCH: u16 = 2;
 
 fn node_of(holder: u16) -> usize
     requires { ⌜ 0 < holder ⌝ }

@@ -6,13 +6,12 @@ use super::machine::start_state;
 use super::machine::step_row;
 use super::rows::ENDED;
 use super::rows::row_of;
+use layout::limits::MAX_BYTES;
 use tokens::scan::find;
 ghost use mathlib.Core.Path.{_≡_};
 ghost use Rattle.listings.specs.Read.{read};
 ghost use Rattle.reader.specs.Answer.{listedOf};
 ghost use Rattle.reader.specs.Judge.{finishState};
-
-const MAX_BYTES: usize = 65536;
 
 // The text ends in row i, after e bytes of it.
 fn finish(s: State, i: usize, e: usize) -> Listed

@@ -1,12 +1,12 @@
 // Reads a listing: judges the whole text, then, where the tables can hold it, writes its records.
 use super::fill::fill;
 use super::judge::judge;
-use super::tables::ARG_ENTRIES;
-use super::tables::STMT_ENTRIES;
 use super::tables::narrow32;
 use super::tables::put_counts;
 use super::tables::zero16;
 use super::tables::zero64;
+use layout::columns::ARG_ENTRIES;
+use layout::columns::STMT_ENTRIES;
 ghost use mathlib.Core.Path.{_≡_};
 ghost use lib.ListN.{length};
 ghost use Rattle.listings.specs.Read.{read};

@@ -5,18 +5,14 @@ use super::rows::IN_COND;
 use super::rows::IN_MODULE;
 use super::rows::IN_STMTS;
 use super::rows::Row;
+use layout::limits::MAX_ARGS;
+use layout::limits::MAX_DEPTH;
+use layout::limits::MAX_LINES;
+use layout::limits::MAX_STMTS;
 ghost use mathlib.Core.Path.{_≡_};
 ghost use Prim.Native.Nat.{_≤_, _<_};
 ghost use Rattle.listings.specs.Read.{start};
 ghost use Rattle.reader.specs.Machine.{asState, outside, moved, oneMore, stepModule, stepLine, stepSimple, stepCond, mayBranch, isComplete, stepStmts, stepTo, stepRefused, endOfStmts, stepEnd, stepRow};
-
-const MAX_LINES: usize = 1024;
-
-const MAX_STMTS: usize = 4096;
-
-const MAX_DEPTH: usize = 16;
-
-const MAX_ARGS: usize = 64;
 
 // last: 0, or one more than the last line's number. lines, stmts: how many were begun.
 // depth, open_conds: the IFs in whose branches the next row stands, packed to the base 8, the innermost lowest: twice the word's number, and 1 in a second branch.

@@ -1,39 +1,22 @@
 // The lent tables: zeroed, and statement records of 12 entries one after the other.
+use layout::columns::COUNT;
+use layout::columns::DETAIL;
+use layout::columns::END;
+use layout::columns::FORM1;
+use layout::columns::FORM2;
+use layout::columns::HOLDER;
+use layout::columns::INDEX;
+use layout::columns::LINE;
+use layout::columns::NUMBER1;
+use layout::columns::NUMBER2;
+use layout::columns::SECOND;
+use layout::columns::STMT_ENTRIES;
+use layout::columns::WORD;
 ghost use mathlib.Core.Path.{_≡_};
 ghost use mathlib.Core.List.{[], _∷_, _++_};
 ghost use Prim.Native.Nat.{_+_, _*_, _≤_, _<_};
 ghost use lib.ListN.{length, drop, set, getD, replicate};
 ghost use Rattle.reader.specs.Tables.{entryRow, appendRow};
-
-// How many entries a statement has in the statement table and in the argument table.
-pub const STMT_ENTRIES: usize = 12;
-
-pub const ARG_ENTRIES: usize = 64;
-
-// The entries of a statement's record.
-pub const WORD: usize = 0;
-
-pub const LINE: usize = 1;
-
-pub const HOLDER: usize = 2;
-
-pub const INDEX: usize = 3;
-
-pub const END: usize = 4;
-
-pub const SECOND: usize = 5;
-
-pub const FORM1: usize = 6;
-
-pub const NUMBER1: usize = 7;
-
-pub const FORM2: usize = 8;
-
-pub const NUMBER2: usize = 9;
-
-pub const COUNT: usize = 10;
-
-pub(crate) const DETAIL: usize = 11;
 
 // What is known of a statement when its row is read; the entries between end and count are its branches, not read yet.
 pub(crate) struct Entry {

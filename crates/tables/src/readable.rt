@@ -1,12 +1,12 @@
 // Whether tables can be read, whoever wrote them; where they cannot, a call is refused 25.
 use crate::widths::wide;
+use layout::columns::LIST_ENTRIES;
+use layout::columns::SUCC_COUNT;
+use layout::limits::MAX_STMTS;
 ghost use mathlib.Core.Path.{_≡_};
 ghost use Prim.Native.Nat.{_+_, _*_, _≤_, _<_};
 ghost use lib.ListN.{length};
 ghost use Rattle.tables.specs.Readable.{idsBelow, listReadable, listsReadable};
-
-// The nodes that a graph may have.
-pub const MOST_NODES: usize = 4096;
 
 // Whether every id of a list is that of one of n nodes. Without an early exit, so that several are compared at once.
 pub fn ids_below(l: &[u16], n: usize) -> bool
@@ -26,8 +26,8 @@ fn list_readable(lists: &[u16], edges: &[u16], n: usize, v: usize) -> bool
     requires { ⌜ (v < 4096) × (v * 4 + 4 ≤ length (now lists)) ⌝ }
     ensures { λ r. ⌜ r ≡ listReadable (now (lists .entry)) (now (edges .entry)) n v ⌝ }
 {
-    let start = wide(lists[v * 4]);
-    let end = start + wide(lists[v * 4 + 1]);
+    let start = wide(lists[v * LIST_ENTRIES]);
+    let end = start + wide(lists[v * LIST_ENTRIES + SUCC_COUNT]);
     if edges.len() < end {
         return false;
     }
@@ -38,10 +38,10 @@ fn list_readable(lists: &[u16], edges: &[u16], n: usize, v: usize) -> bool
 pub fn lists_readable(lists: &[u16], edges: &[u16], n: usize) -> bool
     ensures { λ r. ⌜ r ≡ listsReadable (now (lists .entry)) (now (edges .entry)) n ⌝ }
 {
-    if MOST_NODES < n {
+    if MAX_STMTS < n {
         return false;
     }
-    if lists.len() < n * 4 {
+    if lists.len() < n * LIST_ENTRIES {
         return false;
     }
     let mut good = true;

@@ -1,6 +1,8 @@
 // The RETURNs' rows of arguments, which held their sets, become zero again.
 use crate::readable::sets_fit;
-use crate::return_sets::RETURN;
+use layout::columns::ARG_ENTRIES;
+use layout::columns::STMT_ENTRIES;
+use layout::words::RETURN;
 use reader::tables::zero64;
 ghost use Prim.Native.Nat.{_+_, _*_, _≤_, _<_};
 ghost use lib.ListN.{length};
@@ -11,10 +13,10 @@ fn clear_set(stmts: &[u16], i: usize, sets: &mut [u64])
     requires { ⌜ (i < 4096) × (i * 12 + 12 ≤ length (now stmts)) × (i * 64 + 64 ≤ length (now sets)) ⌝ }
     ensures { λ _. ⌜ SetCleared (now (stmts .entry)) i (now (sets .entry)) (now (sets .exit)) ⌝ }
 {
-    if stmts[i * 12] != RETURN {
+    if stmts[i * STMT_ENTRIES] != RETURN {
         return;
     }
-    let start = i * 64;
+    let start = i * ARG_ENTRIES;
     let end = start + 64;
     zero64(&mut sets[start..end]);
 }

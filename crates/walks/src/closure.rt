@@ -1,9 +1,11 @@
 // Rows of bits, 64 words a node, as sets have them: where each node leads, and, once they are closed, all that it can reach (Warshall).
-use crate::return_sets::RETURN;
 use crate::sets::insert;
 use crate::sets::join;
 use crate::sets::no_words;
 use crate::sets::put_members;
+use layout::columns::ARG_ENTRIES;
+use layout::columns::STMT_ENTRIES;
+use layout::words::RETURN;
 ghost use mathlib.Core.Path.{_≡_};
 ghost use Prim.Native.Nat.{_+_, _*_, _≤_, _<_};
 ghost use lib.ListN.{length, take};
@@ -16,7 +18,7 @@ fn row_bit(rows: &[u64], i: usize, j: usize) -> u64
     requires { ⌜ (i < 4096) × (i * 64 + 64 ≤ length (now rows)) × (j < 4096) ⌝ }
     ensures { λ r. ⌜ r ≡ bit (setOf (now (rows .entry)) i) j ⌝ }
 {
-    (rows[i * 64 + j / 64] >> (j % 64)) % 2
+    (rows[i * ARG_ENTRIES + j / 64] >> (j % 64)) % 2
 }
 
 fn row_copy(rows: &[u64], i: usize) -> [u64; 64]
@@ -24,7 +26,7 @@ fn row_copy(rows: &[u64], i: usize) -> [u64; 64]
     ensures { λ r. ⌜ r ≡ setOf (now (rows .entry)) i ⌝ }
 {
     let mut row = no_words();
-    let start = i * 64;
+    let start = i * ARG_ENTRIES;
     let end = start + 64;
     join(&mut row, &rows[start..end]);
     row
@@ -38,7 +40,7 @@ fn close_row(rows: &mut [u64], i: usize, k: usize, row: &[u64; 64])
     if row_bit(rows, i, k) != 1 {
         return;
     }
-    let start = i * 64;
+    let start = i * ARG_ENTRIES;
     let end = start + 64;
     join(&mut rows[start..end], row);
 }
@@ -76,10 +78,10 @@ fn row_region(stmts: &[u16], rows: &[u64], n: usize, from: usize) -> [u64; 64]
 {
     let mut set = no_words();
     insert(&mut set, from);
-    if stmts[from * 12] == RETURN {
+    if stmts[from * STMT_ENTRIES] == RETURN {
         return set;
     }
-    let start = from * 64;
+    let start = from * ARG_ENTRIES;
     let end = start + 64;
     join(&mut set, &rows[start..end]);
     set

@@ -1,6 +1,11 @@
 // Whether the tables of a walk can be read, whoever wrote them; where they cannot, it is refused 25.
+use layout::columns::ARG_ENTRIES;
+use layout::columns::COUNT;
+use layout::columns::FALL_ENTRIES;
+use layout::columns::STMT_ENTRIES;
+use layout::limits::MAX_ARGS;
+use layout::limits::MAX_STMTS;
 use tables::calls::is_call;
-use tables::readable::MOST_NODES;
 use tables::readable::ids_below;
 use tables::readable::lists_readable;
 use tables::widths::wide;
@@ -12,20 +17,17 @@ ghost use lib.ListN.{length};
 ghost use Rattle.tables.specs.Readable.{everyBelow};
 ghost use Rattle.passes.specs.WalkTables.{setsFit, callReadable, nodeReadable, callsReadable, walksReadable};
 
-// The targets that a call may have.
-const MOST_TARGETS: usize = 64;
-
 // Whether the tables hold n records of statements and a set for each.
 pub fn sets_fit(stmts: &[u16], sets: &[u64], n: usize) -> bool
     ensures { λ r. ⌜ r ≡ setsFit (now (stmts .entry)) n (now (sets .entry)) ⌝ }
 {
-    if MOST_NODES < n {
+    if MAX_STMTS < n {
         return false;
     }
-    if stmts.len() < n * 12 {
+    if stmts.len() < n * STMT_ENTRIES {
         return false;
     }
-    n * 64 <= sets.len()
+    n * ARG_ENTRIES <= sets.len()
 }
 
 // Whether the targets of call c are few, and these and where it falls are among n nodes.
@@ -33,14 +35,14 @@ fn call_readable(stmts: &[u16], falls: &[u16], links: &[u16], n: usize, c: usize
     requires { ⌜ (n ≤ 4096) × (c < n) × (n * 12 ≤ length (now stmts)) × (n * 3 ≤ length (now falls)) × (n * 64 ≤ length (now links)) ⌝ }
     ensures { λ r. ⌜ r ≡ callReadable (now (stmts .entry)) (now (falls .entry)) (now (links .entry)) n c ⌝ }
 {
-    let count = wide(stmts[c * 12 + 10]);
-    if MOST_TARGETS < count {
+    let count = wide(stmts[c * STMT_ENTRIES + COUNT]);
+    if MAX_ARGS < count {
         return false;
     }
-    if n < wide(falls[c * 3]) {
+    if n < wide(falls[c * FALL_ENTRIES]) {
         return false;
     }
-    let at = c * 64;
+    let at = c * ARG_ENTRIES;
     let end = at + count;
     ids_below(&links[at..end], n + 1)
 }
@@ -50,7 +52,7 @@ fn node_readable(stmts: &[u16], falls: &[u16], links: &[u16], n: usize, c: usize
     requires { ⌜ (n ≤ 4096) × (c < n) × (n * 12 ≤ length (now stmts)) × (n * 3 ≤ length (now falls)) × (n * 64 ≤ length (now links)) ⌝ }
     ensures { λ r. ⌜ r ≡ nodeReadable (now (stmts .entry)) (now (falls .entry)) (now (links .entry)) n c ⌝ }
 {
-    if is_call(stmts[c * 12]) {
+    if is_call(stmts[c * STMT_ENTRIES]) {
         return call_readable(stmts, falls, links, n, c);
     }
     true
@@ -61,10 +63,10 @@ fn nodes_readable(stmts: &[u16], falls: &[u16], links: &[u16], n: usize) -> bool
     requires { ⌜ (n ≤ 4096) × (n * 12 ≤ length (now stmts)) ⌝ }
     ensures { λ r. ⌜ r ≡ (leb (n * 3) (length (now (falls .entry))) && (leb (n * 64) (length (now (links .entry))) && everyBelow (nodeReadable (now (stmts .entry)) (now (falls .entry)) (now (links .entry)) n) n)) ⌝ }
 {
-    if falls.len() < n * 3 {
+    if falls.len() < n * FALL_ENTRIES {
         return false;
     }
-    if links.len() < n * 64 {
+    if links.len() < n * ARG_ENTRIES {
         return false;
     }
     let mut good = true;

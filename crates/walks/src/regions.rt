@@ -9,6 +9,10 @@ use crate::spans::span_calls;
 use crate::walk::no_work;
 use crate::walk::region;
 use crate::widths::narrow;
+use layout::columns::ARG_ENTRIES;
+use layout::columns::COUNT;
+use layout::columns::FALL_ENTRIES;
+use layout::columns::STMT_ENTRIES;
 use tables::calls::is_call;
 use tables::lists::holds;
 use tables::widths::wide;
@@ -29,7 +33,7 @@ fn list_call(stmts: &[u16], i: usize, calls: &mut [u16], m: usize) -> usize
     requires { ⌜ (i < 4096) × (i * 12 + 12 ≤ length (now stmts)) × (m < length (now calls)) ⌝ }
     ensures { λ r. ⌜ Put (now (calls .entry)) m (now (calls .exit)) r (oneIf (callWord (wordOf (now (stmts .entry)) i)) i) ⌝ }
 {
-    if is_call(stmts[i * 12]) {
+    if is_call(stmts[i * STMT_ENTRIES]) {
         calls[m] = narrow(i);
         return m + 1;
     }
@@ -66,12 +70,12 @@ fn add_back(stmts: &[u16], falls: &[u16], links: &[u16], c: usize, e: usize, bac
     requires { ⌜ CallFits (now stmts) (now falls) (now links) c × (e < 4096) × (length (now backs) ≡ 64) ⌝ }
     ensures { λ _. ⌜ SetAdded (now (backs .entry)) (now (backs .exit)) (backFrom (now (stmts .entry)) (now (falls .entry)) (now (links .entry)) e c) ⌝ }
 {
-    let at = c * 64;
-    let end = at + wide(stmts[c * 12 + 10]);
+    let at = c * ARG_ENTRIES;
+    let end = at + wide(stmts[c * STMT_ENTRIES + COUNT]);
     if !holds(&links[at..end], narrow(e + 1)) {
         return;
     }
-    insert_some(backs, falls[c * 3]);
+    insert_some(backs, falls[c * FALL_ENTRIES]);
 }
 
 // Inserts where the calls go on that have the entry e among their targets.

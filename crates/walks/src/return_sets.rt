@@ -1,14 +1,14 @@
 // The sets of the RETURNs, 64 words a node: where each returns to.
 use crate::sets::join;
+use layout::columns::ARG_ENTRIES;
+use layout::columns::STMT_ENTRIES;
+use layout::words::RETURN;
 use tables::widths::wide;
 ghost use mathlib.Core.Path.{_≡_};
 ghost use mathlib.Core.List.{[], _∷_};
 ghost use Prim.Native.Nat.{_*_, _≤_};
 ghost use lib.ListN.{length};
 ghost use Rattle.passes.specs.ReturnSets.{ReturnsJoined};
-
-// The number of `return` in the table of opening words.
-pub const RETURN: u16 = 9;
 
 // Joins `backs` into the set of node i, where that is a RETURN among the n nodes.
 fn join_return(stmts: &[u16], n: usize, i: usize, backs: &[u64], sets: &mut [u64])
@@ -18,10 +18,10 @@ fn join_return(stmts: &[u16], n: usize, i: usize, backs: &[u64], sets: &mut [u64
     if n <= i {
         return;
     }
-    if stmts[i * 12] != RETURN {
+    if stmts[i * STMT_ENTRIES] != RETURN {
         return;
     }
-    let start = i * 64;
+    let start = i * ARG_ENTRIES;
     let end = start + 64;
     join(&mut sets[start..end], backs);
 }

@@ -1,8 +1,10 @@
 // How many edges the RETURNs have: each all the return targets with handlers, each its own set without.
 use crate::readable::sets_fit;
-use crate::return_sets::RETURN;
 use crate::sets::count_members;
-use tables::readable::MOST_NODES;
+use layout::columns::ARG_ENTRIES;
+use layout::columns::STMT_ENTRIES;
+use layout::limits::MAX_STMTS;
+use layout::words::RETURN;
 ghost use mathlib.Core.Path.{_≡_};
 ghost use Prim.Native.Nat.{_+_, _*_, _≤_, _<_};
 ghost use lib.Dec.{eqb};
@@ -16,13 +18,13 @@ fn return_size(handlers: bool, stmts: &[u16], sets: &[u64], i: usize, targets: u
     requires { ⌜ (i < 4096) × (i * 12 + 12 ≤ length (now stmts)) × (i * 64 + 64 ≤ length (now sets)) ⌝ }
     ensures { λ r. ⌜ r ≡ pick (eqb (wordOf (now (stmts .entry)) i) 9) (returnSize handlers targets (now (sets .entry)) i) 0 ⌝ }
 {
-    if stmts[i * 12] != RETURN {
+    if stmts[i * STMT_ENTRIES] != RETURN {
         return 0;
     }
     if handlers {
         return targets;
     }
-    let start = i * 64;
+    let start = i * ARG_ENTRIES;
     let end = start + 64;
     count_members(&sets[start..end])
 }
@@ -45,7 +47,7 @@ pub fn count_returns(handlers: bool, stmts: &[u16], sets: &[u64], n: usize, targ
     ensures { λ r. ⌜ r ≡ returnTotal handlers (now (stmts .entry)) (now (sets .entry)) n targets ⌝ }
 {
     if sets_fit(stmts, sets, n) {
-        if MOST_NODES < targets {
+        if MAX_STMTS < targets {
             return 0;
         }
         return sum_returns(handlers, stmts, sets, n, targets);

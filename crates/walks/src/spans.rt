@@ -1,6 +1,9 @@
 // Where in the list of calls those of an entry stand, from the first of them to behind the last: 2 entries a node, both 0 where no call has
 // it among its targets. So the calls of an entry are looked for among few.
 use crate::widths::narrow;
+use layout::columns::ARG_ENTRIES;
+use layout::columns::COUNT;
+use layout::columns::STMT_ENTRIES;
 use tables::widths::wide;
 ghost use mathlib.Core.Path.{_≡_};
 ghost use Prim.Native.Nat.{ℕ, _≤_, _<_};
@@ -59,8 +62,8 @@ fn span_call(stmts: &[u16], links: &[u16], c: usize, k: u16, spans: &mut [u16])
     requires { ⌜ TargetsFit (now stmts) (now links) c × (k < 4096) × (length (now spans) ≡ 8192) ⌝ }
     ensures { λ _. ⌜ SpansGrow k (linkEntries (now (stmts .entry)) (now (links .entry)) c) (now (spans .entry)) (now (spans .exit)) ⌝ }
 {
-    let at = c * 64;
-    let end = at + wide(stmts[c * 12 + 10]);
+    let at = c * ARG_ENTRIES;
+    let end = at + wide(stmts[c * STMT_ENTRIES + COUNT]);
     span_row(&links[at..end], k, spans);
 }
 

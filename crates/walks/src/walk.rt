@@ -1,5 +1,8 @@
 // The walk through a region: a mark for each of 4,096 statements, and a list of the marked nodes, whose end is the worklist.
 use crate::widths::narrow;
+use layout::columns::LIST_ENTRIES;
+use layout::columns::SUCC_COUNT;
+use layout::limits::MAX_STMTS;
 use tables::widths::wide;
 ghost use mathlib.Core.Path.{_≡_};
 ghost use mathlib.Core.Bool.{false};
@@ -11,7 +14,7 @@ ghost use Rattle.passes.specs.Walk.{Stored, storedList, RegionListed, Markable,
 // free marks leave room.
 pub(crate) fn mark_all(
     list: &[u16],
-    marks: &mut [bool; 4096],
+    marks: &mut [bool; MAX_STMTS],
     work: &mut [u16],
     count: usize,
 ) -> usize
@@ -34,16 +37,16 @@ pub(crate) fn mark_all(
 }
 
 // In a function of its own: a caller's proof then speaks of 4,096 equal marks by their number alone.
-pub fn no_marks() -> [bool; 4096]
+pub fn no_marks() -> [bool; MAX_STMTS]
     ensures { λ r. ⌜ r ≡ replicate 4096 false ⌝ }
 {
-    [false; 4096]
+    [false; MAX_STMTS]
 }
 
-pub fn no_work() -> [u16; 4096]
+pub fn no_work() -> [u16; MAX_STMTS]
     ensures { λ r. ⌜ length r ≡ 4096 ⌝ }
 {
-    [0u16; 4096]
+    [0u16; MAX_STMTS]
 }
 
 // Lists every node that the stored lists lead to from `from`, each once, and answers how many. The steps of the first `done` of them are
@@ -60,8 +63,8 @@ pub(crate) fn region(lists: &[u16], edges: &[u16], n: usize, from: usize, work: 
     while done < count {
         let v = wide(work[done]);
         done += 1;
-        let start = wide(lists[v * 4]);
-        let end = start + wide(lists[v * 4 + 1]);
+        let start = wide(lists[v * LIST_ENTRIES]);
+        let end = start + wide(lists[v * LIST_ENTRIES + SUCC_COUNT]);
         count = mark_all(&edges[start..end], &mut marks, work, count);
     }
     count

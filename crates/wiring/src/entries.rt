@@ -1,7 +1,7 @@
 // Line entries: the node where each line enters, and the search by line number.
 use crate::widths::narrow;
-use reader::tables::LINE;
-use reader::tables::STMT_ENTRIES;
+use layout::columns::LINE;
+use layout::columns::STMT_ENTRIES;
 use tables::widths::wide;
 ghost use mathlib.Core.Path.{_≡_};
 ghost use Prim.Native.Nat.{_*_, _≤_};

@@ -1,14 +1,20 @@
 // Where statements fall and where branches lead.
 use crate::entries::entry_of;
 use crate::widths::narrow;
-use reader::tables::END;
-use reader::tables::FORM1;
-use reader::tables::FORM2;
-use reader::tables::LINE;
-use reader::tables::NUMBER1;
-use reader::tables::NUMBER2;
-use reader::tables::SECOND;
-use reader::tables::STMT_ENTRIES;
+use layout::columns::END;
+use layout::columns::FALL_ENTRIES;
+use layout::columns::FIRST_BRANCH;
+use layout::columns::FORM1;
+use layout::columns::FORM2;
+use layout::columns::LINE;
+use layout::columns::NO_BRANCH;
+use layout::columns::NUMBER1;
+use layout::columns::NUMBER2;
+use layout::columns::SECOND;
+use layout::columns::SECOND_BRANCH;
+use layout::columns::STMT_ENTRIES;
+use layout::columns::TO_BRANCH;
+use layout::limits::MAX_DEPTH;
 use tables::widths::wide;
 ghost use mathlib.Core.Path.{_≡_};
 ghost use mathlib.Core.Bool.{true, false};
@@ -19,13 +25,8 @@ ghost use lib.Seq.{sets};
 ghost use Rattle.passes.specs.Falls.{targetOf, BranchLed, RowConnected, StmtConnected, BranchConnected, LinesConnected, AllLines};
 ghost use Rattle.passes.specs.Connecting.{Begins};
 
-// Forms of a branch.
-const NO_BRANCH: u16 = 0;
-
-const TO_LINE: u16 = 2;
-
 // Statements nest to depth 16, and those of a line have depth 0.
-const DEPTHS: usize = 17;
+const DEPTHS: usize = MAX_DEPTH + 1;
 
 // Where a statement falls that ends at e, in a list that ends at `end` and then comes to `next`.
 fn target_of(e: usize, end: usize, next: u16) -> u16
@@ -64,7 +65,7 @@ fn branch_target(
     requires { ⌜ (length (now lines) ≤ length (now entries)) × (from < 65535) ⌝ }
     ensures { λ r. ⌜ BranchLed (now (lines .entry)) (now (entries .entry)) form number from end next r ⌝ }
 {
-    if form == TO_LINE {
+    if form == TO_BRANCH {
         return entry_of(lines, entries, lines.len(), number);
     }
     if form == NO_BRANCH {
@@ -77,9 +78,9 @@ fn put_row(falls: &mut [u16], i: usize, fall: u16, first: u16, second: u16)
     requires { ⌜ i * 3 + 3 ≤ length (now falls) ⌝ }
     ensures { λ r. ⌜ now (falls .exit) ≡ sets (now (falls .entry)) (i * 3) (fall ∷ first ∷ second ∷ []) ⌝ }
 {
-    falls[i * 3] = fall;
-    falls[i * 3 + 1] = first;
-    falls[i * 3 + 2] = second;
+    falls[i * FALL_ENTRIES] = fall;
+    falls[i * FALL_ENTRIES + FIRST_BRANCH] = first;
+    falls[i * FALL_ENTRIES + SECOND_BRANCH] = second;
 }
 
 // The row of an IF whose second branch begins at m and that ends at `end`.

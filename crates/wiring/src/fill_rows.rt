@@ -1,11 +1,13 @@
 // The rows of arguments, filled with where the nodes step on a skipping path, for the closure.
-use crate::fors::NEXT;
 use crate::list_of::list_of;
 use crate::skip_lists::put_fall;
+use layout::columns::ARG_ENTRIES;
+use layout::columns::STMT_ENTRIES;
+use layout::words::NEXT;
+use layout::words::RETURN;
 use reader::tables::zero64;
 use tables::calls::is_call;
 use tables::widths::wide;
-use walks::return_sets::RETURN;
 use walks::sets::insert;
 ghost use mathlib.Core.Path.{_≡_};
 ghost use Prim.Native.Nat.{_*_, _≤_, _<_};
@@ -44,7 +46,7 @@ fn skip_list(
     requires { ⌜ SkipReady (now stmts) (now args) (now entries) (now falls) (now links) (now frames) (now dispatched) lines d i (length (now part)) ⌝ }
     ensures { λ r. ⌜ SkipMade (now (stmts .entry)) (now (args .entry)) (now (entries .entry)) (now (falls .entry)) (now (links .entry)) (now (frames .entry)) (now (dispatched .entry)) lines d i (now (part .entry)) (now (part .exit)) r ⌝ }
 {
-    let word = stmts[i * 12];
+    let word = stmts[i * STMT_ENTRIES];
     if word == RETURN {
         return 0;
     }
@@ -93,7 +95,7 @@ fn fill_row(
     requires { ⌜ RowReady (now stmts) (now args) (now entries) (now falls) (now links) (now frames) (now dispatched) lines d i nexts (length (now part)) ⌝ }
     ensures { λ _. ⌜ RowFilled (now (stmts .entry)) (now (args .entry)) (now (entries .entry)) (now (falls .entry)) (now (links .entry)) (now (frames .entry)) (now (dispatched .entry)) lines d i nexts (now (args .exit)) ⌝ }
 {
-    if !in_pass(nexts, stmts[i * 12]) {
+    if !in_pass(nexts, stmts[i * STMT_ENTRIES]) {
         return;
     }
     let count = skip_list(
@@ -109,7 +111,7 @@ fn fill_row(
         i,
         part,
     );
-    let start = i * 64;
+    let start = i * ARG_ENTRIES;
     let end = start + 64;
     put_row(&mut args[start..end], part, count);
 }

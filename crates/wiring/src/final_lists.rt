@@ -3,8 +3,10 @@ use crate::list_of::add_jump;
 use crate::store::append_list;
 use crate::store::move_list;
 use crate::store::store_list;
+use layout::columns::ARG_ENTRIES;
+use layout::columns::STMT_ENTRIES;
+use layout::words::RETURN;
 use tables::calls::is_call;
-use walks::return_sets::RETURN;
 use walks::sets::members;
 ghost use mathlib.Core.Path.{_≡_};
 ghost use mathlib.Core.Bool.{true};
@@ -29,7 +31,7 @@ fn return_list(
         store_list(buffer, returns, targets);
         return targets;
     }
-    let start = i * 64;
+    let start = i * ARG_ENTRIES;
     let end = start + 64;
     members(&args[start..end], buffer)
 }
@@ -54,7 +56,7 @@ fn write_list(
     requires { ⌜ WriteReady handlers (now stmts) (now args) (now falls) (now links) i at (now lists) (now scratch) (now returns) targets (length (now succ)) (length (now buffer)) ⌝ }
     ensures { λ r. ⌜ WriteDone handlers (now (stmts .entry)) (now (args .entry)) (now (falls .entry)) (now (links .entry)) i at (now (lists .entry)) (now (lists .exit)) (now (scratch .entry)) (now (returns .entry)) targets (now (succ .entry)) (now (succ .exit)) r ⌝ }
 {
-    let word = stmts[i * 12];
+    let word = stmts[i * STMT_ENTRIES];
     if word == RETURN {
         let count = return_list(handlers, args, i, returns, targets, buffer);
         return append_list(lists, succ, i, at, &buffer[..count], count);

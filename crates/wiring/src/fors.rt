@@ -4,6 +4,14 @@ use crate::stacks::FrameStack;
 use crate::stacks::below;
 use crate::stacks::newest;
 use crate::widths::narrow;
+use layout::columns::ARG_ENTRIES;
+use layout::columns::COUNT;
+use layout::columns::DETAIL;
+use layout::columns::DISPATCHED;
+use layout::columns::FALL_ENTRIES;
+use layout::columns::STMT_ENTRIES;
+use layout::words::FOR;
+use layout::words::NEXT;
 use tables::widths::wide;
 use walks::sets::insert;
 ghost use mathlib.Core.Path.{_≡_};
@@ -18,14 +26,6 @@ ghost use Rattle.passes.specs.Sets.{bit};
 ghost use Rattle.passes.specs.NotedKeys.{noteOf, KeysNoted};
 ghost use Rattle.passes.specs.ForLinks.{ForsLinked};
 ghost use Rattle.passes.specs.Dispatched.{isDispatched, DispatchedTo, DispatchedOne};
-
-// Numbers of opening words.
-pub(crate) const FOR: u16 = 13;
-
-pub(crate) const NEXT: u16 = 14;
-
-// A FOR's tier.
-const DISPATCHED: u16 = 2;
 
 // The keys of FORs are noted by their remainders: by a prime, so that names that are alike seldom share one.
 const REMAINDERS: u64 = 32719;
@@ -60,7 +60,7 @@ fn seek(args: &[u64], words: &[u64; 64], top: usize, v: u64) -> usize
     let mut t = top;
     while t != 0 {
         let k = t - 1;
-        if args[k * 64] == v {
+        if args[k * ARG_ENTRIES] == v {
             return t;
         }
         t = below(words, k);
@@ -74,7 +74,7 @@ fn push_for(args: &[u64], s: FrameStack, i: usize) -> FrameStack
     requires { ⌜ HoldsBelow (s .words) i ⌝ }
     ensures { λ r. ⌜ ForPushed (now (args .entry)) i (s .words) (r .words) ⌝ }
 {
-    let t = seek(args, &s.words, newest(&s.words, i), args[i * 64]);
+    let t = seek(args, &s.words, newest(&s.words, i), args[i * ARG_ENTRIES]);
     if t == 0 {
         return s.push(i);
     }
@@ -90,7 +90,7 @@ fn open_for(args: &[u64], s: FrameStack, i: usize, notes: &mut [u64; 512]) -> Fr
     ensures { λ r. ⌜ ForPushed (now (args .entry)) i (s .words) (r .words) ⌝ }
     ensures { λ r. ⌜ KeysNoted (now (args .entry)) (now (notes .exit)) (r .words) ⌝ }
 {
-    let key = args[i * 64];
+    let key = args[i * ARG_ENTRIES];
     if is_noted(notes, key) {
         return push_for(args, s, i);
     }
@@ -177,11 +177,11 @@ fn link_node(
     ensures { λ r. ⌜ KeysNoted (now (args .entry)) (now (notes .exit)) (r .words) ⌝ }
     ensures { λ r. ⌜ NodeLinked (now (stmts .entry)) (now (args .entry)) i (s .words) (r .words) (now (links .entry)) (now (links .exit)) ⌝ }
 {
-    if stmts[i * 12] == FOR {
+    if stmts[i * STMT_ENTRIES] == FOR {
         return open_for(args, s, i, notes);
     }
-    let at = i * 64;
-    let end = at + wide(stmts[i * 12 + 10]);
+    let at = i * ARG_ENTRIES;
+    let end = at + wide(stmts[i * STMT_ENTRIES + COUNT]);
     pop_slots(args, &args[at..end], s, notes, i, &mut links[at..end])
 }
 
@@ -195,7 +195,7 @@ pub(crate) fn link_fors(stmts: &[u16], args: &[u64], n: usize, links: &mut [u16]
     let mut notes = no_notes();
     let mut i: usize = 0;
     while i < n {
-        if moves_fors(stmts[i * 12]) {
+        if moves_fors(stmts[i * STMT_ENTRIES]) {
             s = link_node(stmts, args, s, &mut notes, i, links);
         }
         i += 1;
@@ -207,13 +207,13 @@ fn is_dispatched(stmts: &[u16], falls: &[u16], i: usize) -> bool
     requires { ⌜ (i * 12 + 12 ≤ length (now stmts)) × (i * 3 < length (now falls)) ⌝ }
     ensures { λ r. ⌜ r ≡ isDispatched (now (stmts .entry)) (now (falls .entry)) i ⌝ }
 {
-    if stmts[i * 12] != FOR {
+    if stmts[i * STMT_ENTRIES] != FOR {
         return false;
     }
-    if stmts[i * 12 + 11] != DISPATCHED {
+    if stmts[i * STMT_ENTRIES + DETAIL] != DISPATCHED {
         return false;
     }
-    falls[i * 3] != 0
+    falls[i * FALL_ENTRIES] != 0
 }
 
 // Node i goes to the end of the list of d entries, if it is a dispatched FOR that has a body.

@@ -2,9 +2,13 @@
 use crate::stacks::FrameStack;
 use crate::stacks::newest;
 use crate::widths::narrow;
-use passes::moves::ELSE;
-use passes::moves::EXIT;
-use passes::moves::EXITIF;
+use layout::columns::CLOSER;
+use layout::columns::ELSE_LINK;
+use layout::columns::FRAME_ENTRIES;
+use layout::columns::STMT_ENTRIES;
+use layout::words::ELSE;
+use layout::words::EXIT;
+use layout::words::EXITIF;
 use passes::moves::FrameMove;
 use passes::moves::do_move;
 use passes::moves::loop_move;
@@ -36,7 +40,7 @@ fn join_frame(words: &[u64; 64], m: FrameMove, i: usize, frames: &mut [u16])
             return;
         }
         FrameMove::Joins => {
-            frames[i * 3] = narrow(newest(words, i));
+            frames[i * FRAME_ENTRIES] = narrow(newest(words, i));
             return;
         }
     }
@@ -58,7 +62,7 @@ fn move_stack(s: FrameStack, m: FrameMove, i: usize, frames: &mut [u16]) -> Fram
         }
         FrameMove::Closes => {
             let p = s.pop(i);
-            frames[i * 3] = narrow(p.frame);
+            frames[i * FRAME_ENTRIES] = narrow(p.frame);
             let t = p.stack;
             return t;
         }
@@ -78,7 +82,7 @@ fn meet_frames(stmts: &[u16], n: usize, frames: &mut [u16])
     let mut dos = FrameStack::new();
     let mut i: usize = 0;
     while i < n {
-        let word = stmts[i * 12];
+        let word = stmts[i * STMT_ENTRIES];
         let l = loop_move(word);
         if moves(l) {
             loops = move_stack(loops, l, i, frames);
@@ -100,15 +104,15 @@ fn link_node(word: u16, i: usize, frames: &mut [u16])
     requires { ⌜ (i < 4096) × (i * 3 + 2 < length (now frames)) × (getD (now frames) (i * 3) 0 ≤ i) ⌝ }
     ensures { λ _. ⌜ now (frames .exit) ≡ linked word i (now (frames .entry)) ⌝ }
 {
-    let met = wide(frames[i * 3]);
+    let met = wide(frames[i * FRAME_ENTRIES]);
     if met == 0 {
         return;
     }
     let opener = met - 1;
     let node = narrow(i + 1);
     if word == ELSE {
-        frames[i * 3 + 2] = frames[opener * 3 + 2];
-        frames[opener * 3 + 2] = node;
+        frames[i * FRAME_ENTRIES + ELSE_LINK] = frames[opener * FRAME_ENTRIES + ELSE_LINK];
+        frames[opener * FRAME_ENTRIES + ELSE_LINK] = node;
         return;
     }
     if word == EXIT {
@@ -117,7 +121,7 @@ fn link_node(word: u16, i: usize, frames: &mut [u16])
     if word == EXITIF {
         return;
     }
-    frames[opener * 3 + 1] = node;
+    frames[opener * FRAME_ENTRIES + CLOSER] = node;
 }
 
 // From the last node to the first, so that what is written last is what comes first.
@@ -129,7 +133,7 @@ fn link_frames(stmts: &[u16], n: usize, frames: &mut [u16])
     let mut i = n;
     while 0 < i {
         i -= 1;
-        link_node(stmts[i * 12], i, frames);
+        link_node(stmts[i * STMT_ENTRIES], i, frames);
     }
 }
 

@@ -1,22 +1,18 @@
 // Where the line numbers lead that statements name.
 use crate::entries::entry_of;
-use reader::tables::ARG_ENTRIES;
-use reader::tables::COUNT;
-use reader::tables::STMT_ENTRIES;
-use reader::tables::WORD;
+use layout::columns::ARG_ENTRIES;
+use layout::columns::COUNT;
+use layout::columns::STMT_ENTRIES;
+use layout::columns::WORD;
+use layout::words::GOTO;
+use layout::words::ONGOSUB;
+use layout::words::RETURN;
 use tables::widths::wide;
 ghost use mathlib.Core.Path.{_≡_};
 ghost use Prim.Native.Nat.{_*_, _≤_};
 ghost use lib.ListN.{length};
 ghost use Rattle.passes.specs.LineSearch.{EntryFound};
 ghost use Rattle.passes.specs.Jumps.{namesLines, jumpCount, RowLinked, JumpsLinked};
-
-// Opening words, by their numbers in the table.
-const GOTO: u16 = 7;
-
-const RETURN: u16 = 9;
-
-const ONGOSUB: u16 = 12;
 
 // goto, gosub, run, ongoto and ongosub.
 fn names_lines(word: u16) -> bool

@@ -1,13 +1,18 @@
 // What later nodes add to a node's list: where the closer of its frame falls, and where the ELSEs of a DOIF fall.
+use layout::columns::CLOSER;
+use layout::columns::ELSE_LINK;
+use layout::columns::FALL_ENTRIES;
+use layout::columns::FRAME_ENTRIES;
+use layout::columns::STMT_ENTRIES;
+use layout::words::DOIF;
+use layout::words::ELSE;
+use layout::words::EXIT;
+use layout::words::EXITIF;
 ghost use mathlib.Core.Path.{_≡_};
 ghost use lib.ListN.{length};
 ghost use Rattle.graph_laws.specs.Adding.{Added};
 ghost use Rattle.passes.specs.Late.{FitsPart, fallFrom, FallFitsFrom, ElsesFit, ElsesAdded, DoifFits, DoifAdded, closerFrom, CloserFits, joinsWord, LateReady, LateAdded};
 use crate::growing::add_node;
-use passes::moves::DOIF;
-use passes::moves::ELSE;
-use passes::moves::EXIT;
-use passes::moves::EXITIF;
 use tables::widths::wide;
 
 // Adds where the node c - 1 falls, where c is not 0.
@@ -19,7 +24,7 @@ fn add_fall(falls: &[u16], c: usize, part: &mut [u16], n: usize) -> usize
         return n;
     }
     let j = c - 1;
-    add_node(part, n, falls[j * 3])
+    add_node(part, n, falls[j * FALL_ENTRIES])
 }
 
 // Adds where the ELSEs fall that are linked from the ELSE first - 1 on.
@@ -31,8 +36,8 @@ fn add_elses(falls: &[u16], frames: &[u16], first: usize, part: &mut [u16], n: u
     let mut c = first;
     while c != 0 {
         let j = c - 1;
-        r = add_node(part, r, falls[j * 3]);
-        c = wide(frames[j * 3 + 2]);
+        r = add_node(part, r, falls[j * FALL_ENTRIES]);
+        c = wide(frames[j * FRAME_ENTRIES + ELSE_LINK]);
     }
     r
 }
@@ -42,11 +47,11 @@ fn add_doif(falls: &[u16], frames: &[u16], i: usize, part: &mut [u16], n: usize)
     requires { ⌜ FitsPart (now part) n × DoifFits (now falls) (now frames) (length (now part)) i ⌝ }
     ensures { λ r. ⌜ DoifAdded (now (falls .entry)) (now (frames .entry)) i (now (part .entry)) n (now (part .exit)) r × FitsPart (now (part .exit)) r ⌝ }
 {
-    let first = wide(frames[i * 3 + 2]);
+    let first = wide(frames[i * FRAME_ENTRIES + ELSE_LINK]);
     if first != 0 {
         return add_elses(falls, frames, first, part, n);
     }
-    let closer = wide(frames[i * 3 + 1]);
+    let closer = wide(frames[i * FRAME_ENTRIES + CLOSER]);
     add_fall(falls, closer, part, n)
 }
 
@@ -59,7 +64,7 @@ fn add_closer(falls: &[u16], frames: &[u16], met: usize, part: &mut [u16], n: us
         return n;
     }
     let opener = met - 1;
-    let closer = wide(frames[opener * 3 + 1]);
+    let closer = wide(frames[opener * FRAME_ENTRIES + CLOSER]);
     add_fall(falls, closer, part, n)
 }
 
@@ -87,12 +92,12 @@ pub(crate) fn add_late(
     requires { ⌜ FitsPart (now part) n × LateReady (now stmts) (now falls) (now frames) i (length (now part)) ⌝ }
     ensures { λ r. ⌜ LateAdded (now (stmts .entry)) (now (falls .entry)) (now (frames .entry)) i (now (part .entry)) n (now (part .exit)) r × FitsPart (now (part .exit)) r ⌝ }
 {
-    let word = stmts[i * 12];
+    let word = stmts[i * STMT_ENTRIES];
     if word == DOIF {
         return add_doif(falls, frames, i, part, n);
     }
     if joins_frame(word) {
-        let met = wide(frames[i * 3]);
+        let met = wide(frames[i * FRAME_ENTRIES]);
         return add_closer(falls, frames, met, part, n);
     }
     n

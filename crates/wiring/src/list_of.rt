@@ -1,13 +1,26 @@
 // A node's list, each edge once: what its statement adds, then what later nodes add, then an orphan NEXT's bodies.
-use crate::fors::FOR;
-use crate::fors::NEXT;
 use crate::growing::add_node;
 use crate::late::add_late;
 use crate::nexts::add_link;
 use crate::nexts::add_orphan;
 use crate::nexts::add_popped;
-use passes::moves::ELSE;
-use passes::moves::EXIT;
+use layout::columns::ARG_ENTRIES;
+use layout::columns::COUNT;
+use layout::columns::FALL_ENTRIES;
+use layout::columns::FIRST_BRANCH;
+use layout::columns::FRAME_ENTRIES;
+use layout::columns::STMT_ENTRIES;
+use layout::words::ANY;
+use layout::words::ELSE;
+use layout::words::ENDLOOP;
+use layout::words::EXIT;
+use layout::words::FOR;
+use layout::words::GOTO;
+use layout::words::NEXT;
+use layout::words::ONGOTO;
+use layout::words::RUN;
+use layout::words::STOP;
+use layout::words::UNTIL;
 use tables::widths::wide;
 ghost use mathlib.Core.Path.{_≡_};
 ghost use Prim.Native.Nat.{_+_, _*_, _≤_};
@@ -19,21 +32,6 @@ ghost use Rattle.passes.specs.NextBodies.{PoppedRoom};
 ghost use Rattle.passes.specs.AddRoom.{RoomToAdd};
 ghost use Rattle.passes.specs.EntryOrder.{Rises, EntryRoom, EntryAdded};
 ghost use Rattle.passes.specs.NodeList.{runEdges, jumpEdges, nextEdges, untilEdges, fallsWord, blockEdges, ownEdges, OwnRoom, ListReady, ListMade};
-
-// Numbers of opening words; those of IF, IFELSE and RCOMP are below that of GOTO.
-const GOTO: u16 = 7;
-
-const RUN: u16 = 10;
-
-const ONGOTO: u16 = 11;
-
-const UNTIL: u16 = 17;
-
-const ENDLOOP: u16 = 18;
-
-const STOP: u16 = 25;
-
-const ANY: u16 = 26;
 
 // Adds the nodes that a row of entries leads to.
 fn add_targets(row: &[u16], part: &mut [u16], n: usize) -> usize
@@ -105,11 +103,11 @@ fn add_run(
     requires { ⌜ RoomToAdd (now part) 0 (runEdges (now stmts) (now entries) (now links) lines i) ⌝ }
     ensures { λ r. ⌜ Grows (now (part .entry)) 0 (now (part .exit)) r (runEdges (now (stmts .entry)) (now (entries .entry)) (now (links .entry)) lines i) ⌝ }
 {
-    let count = wide(stmts[i * 12 + 10]);
+    let count = wide(stmts[i * STMT_ENTRIES + COUNT]);
     if count == 0 {
         return add_first(&entries[..lines], part);
     }
-    let at = i * 64;
+    let at = i * ARG_ENTRIES;
     let end = at + count;
     add_targets(&links[at..end], part, 0)
 }
@@ -126,13 +124,13 @@ pub(crate) fn add_jump(
     requires { ⌜ RoomToAdd (now part) 0 (jumpEdges (now stmts) (now falls) (now links) i) ⌝ }
     ensures { λ r. ⌜ Grows (now (part .entry)) 0 (now (part .exit)) r (jumpEdges (now (stmts .entry)) (now (falls .entry)) (now (links .entry)) i) ⌝ }
 {
-    let at = i * 64;
-    let end = at + wide(stmts[i * 12 + 10]);
+    let at = i * ARG_ENTRIES;
+    let end = at + wide(stmts[i * STMT_ENTRIES + COUNT]);
     let r = add_targets(&links[at..end], part, 0);
-    if stmts[i * 12] < ONGOTO {
+    if stmts[i * STMT_ENTRIES] < ONGOTO {
         return r;
     }
-    add_node(part, r, falls[i * 3])
+    add_node(part, r, falls[i * FALL_ENTRIES])
 }
 
 // A NEXT goes to the bodies of the FORs that it pops, then it falls.
@@ -141,9 +139,9 @@ fn add_next(stmts: &[u16], falls: &[u16], links: &[u16], i: usize, part: &mut [u
     requires { ⌜ RoomToAdd (now part) 0 (nextEdges (now stmts) (now falls) (now links) i) ⌝ }
     ensures { λ r. ⌜ Grows (now (part .entry)) 0 (now (part .exit)) r (nextEdges (now (stmts .entry)) (now (falls .entry)) (now (links .entry)) i) ⌝ }
 {
-    let count = wide(stmts[i * 12 + 10]);
+    let count = wide(stmts[i * STMT_ENTRIES + COUNT]);
     let r = add_popped(falls, links, i, count, part, 0);
-    add_node(part, r, falls[i * 3])
+    add_node(part, r, falls[i * FALL_ENTRIES])
 }
 
 // An UNTIL that closes a frame goes to its body, then it falls; any other adds nothing.
@@ -152,12 +150,12 @@ fn add_until(falls: &[u16], frames: &[u16], i: usize, part: &mut [u16]) -> usize
     requires { ⌜ RoomToAdd (now part) 0 (untilEdges (now falls) (now frames) i) ⌝ }
     ensures { λ r. ⌜ Grows (now (part .entry)) 0 (now (part .exit)) r (untilEdges (now (falls .entry)) (now (frames .entry)) i) ⌝ }
 {
-    let met = frames[i * 3];
+    let met = frames[i * FRAME_ENTRIES];
     if met == 0 {
         return 0;
     }
     let r = add_link(falls, met, part, 0);
-    add_node(part, r, falls[i * 3])
+    add_node(part, r, falls[i * FALL_ENTRIES])
 }
 
 fn falls_on(word: u16) -> bool
@@ -179,13 +177,13 @@ fn add_block(word: u16, falls: &[u16], frames: &[u16], i: usize, part: &mut [u16
     ensures { λ r. ⌜ Grows (now (part .entry)) 0 (now (part .exit)) r (blockEdges word (now (falls .entry)) (now (frames .entry)) i) ⌝ }
 {
     if word == ENDLOOP {
-        return add_link(falls, frames[i * 3], part, 0);
+        return add_link(falls, frames[i * FRAME_ENTRIES], part, 0);
     }
     if word == UNTIL {
         return add_until(falls, frames, i, part);
     }
     if falls_on(word) {
-        return add_node(part, 0, falls[i * 3]);
+        return add_node(part, 0, falls[i * FALL_ENTRIES]);
     }
     0
 }
@@ -204,9 +202,9 @@ fn add_own(
     requires { ⌜ OwnRoom (now stmts) (now entries) (now falls) (now links) (now frames) lines i (now part) ⌝ }
     ensures { λ r. ⌜ Grows (now (part .entry)) 0 (now (part .exit)) r (ownEdges (now (stmts .entry)) (now (entries .entry)) (now (falls .entry)) (now (links .entry)) (now (frames .entry)) lines i) ⌝ }
 {
-    let word = stmts[i * 12];
+    let word = stmts[i * STMT_ENTRIES];
     if word < GOTO {
-        let at = i * 3 + 1;
+        let at = i * FALL_ENTRIES + FIRST_BRANCH;
         let end = at + 2;
         return add_targets(&falls[at..end], part, 0);
     }

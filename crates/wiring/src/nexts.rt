@@ -1,6 +1,12 @@
 // What a NEXT's list gets of FORs: the bodies of those that it pops, and of the dispatched ones that an orphan's slots select.
-use crate::fors::NEXT;
 use crate::growing::add_node;
+use layout::columns::ARG_ENTRIES;
+use layout::columns::COUNT;
+use layout::columns::DETAIL;
+use layout::columns::FALL_ENTRIES;
+use layout::columns::ORPHAN;
+use layout::columns::STMT_ENTRIES;
+use layout::words::NEXT;
 use tables::widths::wide;
 ghost use mathlib.Core.Path.{_≡_};
 ghost use Prim.Native.Nat.{_+_, _*_, _≤_, _<_};
@@ -12,9 +18,6 @@ ghost use Rattle.passes.specs.Growing.{Grows};
 ghost use Rattle.passes.specs.AddedAgain.{AllIn};
 ghost use Rattle.passes.specs.NextBodies.{bodyAt, linkBody, selectsKey, selectedBody, slotBodies, cameBefore, orphanBodies, LinksRoom, PoppedRoom, SelectRoom, LinkRoom, ForRoom};
 
-// A NEXT's mark.
-const ORPHAN: u16 = 1;
-
 // Adds where the opener t - 1 falls, where t is not 0: the body of a FOR, or of a loop.
 pub(crate) fn add_link(falls: &[u16], t: u16, part: &mut [u16], n: usize) -> usize
     requires { ⌜ LinkRoom (now falls) t (now part) n ⌝ }
@@ -24,7 +27,7 @@ pub(crate) fn add_link(falls: &[u16], t: u16, part: &mut [u16], n: usize) -> usi
         return n;
     }
     let o = wide(t) - 1;
-    add_node(part, n, falls[o * 3])
+    add_node(part, n, falls[o * FALL_ENTRIES])
 }
 
 // Adds the bodies of the FORs that a row of links names.
@@ -53,7 +56,7 @@ pub(crate) fn add_popped(
     requires { ⌜ PoppedRoom (now falls) (now links) i count (now part) n ⌝ }
     ensures { λ r. ⌜ Grows (now (part .entry)) n (now (part .exit)) r (each (bodyAt (now (falls .entry))) (poppedBy (now (links .entry)) i count)) ⌝ }
 {
-    let at = i * 64;
+    let at = i * ARG_ENTRIES;
     let end = at + count;
     add_links(falls, &links[at..end], part, n)
 }
@@ -74,8 +77,8 @@ fn add_selected(args: &[u64], falls: &[u16], o: u16, key: u64, part: &mut [u16],
     ensures { λ r. ⌜ Grows (now (part .entry)) n (now (part .exit)) r (selectedBody (now (args .entry)) (now (falls .entry)) key o) ⌝ }
 {
     let k = wide(o);
-    if selects(key, args[k * 64]) {
-        return add_node(part, n, falls[k * 3]);
+    if selects(key, args[k * ARG_ENTRIES]) {
+        return add_node(part, n, falls[k * FALL_ENTRIES]);
     }
     n
 }
@@ -173,13 +176,13 @@ pub(crate) fn add_orphan(
     requires { ⌜ SelectRoom (now args) (now falls) (take d (now dispatched)) (now part) n ⌝ }
     ensures { λ r. ⌜ Grows (now (part .entry)) n (now (part .exit)) r (orphanBodies (now (stmts .entry)) (now (args .entry)) (now (falls .entry)) (take d (now (dispatched .entry))) i) ⌝ }
 {
-    if stmts[i * 12] != NEXT {
+    if stmts[i * STMT_ENTRIES] != NEXT {
         return n;
     }
-    if stmts[i * 12 + 11] != ORPHAN {
+    if stmts[i * STMT_ENTRIES + DETAIL] != ORPHAN {
         return n;
     }
-    let at = i * 64;
-    let end = at + wide(stmts[i * 12 + 10]);
+    let at = i * ARG_ENTRIES;
+    let end = at + wide(stmts[i * STMT_ENTRIES + COUNT]);
     add_slots(args, falls, &dispatched[..d], &args[at..end], part, n)
 }

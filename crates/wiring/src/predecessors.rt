@@ -1,4 +1,8 @@
 // The predecessor lists, by counting: how many each node has, where its list begins, then the lists in node order.
+use layout::columns::LIST_ENTRIES;
+use layout::columns::PRED_COUNT;
+use layout::columns::PRED_START;
+use layout::columns::SUCC_COUNT;
 use tables::widths::wide;
 ghost use Prim.Native.Nat.{_*_, _<_, _≤_};
 ghost use lib.ListN.{length};
@@ -14,7 +18,7 @@ fn count_edges(succ: &[u16], edges: usize, lists: &mut [u16], nodes: usize)
 {
     let mut m: usize = 0;
     while m < edges {
-        let at = wide(succ[m]) * 4 + 3;
+        let at = wide(succ[m]) * LIST_ENTRIES + PRED_COUNT;
         lists[at] = lists[at] + 1;
         m += 1;
     }
@@ -28,10 +32,10 @@ fn set_starts(lists: &mut [u16], nodes: usize)
     let mut start: u16 = 0;
     let mut m: usize = 0;
     while m < nodes {
-        let row = m * 4;
-        let count = lists[row + 3];
-        lists[row + 2] = start;
-        lists[row + 3] = 0;
+        let row = m * LIST_ENTRIES;
+        let count = lists[row + PRED_COUNT];
+        lists[row + PRED_START] = start;
+        lists[row + PRED_COUNT] = 0;
         start += count;
         m += 1;
     }
@@ -44,11 +48,11 @@ fn fill_list(list: &[u16], lists: &mut [u16], nodes: usize, pred: &mut [u16], no
 {
     let mut m: usize = 0;
     while m < list.len() {
-        let row = wide(list[m]) * 4;
-        let count = lists[row + 3];
-        let at = wide(lists[row + 2]) + wide(count);
+        let row = wide(list[m]) * LIST_ENTRIES;
+        let count = lists[row + PRED_COUNT];
+        let at = wide(lists[row + PRED_START]) + wide(count);
         pred[at] = node;
-        lists[row + 3] = count + 1;
+        lists[row + PRED_COUNT] = count + 1;
         m += 1;
     }
 }
@@ -61,9 +65,9 @@ fn fill_lists(succ: &[u16], lists: &mut [u16], nodes: usize, pred: &mut [u16])
     let mut left: usize = nodes;
     while 0 < left {
         let j = nodes - left;
-        let row = j * 4;
+        let row = j * LIST_ENTRIES;
         let start = wide(lists[row]);
-        let end = start + wide(lists[row + 1]);
+        let end = start + wide(lists[row + SUCC_COUNT]);
         fill_list(&succ[start..end], lists, nodes, pred, j as u16);
         left -= 1;
     }

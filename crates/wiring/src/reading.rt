@@ -1,8 +1,8 @@
 // The text into the front parts of the reader's tables, as far as the other tables hold as many lines and statements.
+use layout::columns::ARG_ENTRIES;
+use layout::columns::STMT_ENTRIES;
 use reader::listing::Listed;
 use reader::listing::read_listing;
-use reader::tables::ARG_ENTRIES;
-use reader::tables::STMT_ENTRIES;
 use reader::tables::zero16;
 use reader::tables::zero64;
 ghost use mathlib.Core.Path.{_≡_};

@@ -1,4 +1,7 @@
 // The return targets: where the calls continue, in the order in which the calls stand, each once.
+use layout::columns::FALL_ENTRIES;
+use layout::columns::STMT_ENTRIES;
+use layout::limits::MAX_STMTS;
 use tables::calls::is_call;
 use tables::widths::wide;
 use walks::walk::no_marks;
@@ -13,14 +16,14 @@ fn continuation(stmts: &[u16], falls: &[u16], i: usize) -> u16
     requires { ⌜ (i < 4096) × (i * 12 + 12 ≤ length (now stmts)) × (i * 3 + 3 ≤ length (now falls)) ⌝ }
     ensures { λ r. ⌜ r ≡ continuationNumber (now (stmts .entry)) (now (falls .entry)) i ⌝ }
 {
-    if is_call(stmts[i * 12]) {
-        return falls[i * 3];
+    if is_call(stmts[i * STMT_ENTRIES]) {
+        return falls[i * FALL_ENTRIES];
     }
     0
 }
 
 // Puts the node t - 1, where t is not 0, behind the first k targets, unless its mark says that it is one of them.
-fn put_target(t: u16, marks: &mut [bool; 4096], returns: &mut [u16], k: usize) -> usize
+fn put_target(t: u16, marks: &mut [bool; MAX_STMTS], returns: &mut [u16], k: usize) -> usize
     requires { ⌜ (t ≤ 4096) × (k < length (now returns)) × Marking 4096 (now marks) (now returns) k ⌝ }
     ensures { λ r. ⌜ TargetsAdded 4096 (decode t) (now (returns .entry)) k (now (marks .exit)) (now (returns .exit)) r ⌝ }
 {
@@ -42,7 +45,7 @@ fn put_targets(
     stmts: &[u16],
     falls: &[u16],
     n: usize,
-    marks: &mut [bool; 4096],
+    marks: &mut [bool; MAX_STMTS],
     returns: &mut [u16],
 ) -> usize
     requires { ⌜ (n ≤ 4096) × (n * 12 ≤ length (now stmts)) × (n * 3 ≤ length (now falls)) × (n ≤ length (now returns)) ⌝ }

@@ -1,6 +1,8 @@
 // How much the lent tables have room for.
-use reader::tables::ARG_ENTRIES;
-use reader::tables::STMT_ENTRIES;
+use layout::columns::ARG_ENTRIES;
+use layout::columns::FALL_ENTRIES;
+use layout::columns::LIST_ENTRIES;
+use layout::columns::STMT_ENTRIES;
 ghost use mathlib.Core.Path.{_≡_};
 ghost use Prim.Native.Nat.{min};
 ghost use Rattle.passes.specs.Room.{stmtRoom};
@@ -33,7 +35,7 @@ pub(crate) fn stmt_room(
     ensures { λ r. ⌜ r ≡ stmtRoom stmts args falls links lists returns ⌝ }
 {
     let records = least(stmts / STMT_ENTRIES, args / ARG_ENTRIES);
-    let leads = least(falls / 3, links / ARG_ENTRIES);
-    let ends = least(lists / 4, returns);
+    let leads = least(falls / FALL_ENTRIES, links / ARG_ENTRIES);
+    let ends = least(lists / LIST_ENTRIES, returns);
     least(least(records, leads), ends)
 }

@@ -1,15 +1,15 @@
 // The lists that skipping paths follow, stored for the walks through regions.
 use crate::list_of::list_of;
 use crate::store::append_list;
+use layout::columns::FALL_ENTRIES;
+use layout::columns::STMT_ENTRIES;
+use layout::limits::MAX_EDGES;
 use tables::calls::is_call;
 ghost use Prim.Native.Nat.{_*_, _≤_, _<_};
 ghost use lib.ListN.{length, take};
 ghost use Rattle.tables.specs.Columns.{fallEntry};
 ghost use Rattle.passes.specs.NodeList.{ListIs};
 ghost use Rattle.passes.specs.SkipLists.{skipList, SkipReady, SkipDone, SkipsReady, SkipsDone};
-
-// The edges that a graph may have.
-pub(crate) const MOST_EDGES: usize = 32768;
 
 // How many edges the nodes so far have, and how many entries of the scratch table are used.
 struct Edges {
@@ -22,7 +22,7 @@ pub(crate) fn put_fall(falls: &[u16], i: usize, part: &mut [u16]) -> usize
     requires { ⌜ (i < 4096) × (i * 3 < length (now falls)) × (0 < length (now part)) ⌝ }
     ensures { λ r. ⌜ ListIs (fallEntry (now (falls .entry)) i) (now (part .entry)) (now (part .exit)) r ⌝ }
 {
-    let f = falls[i * 3];
+    let f = falls[i * FALL_ENTRIES];
     if f == 0 {
         return 0;
     }
@@ -35,7 +35,7 @@ fn skip_list(stmts: &[u16], falls: &[u16], i: usize, buffer: &mut [u16], count: 
     requires { ⌜ (i < 4096) × (i * 12 < length (now stmts)) × (i * 3 < length (now falls)) × (count ≤ length (now buffer)) × (0 < length (now buffer)) ⌝ }
     ensures { λ r. ⌜ ListIs (skipList (now (stmts .entry)) (now (falls .entry)) i (take count (now (buffer .entry)))) (now (buffer .entry)) (now (buffer .exit)) r ⌝ }
 {
-    if is_call(stmts[i * 12]) {
+    if is_call(stmts[i * STMT_ENTRIES]) {
         return put_fall(falls, i, buffer);
     }
     count
@@ -75,7 +75,7 @@ fn store_skip_list(
         buffer,
     );
     let total = e.total + count;
-    if MOST_EDGES < total {
+    if MAX_EDGES < total {
         return Edges { total, at: e.at };
     }
     let kept = skip_list(stmts, falls, i, buffer, count);

@@ -1,4 +1,6 @@
 // A node's list goes into its own part of the edge table.
+use layout::columns::LIST_ENTRIES;
+use layout::columns::SUCC_COUNT;
 use tables::widths::wide;
 ghost use mathlib.Core.Path.{_≡_};
 ghost use mathlib.Core.List.{_++_};
@@ -32,8 +34,8 @@ pub(crate) fn append_list(
     ensures { λ r. ⌜ Appended node at count (take count (now (list .entry))) (now (lists .entry)) (now (lists .exit)) (now (succ .entry)) (now (succ .exit)) r ⌝ }
 {
     store_list(&mut succ[at..], list, count);
-    lists[node * 4] = at as u16;
-    lists[node * 4 + 1] = count as u16;
+    lists[node * LIST_ENTRIES] = at as u16;
+    lists[node * LIST_ENTRIES + SUCC_COUNT] = count as u16;
     at + count
 }
 
@@ -49,8 +51,8 @@ pub(crate) fn move_list(
     requires { ⌜ (at + succCount (now lists) node ≤ length (now succ)) × (at + succCount (now lists) node < 65536) ⌝ }
     ensures { λ r. ⌜ Appended node at (succCount (now (lists .entry)) node) (take (succCount (now (lists .entry)) node) (drop (succStart (now (lists .entry)) node) (now (from .entry)))) (now (lists .entry)) (now (lists .exit)) (now (succ .entry)) (now (succ .exit)) r ⌝ }
 {
-    let row = node * 4;
+    let row = node * LIST_ENTRIES;
     let start = wide(lists[row]);
-    let count = wide(lists[row + 1]);
+    let count = wide(lists[row + SUCC_COUNT]);
     append_list(lists, succ, node, at, &from[start..], count)
 }

@@ -2,10 +2,11 @@
 use crate::fors::list_dispatched;
 use crate::frames::stack_frames;
 use crate::return_targets::list_return_targets;
-use crate::skip_lists::MOST_EDGES;
 use crate::skip_lists::store_skip_lists;
 use crate::spread::spread_return_edges;
 use crate::write_graph::write_graph;
+use layout::limits::MAX_EDGES;
+use layout::limits::MAX_STMTS;
 use walks::regions::region_return_edges;
 use walks::return_totals::count_returns;
 use walks::walk::no_work;
@@ -46,10 +47,10 @@ fn no_frames() -> [u16; 12288]
 }
 
 // One entry for each.
-fn no_dispatched() -> [u16; 4096]
+fn no_dispatched() -> [u16; MAX_STMTS]
     ensures { λ r. ⌜ r ≡ replicate 4096 0 ⌝ }
 {
-    [0u16; 4096]
+    [0u16; MAX_STMTS]
 }
 
 // Without handlers, the set of each RETURN goes into its row of arguments: by walks over the stored lists, or where these are too long, by
@@ -77,7 +78,7 @@ fn find_returns(
     if handlers {
         return;
     }
-    if MOST_EDGES < own {
+    if MAX_EDGES < own {
         spread_return_edges(
             stmts,
             args,
@@ -167,7 +168,7 @@ fn edges_fit(edges: usize, succ: usize, pred: usize) -> bool
     if pred < edges {
         return false;
     }
-    edges <= MOST_EDGES
+    edges <= MAX_EDGES
 }
 
 // The lists of the n nodes; d of these are dispatched FORs that have a body.
