@@ -101,6 +101,14 @@ pub words-are : wordIndex (bytes "module") ∷ wordIndex (bytes "line") ∷ word
 unfolding wordIndex words openingWords first same bytes
 words-are = refl
 
+-- ---- a FOR's tier and a NEXT's mark, in the detail
+
+abbrev pub dispatchedTier : ℕ
+dispatchedTier = 2
+
+abbrev pub orphanMark : ℕ
+orphanMark = 1
+
 -- ---- how many entries a statement has in each table
 
 abbrev pub stmtEntries : ℕ

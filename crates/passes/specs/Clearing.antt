@@ -9,7 +9,7 @@ use lib.ListN.{length, length-drop, length-replicate, getD, getD-replicate, take
 use lib.Seq.{length-take-le}
 use Rattle.passes.specs.Compare.{eq-or}
 use Rattle.passes.specs.WalkTables.{setsFit}
-use Rattle.passes.specs.ReturnSets.{returnWord}
+use Rattle.layout.specs.Layout.{returnWord}
 use Rattle.passes.specs.ReturnSetLaws.{put-size, put-in, put-other, row-away}
 
 -- entry by entry: e is a word of the set of node e / 64

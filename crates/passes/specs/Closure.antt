@@ -7,7 +7,8 @@ use Prim.Native.Nat.{ℕ, _*_, _/_, _≤_, _<_}
 use lib.ListN.{length, getD}
 use Rattle.graph.specs.Reach.{Reach}
 use Rattle.passes.specs.Sets.{In}
-use Rattle.passes.specs.ReturnSets.{returnWord, setOf}
+use Rattle.passes.specs.ReturnSets.{setOf}
+use Rattle.layout.specs.Layout.{returnWord}
 use Rattle.passes.specs.Walk.{Reached}
 
 -- ---- what the closure promises

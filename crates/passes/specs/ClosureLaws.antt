@@ -15,7 +15,8 @@ use Rattle.graph.specs.Reach.{Reach, here, on}
 use Rattle.graph_laws.specs.ReachLaws.{Reach·join}
 use Rattle.passes.specs.Sets.{bit, In, inserted, joined, membersOf}
 use Rattle.passes.specs.SetLaws.{none-in, in-inserted, inserted-length, joined-at, joined-length, in-joined, members-in}
-use Rattle.passes.specs.ReturnSets.{returnWord, setOf}
+use Rattle.passes.specs.ReturnSets.{setOf}
+use Rattle.layout.specs.Layout.{returnWord}
 use Rattle.passes.specs.ReturnSetLaws.{row-length, row-at, row-same, row-part, row-put}
 use Rattle.passes.specs.WalkLaws.{id-at}
 use Rattle.passes.specs.Closure.{Leads, RowsHold, RowsClosed, StepsBelow, Closed, RowIs, Way, one, more, RowJoined, RowsJoined, ClosedTo, OthersClosed, RowReached, RowListed}

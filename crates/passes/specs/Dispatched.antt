@@ -10,6 +10,7 @@ use borrow.Author.Tests.{eq-eqb, ne-eqb, eqb-false}
 use lib.Dec.{eqb}
 use lib.ListN.{length, getD, getElem?, set, take, drop}
 use lib.Seq.{take-all, take-suc-set, drop-set-lt, drop-drop}
+use Rattle.layout.specs.Layout.{forWord, dispatchedTier}
 use Rattle.listings.specs.Bytes.{pick}
 use Rattle.listings.specs.Listing.{Name, Tier, static, framed, dispatched}
 use Rattle.listings.specs.ListingText.{NameOk, SimpleOk}
@@ -25,7 +26,7 @@ use Rattle.passes.specs.LineEntries.{at-place}
 
 -- ts: the records; es: where nodes fall. A FOR, dispatched, that falls:
 unfoldable pub isDispatched : List ℕ → List ℕ → ℕ → Bool
-isDispatched ts es k = pick (eqb (getD ts (k * 12) 0) 13) (pick (eqb (getD ts (k * 12 + 11) 0) 2) (not (eqb (getD es (k * 3) 0) 0)) false) false
+isDispatched ts es k = pick (eqb (getD ts (k * 12) 0) forWord) (pick (eqb (getD ts (k * 12 + 11) 0) dispatchedTier) (not (eqb (getD es (k * 3) 0) 0)) false) false
 
 -- those among the nodes below n
 unfoldable pub dispatchedIds : List ℕ → List ℕ → ℕ → List ℕ

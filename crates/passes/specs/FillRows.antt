@@ -6,6 +6,7 @@ use mathlib.Core.List.{List, List·Memᴰ}
 use mathlib.Core.Logic.{_↔_}
 use lib.Dec.{eqb}
 use lib.ListN.{length, getD}
+use Rattle.layout.specs.Layout.{nextWord}
 use Rattle.listings.specs.Bytes.{pick}
 use Rattle.listings.specs.Listing.{Listing}
 use Rattle.graph.specs.Graph.{wire, skipSteps}
@@ -34,7 +35,7 @@ Steps L args i = (j : ℕ) → In (setOf args i) j ↔ List·Memᴰ j (skipSteps
 
 -- the nodes whose rows a pass fills, by their words: the NEXTs (14), or all others
 unfoldable pub inPass : Bool → ℕ → Bool
-inPass nexts w = pick (eqb w 14) nexts (not nexts)
+inPass nexts w = pick (eqb w nextWord) nexts (not nexts)
 
 -- node i is one of them
 unfoldable pub passes : List ℕ → Bool → ℕ → Bool

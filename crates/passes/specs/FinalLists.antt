@@ -9,6 +9,7 @@ use borrow.Author.Tests.{eq-eqb, ne-eqb}
 use lib.Dec.{eqb, ltb}
 use lib.ListN.{length, length-append, length-take, length-drop, take, drop, getD}
 use lib.Seq.{length-take-le, take-at}
+use Rattle.layout.specs.Layout.{returnWord}
 use Rattle.listings.specs.Bytes.{pick}
 use Rattle.listings.specs.Every.{All, all[], all∷, all-append}
 use Rattle.listings.specs.Listing.{Listing}
@@ -55,7 +56,7 @@ finalList handlers stmts args falls links lists scratch returns targets i =
 
 -- only rows of RETURNs among the first n have changed from ks to args
 abbrev pub ReturnRowsOnly : (stmts : List ℕ) (n : ℕ) (ks args : List ℕ) → Type 0
-ReturnRowsOnly stmts n ks args = (e : ℕ) → (e / 64 < n → getD stmts ((e / 64) * 12) 0 ≡ 9 → ⊥) → getD args e 0 ≡ getD ks e 0
+ReturnRowsOnly stmts n ks args = (e : ℕ) → (e / 64 < n → getD stmts ((e / 64) * 12) 0 ≡ returnWord → ⊥) → getD args e 0 ≡ getD ks e 0
 
 -- the tables of a listing whose arguments were ks, and its return targets or sets
 pub record FinalTables (L : Listing) (ks : List ℕ) (handlers : Bool) (stmts args entries falls links frames dispatched : List ℕ) (lines n d : ℕ) (returns : List ℕ) (targets : ℕ) : Type 0 where
@@ -66,7 +67,7 @@ pub record FinalTables (L : Listing) (ks : List ℕ) (handlers : Bool) (stmts ar
   pub args-size : length args ≡ length ks
   pub targets-fit : handlers ≡ true → targets ≤ length returns
   pub through : handlers ≡ true → take targets returns ≡ returnTargets (wire L)
-  pub back : handlers ≡ false → (r : ℕ) → r < n → getD stmts (r * 12) 0 ≡ 9 → membersOf (setOf args r) ≡ regionReturnEdges (wire L) r
+  pub back : handlers ≡ false → (r : ℕ) → r < n → getD stmts (r * 12) 0 ≡ returnWord → membersOf (setOf args r) ≡ regionReturnEdges (wire L) r
 
 -- the list l of node i stands in scratch where its row says
 pub record Place (l : List ℕ) (i : ℕ) (lists scratch : List ℕ) : Type 0 where

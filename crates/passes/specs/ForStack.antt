@@ -6,6 +6,7 @@ use mathlib.Core.List.{List, [], _∷_, _++_}
 use mathlib.Core.Option.{Option, none, some}
 use lib.Dec.{eqb}
 use lib.ListN.{length, getD, take, drop}
+use Rattle.layout.specs.Layout.{forWord, nextWord}
 use Rattle.listings.specs.Bytes.{pick}
 use Rattle.passes.specs.FrameStacks.{topOf, underTop, Holds}
 use Rattle.passes.specs.ListedNodes.{keysAt}
@@ -43,14 +44,14 @@ pushKey ks i l = i ∷ underFound l (findKey ks (getD ks (i * 64) 0) l)
 
 -- whether a statement whose opening word has the number w does anything to the stack
 unfoldable pub movesFors : ℕ → Bool
-movesFors w = eqb w 13 || eqb w 14
+movesFors w = eqb w forWord || eqb w nextWord
 
 -- after node i, whose opening word has the number w
 unfoldable pub forsOpen : List ℕ → ℕ → ℕ → List ℕ → List ℕ → List ℕ
-forsOpen ks w i vs l = pick (eqb w 13) (pushKey ks i l) (pick (eqb w 14) (keysLeft ks vs l) l)
+forsOpen ks w i vs l = pick (eqb w forWord) (pushKey ks i l) (pick (eqb w nextWord) (keysLeft ks vs l) l)
 
 unfoldable pub forsLinked : List ℕ → ℕ → ℕ → List ℕ → List ℕ → List ℕ → List ℕ
-forsLinked ks w i vs l t = pick (eqb w 14) (take (i * 64) t ++ (keyLinks ks vs l ++ drop (i * 64 + length vs) t)) t
+forsLinked ks w i vs l t = pick (eqb w nextWord) (take (i * 64) t ++ (keyLinks ks vs l ++ drop (i * 64 + length vs) t)) t
 
 -- ---- what the code ensures of words that hold open FORs
 

@@ -5,6 +5,7 @@ use mathlib.Core.Bool.{Bool, true, false, _||_}
 use mathlib.Core.List.{List}
 use lib.Dec.{eqb, leb}
 use lib.ListN.{length, getD, getElem?, set}
+use Rattle.layout.specs.Layout.{exitWord, exitifWord, elseWord}
 use Rattle.listings.specs.Bytes.{pick}
 use Rattle.graph.specs.Nodes.{Node}
 use Rattle.graph.specs.Edges.{Move, stays, opens, closes, joins}
@@ -76,7 +77,7 @@ elseLinked i o t = set (set t (i * 3 + 2) (getD t (o * 3 + 2) 0)) (o * 3 + 2) (s
 -- node i with the opening word w, which meets the frame of opener o: an ELSE is linked to the other ELSEs, a closer is that of the frame
 unfoldable pub linkedTo : ℕ → ℕ → ℕ → List ℕ → List ℕ
 linkedTo w i zero t = t
-linkedTo w i (suc o) t = pick (eqb w 22) (elseLinked i o t) (pick (eqb w 19 || eqb w 20) t (set t (o * 3 + 1) (suc i)))
+linkedTo w i (suc o) t = pick (eqb w elseWord) (elseLinked i o t) (pick (eqb w exitWord || eqb w exitifWord) t (set t (o * 3 + 1) (suc i)))
 
 unfoldable pub linked : ℕ → ℕ → List ℕ → List ℕ
 linked w i t = linkedTo w i (getD t (i * 3) 0) t

@@ -7,6 +7,7 @@ use mathlib.Core.List.{List, [], _∷_}
 use mathlib.Core.Option.{Option, none, some}
 use lib.Dec.{eqb, ltb}
 use lib.ListN.{length, drop, getD, getElem?}
+use Rattle.layout.specs.Layout.{repeatWord, untilWord, exitWord, doifWord, elseWord, doneWord}
 use Rattle.listings.specs.Bytes.{pick}
 use Rattle.listings.specs.Records.{padded}
 use Rattle.graph.specs.Lists.{each, below}
@@ -19,11 +20,11 @@ use Rattle.graph_laws.specs.PerNode.{Met, nothing, closing, joining, noOpeners,
 
 -- 15 and 16 are REPEAT and LOOP, 17 and 18 UNTIL and ENDLOOP, 19 and 20 EXIT and EXITIF
 unfoldable pub loopMove : ℕ → Move
-loopMove w = pick (ltb w 15) stays (pick (ltb w 17) opens (pick (ltb w 19) closes (pick (ltb w 21) joins stays)))
+loopMove w = pick (ltb w repeatWord) stays (pick (ltb w untilWord) opens (pick (ltb w exitWord) closes (pick (ltb w doifWord) joins stays)))
 
 -- 21 is DOIF, 22 ELSE, 23 DONE
 unfoldable pub doMove : ℕ → Move
-doMove w = pick (eqb w 21) opens (pick (eqb w 22) joins (pick (eqb w 23) closes stays))
+doMove w = pick (eqb w doifWord) opens (pick (eqb w elseWord) joins (pick (eqb w doneWord) closes stays))
 
 unfoldable pub wordMove : Stack → ℕ → Move
 wordMove loopStack w = loopMove w

@@ -6,6 +6,7 @@ use mathlib.Core.List.{List, [], _∷_}
 use lib.Dec.{eqb, leb}
 use lib.ListN.{take}
 use lib.Seq.{sets}
+use Rattle.layout.specs.Layout.{gotoWord, returnWord, ongosubWord}
 use Rattle.listings.specs.Bytes.{pick}
 use Rattle.listings.specs.Listing.{Simple, goto, gosub, return, run, runto, ongoto, ongosub, for, next, repeat, loop, until, endloop, exit, exitif, doif, else, done, clr, stop, any, Lines}
 use Rattle.graph_laws.specs.Adding.{nodeNumber}
@@ -56,7 +57,7 @@ linked es t i (n ∷ ns) = linked es (sets t (i * 64) (linkRow es (stmtTargets (
 
 -- goto, gosub, run, ongoto and ongosub, by their numbers in the table of opening words
 unfoldable pub namesLines : ℕ → Bool
-namesLines w = leb 7 w && leb w 12 && not (eqb w 9)
+namesLines w = leb gotoWord w && leb w ongosubWord && not (eqb w returnWord)
 
 -- how many of a statement's arguments are line numbers; more than 64 no statement has
 unfoldable pub jumpCount : (word count : ℕ) → ℕ

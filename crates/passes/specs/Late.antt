@@ -6,6 +6,7 @@ use mathlib.Core.List.{List, [], _∷_, _++_}
 use mathlib.Core.Option.{some}
 use lib.Dec.{eqb}
 use lib.ListN.{length, take, getD, getElem?}
+use Rattle.layout.specs.Layout.{exitWord, exitifWord, elseWord}
 use Rattle.listings.specs.Every.{All}
 use Rattle.graph.specs.Lists.{each}
 use Rattle.graph.specs.Nodes.{Node}
@@ -87,7 +88,7 @@ CloserFits falls frames m (suc o) = (o * 3 + 1 < length frames) × FallFitsFrom 
 
 -- EXIT, EXITIF, ELSE
 unfoldable pub joinsWord : ℕ → Bool
-joinsWord w = (eqb w 19 || eqb w 20) || eqb w 22
+joinsWord w = (eqb w exitWord || eqb w exitifWord) || eqb w elseWord
 
 -- ---- the whole
 

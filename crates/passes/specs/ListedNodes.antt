@@ -9,6 +9,7 @@ use lib.Dec.{eqb}
 use lib.ListN.{length, getD, getElem?, take, drop, length-drop}
 use lib.Seq.{ext-getD, getD-take, getD-drop, length-take-le}
 use borrow.Author.Tests.{eq-eqb, ne-eqb, eqb-false}
+use Rattle.layout.specs.Layout.{nextWord}
 use Rattle.listings.specs.Bytes.{same, bytes}
 use Rattle.listings.specs.Listing.{Name, Tier, Mark, Slot, Simple, goto, gosub, return, run, runto, ongoto, ongosub, for, next, repeat, loop, until, endloop, exit, exitif, doif, else, done, clr, stop, any, if, ifelse, rcomp}
 use Rattle.listings.specs.ListingText.{simpleWord, condWord, NameOk, SimpleOk}
@@ -50,7 +51,7 @@ FallsListed es ns = (i : ℕ) (n : Node) → getElem? ns i ≡ some n → getD e
 
 -- a NEXT has at most 64 slots
 abbrev pub SlotsCounted : List ℕ → ℕ → Type 0
-SlotsCounted ts i = getD ts (i * 12) 0 ≡ 14 → getD ts (i * 12 + 10) 0 ≤ 64
+SlotsCounted ts i = getD ts (i * 12) 0 ≡ nextWord → getD ts (i * 12 + 10) 0 ≤ 64
 
 abbrev pub AllCounted : List ℕ → ℕ → Type 0
 AllCounted ts n = (i : ℕ) → i < n → SlotsCounted ts i

@@ -7,6 +7,7 @@ use native.Mathlib.Omega.{arith}
 use native.Mathlib.Decide.{ℕ-discrete}
 use lib.Dec.{eqb}
 use borrow.Author.Tests.{eq-eqb, ne-eqb, lt-ltb, le-ltb}
+use Rattle.layout.specs.Layout.{exitWord, exitifWord}
 use Rattle.listings.specs.Bytes.{same, pick, bytes}
 use Rattle.listings.specs.Rows.{openingWords}
 use Rattle.listings.specs.Listing.{Simple, goto, gosub, return, run, runto, ongoto, ongosub, for, next, repeat, loop, until, endloop, exit, exitif, doif, else, done, clr, stop, any, if, ifelse, rcomp}
@@ -70,7 +71,7 @@ one-stack w =
     ]
 
 abbrev pub isExit : ℕ → Bool
-isExit w = eqb w 19 || eqb w 20
+isExit w = eqb w exitWord || eqb w exitifWord
 
 abbrev LoopRegion : ℕ → Move → Type 0
 LoopRegion w stays = Unit {0}

@@ -10,6 +10,7 @@ use borrow.Author.Tests.{eq-eqb, ne-eqb, eqb-true}
 use lib.Dec.{eqb}
 use lib.ListN.{length, getD, take, drop}
 use lib.Seq.{drop-cons}
+use Rattle.layout.specs.Layout.{nextWord, orphanMark}
 use Rattle.listings.specs.Bytes.{pick}
 use Rattle.listings.specs.Every.{All, all[], all∷, all-append}
 use Rattle.listings.specs.Listing.{for}
@@ -49,7 +50,7 @@ slotBodies ks es os key = each (selectedBody ks es key) os
 
 -- of node i, where the FORs os are the dispatched ones that have a body
 unfoldable pub orphanBodies : List ℕ → List ℕ → List ℕ → List ℕ → ℕ → List ℕ
-orphanBodies ts ks es os i = pick (eqb (getD ts (i * 12) 0) 14) (pick (eqb (getD ts (i * 12 + 11) 0) 1) (each (slotBodies ks es os) (keysAt ts ks i)) []) []
+orphanBodies ts ks es os i = pick (eqb (getD ts (i * 12) 0) nextWord) (pick (eqb (getD ts (i * 12 + 11) 0) orphanMark) (each (slotBodies ks es os) (keysAt ts ks i)) []) []
 
 -- ---- room: for some number of nodes all that may be added is below it
 

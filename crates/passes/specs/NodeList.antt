@@ -5,6 +5,7 @@ use mathlib.Core.Bool.{Bool, _||_, not}
 use mathlib.Core.List.{List, [], _++_}
 use lib.Dec.{eqb, ltb}
 use lib.ListN.{length, getD, take, drop}
+use Rattle.layout.specs.Layout.{gotoWord, runWord, forWord, nextWord, untilWord, endloopWord, exitWord, elseWord, stopWord, anyWord}
 use Rattle.listings.specs.Bytes.{pick}
 use Rattle.listings.specs.Listing.{Listing}
 use Rattle.graph.specs.Lists.{each}
@@ -36,21 +37,21 @@ untilEdges fs fr i = pick (eqb (getD fr (i * 3) 0) 0) [] (linkBody fs (getD fr (
 
 -- all but EXIT, ELSE and STOP
 unfoldable pub fallsWord : ℕ → Bool
-fallsWord w = not ((eqb w 19 || eqb w 22) || eqb w 25)
+fallsWord w = not ((eqb w exitWord || eqb w elseWord) || eqb w stopWord)
 
 -- 17 is UNTIL, 18 ENDLOOP
 unfoldable pub blockEdges : (w : ℕ) (fs fr : List ℕ) (i : ℕ) → List ℕ
-blockEdges w fs fr i = pick (eqb w 18) (linkBody fs (getD fr (i * 3) 0)) (pick (eqb w 17) (untilEdges fs fr i) (pick (fallsWord w) (fallEntry fs i) []))
+blockEdges w fs fr i = pick (eqb w endloopWord) (linkBody fs (getD fr (i * 3) 0)) (pick (eqb w untilWord) (untilEdges fs fr i) (pick (fallsWord w) (fallEntry fs i) []))
 
 -- below 7 are IF, IFELSE and RCOMP; 10 is RUN, 14 NEXT, 26 ANY
 unfoldable pub ownEdges : (ts en fs ls fr : List ℕ) (lines i : ℕ) → List ℕ
 ownEdges ts en fs ls fr lines i =
     let w = wordOf ts i in
-    pick (ltb w 7) (each decode (take 2 (drop (i * 3 + 1) fs)))
-    (pick (eqb w 10) (runEdges ts en ls lines i)
-    (pick (ltb w 13) (jumpEdges ts fs ls i)
-    (pick (eqb w 14) (nextEdges ts fs ls i)
-    (pick (eqb w 26) (each decode (take lines en)) (blockEdges w fs fr i)))))
+    pick (ltb w gotoWord) (each decode (take 2 (drop (i * 3 + 1) fs)))
+    (pick (eqb w runWord) (runEdges ts en ls lines i)
+    (pick (ltb w forWord) (jumpEdges ts fs ls i)
+    (pick (eqb w nextWord) (nextEdges ts fs ls i)
+    (pick (eqb w anyWord) (each decode (take lines en)) (blockEdges w fs fr i)))))
 
 -- ---- room
 
@@ -63,7 +64,7 @@ pub record OwnRoom (ts en fs ls fr : List ℕ) (lines i : ℕ) (part : List ℕ)
   pub frames : i * 3 + 3 ≤ length fr
   pub opener : getD fr (i * 3) 0 * 3 ≤ length fs
   pub few : 7 ≤ getD ts (i * 12) 0 → getD ts (i * 12 + 10) 0 ≤ 64
-  pub popped : getD ts (i * 12) 0 ≡ 14 → PoppedRoom fs ls i (getD ts (i * 12 + 10) 0) part 0
+  pub popped : getD ts (i * 12) 0 ≡ nextWord → PoppedRoom fs ls i (getD ts (i * 12 + 10) 0) part 0
   pub rises : Rises 0 (take lines en)
   pub room : RoomToAdd part 0 (ownEdges ts en fs ls fr lines i)
 

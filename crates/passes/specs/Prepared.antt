@@ -5,6 +5,7 @@ use mathlib.Core.Bool.{Bool, true, false}
 use mathlib.Core.List.{List, [], _∷_, _++_, map}
 use lib.Dec.{eqb}
 use lib.ListN.{length, getD, take, drop, replicate}
+use Rattle.layout.specs.Layout.{returnWord, forWord, nextWord}
 use Rattle.listings.specs.Bytes.{pick}
 use Rattle.listings.specs.Listing.{Listing, count}
 use Rattle.listings.specs.ListingText.{LinesOk}
@@ -74,11 +75,11 @@ pub record Prepared (L : Listing) (stmts args entries falls links frames dispatc
 -- Rows of arguments that no list needs may have changed from ks to args: for the NEXT i its own row and the names of FORs are kept.
 pub record KeysKept (stmts ks args : List ℕ) (i : ℕ) : Type 0 where
   pub own : (j : ℕ) → j < 64 → getD args (i * 64 + j) 0 ≡ getD ks (i * 64 + j) 0
-  pub names : (k : ℕ) → getD stmts (k * 12) 0 ≡ 13 → getD args (k * 64) 0 ≡ getD ks (k * 64) 0
+  pub names : (k : ℕ) → getD stmts (k * 12) 0 ≡ forWord → getD args (k * 64) 0 ≡ getD ks (k * 64) 0
 
 -- for any other node nothing is needed
 abbrev pub Keys : List ℕ → List ℕ → List ℕ → ℕ → Type 0
-Keys stmts ks args i = getD stmts (i * 12) 0 ≡ 14 → KeysKept stmts ks args i
+Keys stmts ks args i = getD stmts (i * 12) 0 ≡ nextWord → KeysKept stmts ks args i
 
 -- ---- what a node is to a call; opening word 9 is RETURN
 
@@ -108,11 +109,11 @@ pub record Roles (W : Wired) (stmts falls links : List ℕ) (n : ℕ) : Type 0 w
   pub falls-fit : n * 3 ≤ length falls
   pub links-fit : n * 64 ≤ length links
   pub calling : (i : ℕ) → i < n → callWord (wordOf stmts i) ≡ isCall (role W i)
-  pub returning : (i : ℕ) → i < n → eqb (wordOf stmts i) 9 ≡ isReturn (role W i)
+  pub returning : (i : ℕ) → i < n → eqb (wordOf stmts i) returnWord ≡ isReturn (role W i)
   pub continuing : (i : ℕ) → i < n → continuation W i ≡ pick (callWord (wordOf stmts i)) (fallEntry falls i) []
   pub targets : (i : ℕ) → i < n → callees W i ≡ pick (callWord (wordOf stmts i)) (linkEntries stmts links i) []
-  pub skipping : (i : ℕ) → i < n → skipSteps W i ≡ pick (callWord (wordOf stmts i)) (fallEntry falls i) (pick (eqb (wordOf stmts i) 9) [] (base W i))
-  pub returns-none : (i : ℕ) → i < n → eqb (wordOf stmts i) 9 ≡ true → base W i ≡ []
+  pub skipping : (i : ℕ) → i < n → skipSteps W i ≡ pick (callWord (wordOf stmts i)) (fallEntry falls i) (pick (eqb (wordOf stmts i) returnWord) [] (base W i))
+  pub returns-none : (i : ℕ) → i < n → eqb (wordOf stmts i) returnWord ≡ true → base W i ≡ []
   pub few-targets : (i : ℕ) → i < n → callWord (wordOf stmts i) ≡ true → getD stmts (i * 12 + 10) 0 ≤ 64
   pub fall-fits : (i : ℕ) → i < n → getD falls (i * 3) 0 ≤ n
   pub link-fits : (i : ℕ) → i < n → callWord (wordOf stmts i) ≡ true → (j : ℕ) → j < getD stmts (i * 12 + 10) 0 → getD links (i * 64 + j) 0 ≤ n

@@ -13,7 +13,8 @@ use Rattle.graph.specs.Graph.{Wired, regionReturnEdges}
 use Rattle.passes.specs.Walk.{Reached, Stored, storedList}
 use Rattle.passes.specs.Spans.{Spanned}
 use Rattle.passes.specs.Sets.{In, oneIf, membersOf}
-use Rattle.passes.specs.ReturnSets.{returnWord, IsReturn, setOf}
+use Rattle.passes.specs.ReturnSets.{IsReturn, setOf}
+use Rattle.layout.specs.Layout.{returnWord}
 use Rattle.tables.specs.Columns.{callWord, wordOf, fallEntry, continuationEntry}
 use Rattle.passes.specs.Prepared.{linkEntries}
 

@@ -15,7 +15,8 @@ use Rattle.listings.specs.WordTable.{words, first, wordIndex}
 use Rattle.passes.specs.Compare.{eq-or, lt-or}
 use Rattle.passes.specs.Sets.{In, joined}
 use Rattle.passes.specs.SetLaws.{joined-length, in-joined}
-use Rattle.passes.specs.ReturnSets.{returnWord, IsReturn, setOf, RowPut, ReturnsJoined}
+use Rattle.passes.specs.ReturnSets.{IsReturn, setOf, RowPut, ReturnsJoined}
+use Rattle.layout.specs.Layout.{returnWord}
 
 -- the table of opening words has `return` there
 pub return-word : wordIndex (simpleWord return) ≡ returnWord

@@ -4,11 +4,8 @@ use mathlib.Core.List.{List, List·Memᴰ}
 use mathlib.Core.Logic.{_⊎_, _↔_}
 use Prim.Native.Nat.{ℕ, _*_, _/_, _<_}
 use lib.ListN.{length, getD, take, drop}
+use Rattle.layout.specs.Layout.{returnWord}
 use Rattle.passes.specs.Sets.{In}
-
--- the number of `return` among the opening words
-abbrev pub returnWord : ℕ
-returnWord = 9
 
 -- one of the n nodes, and a RETURN: its record has 12 entries, of which the first is its opening word
 abbrev pub IsReturn : List ℕ → ℕ → ℕ → Type 0

@@ -11,7 +11,8 @@ use Rattle.listings.specs.Listing.{Listing}
 use Rattle.graph.specs.Graph.{wire, regionReturnEdges}
 use Rattle.tables.specs.Columns.{wordOf}
 use Rattle.passes.specs.Sets.{In, membersOf}
-use Rattle.passes.specs.ReturnSets.{returnWord, IsReturn, setOf}
+use Rattle.passes.specs.ReturnSets.{IsReturn, setOf}
+use Rattle.layout.specs.Layout.{returnWord}
 use Rattle.passes.specs.Closure.{Leads, OthersClosed}
 use Rattle.passes.specs.Prepared.{Prepared, Roles}
 use Rattle.passes.specs.Regions.{ReturnsBy, RegionJoined, RegionsJoined, CallsReady}

@@ -15,7 +15,8 @@ use Rattle.tables.specs.Columns.{wordOf}
 use Rattle.passes.specs.Compare.{eq-or}
 use Rattle.passes.specs.Sets.{In, membersOf}
 use Rattle.passes.specs.SetLaws.{none-in, members-in, members-are}
-use Rattle.passes.specs.ReturnSets.{returnWord, IsReturn, setOf}
+use Rattle.passes.specs.ReturnSets.{IsReturn, setOf}
+use Rattle.layout.specs.Layout.{returnWord}
 use Rattle.passes.specs.ReturnSetLaws.{row-same}
 use Rattle.passes.specs.Clearing.{SetsCleared}
 use Rattle.passes.specs.Closure.{RowsHold, RowsClosed, StepsBelow, Closed, OthersClosed}
