@@ -135,15 +135,16 @@ walkBy t s w (row.Cond k) = insideWalk s
 abbrev pub OperandsPut : List ℕ → ℕ → Operands → List ℕ → Given → Type 0
 OperandsPut a n x a′ g = (a′ ≡ addEntries a n (x .entries)) × (g ≡ asGiven x)
 
--- those of a row, before the rest is written
-pub record Placed (a : List ℕ) (n : ℕ) (d : Row) (x : Operands) (a′ : List ℕ) (g : Given) : Type 0 where
-  pub args : a′ ≡ argTable a n d x
-  pub given : g ≡ asGiven x
-
+-- the lines and the statements after a row
 pub record Wrote (n t : List ℕ) (s : State) (w : Walk) (d : Row) (g : Given) (n′ t′ : List ℕ) (r : Walk) : Type 0 where
   pub walk : r ≡ walkBy t s w d
   pub lines : n′ ≡ lineTable n s d
   pub stmts : t′ ≡ stmtTable t s w d g
+
+-- and the arguments
+pub record Recorded (n t a : List ℕ) (s : State) (w : Walk) (d : Row) (x : Operands) (n′ t′ a′ : List ℕ) (r : Walk) : Type 0 where
+  pub args : a′ ≡ argTable a (s .stmts) d x
+  pub rest : Wrote n t s w d (asGiven x) n′ t′ r
 
 -- ---- what the code needs
 
@@ -192,6 +193,10 @@ ArgsReady a n (row.Line m) x = Unit {0}
 ArgsReady a n (row.To m) x = Unit {0}
 ArgsReady a n (row.Simple k m) x = HasRoom a n x
 ArgsReady a n (row.Cond k) x = Unit {0}
+
+pub record RecordReady (n t a : List ℕ) (s : State) (w : Walk) (d : Row) (x : Operands) : Type 0 where
+  pub args : ArgsReady a (s .stmts) d x
+  pub rest : Ready n t s w d (asGiven x)
 
 pub walk-is : {w : Walk} {a b : ℕ} → w .holder ≡ a → w .index ≡ b → w ≡ record { holder = a; index = b }
 walk-is {w} {a} {b} p q = ap {B = Walk} (λ (x : ℕ). record { holder = x; index = w .index }) p ∙ ap {B = Walk} (λ (x : ℕ). record { holder = a; index = x }) q

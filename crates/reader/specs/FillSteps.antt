@@ -23,7 +23,7 @@ use Rattle.reader.specs.MachineLaws.{step-law, Bounded, state-bounded}
 use Rattle.reader.specs.Judge.{good-depth}
 use Rattle.reader.specs.Tables.{padded-nil}
 use Rattle.reader.specs.AcceptedRows.{WellFormed, taken-formed, taken-uncounted}
-use Rattle.reader.specs.Fill.{Operands, Says, asGiven, argTable, lineTable, stmtTable, walkBy, Placed, Wrote, Ready, ArgsReady, outsideWalk}
+use Rattle.reader.specs.Fill.{Operands, Says, asGiven, argTable, lineTable, stmtTable, walkBy, Recorded, RecordReady, outsideWalk}
 use Rattle.reader.specs.Holds.{Holds, holds-as}
 use Rattle.reader.specs.FillLaws.{walkAt, Fits, fill-law}
 use Rattle.reader.specs.FillReady.{Long, holds-long, ready-law}
@@ -32,7 +32,6 @@ use Rattle.reader.specs.declared.machine.Step.{Step}
 use Rattle.reader.specs.declared.machine.Step.the-variants.{Taken, Refused}
 use Rattle.reader.specs.declared.rows.Row.{Row}
 use Rattle.reader.specs.declared.fill.Walk.{Walk}
-use Rattle.reader.specs.declared.operands.Given.{Given}
 
 -- ---- lines and statements are never fewer after a row
 
@@ -219,9 +218,11 @@ fills-long {nl = nl} {ns = ns} {na = na} {n = n} {t = t} {a = a} room f = holds-
 module _ (r q : Reading) (nl ns na : ℕ) (n t a : List ℕ) (s : State) (w : Walk) {d : Content} {e : Row} {x : Operands} (state : s ≡ asState r) (walk : w ≡ walkAt r (r .position)) (says : Says d e x) (ok : ContentOk d)
     (good : Good r (r .position)) (holds : Holds (numbersOf r (r .position)) (recsOf r (r .position)) nl ns na n t a) (took : readRow r (r .position) d ≡ taken q) (room : Fits nl ns na q) where
   -- what the code needs, and what it makes of the tables, by the state and the row that it has
-  ready-by : Fits nl ns na r → Ready n t s w e (asGiven x) × ArgsReady a (s .stmts) e x
+  ready-by : Fits nl ns na r → RecordReady n t a s w e x
   unfolding asState stateAt
-  ready-by f = rw (state, walk, says .row, says .operands) (ready-law r q nl ns na n t a d ok good holds took f room)
+  ready-by f =
+      let h = ready-law r q nl ns na n t a d ok good holds took f room in
+      rw (state, walk, says .row, says .operands) (record { args = h .1; rest = h .0 })
 
   fill-by : Holds (numbersOf q (q .position)) (recsOf q (q .position)) nl ns na (lineTable n s e) (stmtTable t s w e (asGiven x)) (argTable a (s .stmts) e x) × (walkBy t s w e ≡ walkAt q (q .position))
   unfolding asState stateAt
@@ -245,14 +246,8 @@ module _ {L : Listing} {nl ns na : ℕ} {d : Content} {ds : List Content} {s : S
   fits-after = fits room good-after (after .ahead)
 
   module _ {e : Row} {x : Operands} (says : Says d e x) where
-    ready : Ready n t s w e (asGiven x) × ArgsReady a (s .stmts) e x
-    ready = ready-by (f .reading) (after .reading) nl ns na n t a s w (f .state) (f .walk) says (after .ok) (f .good) (f .holds) (after .took) fits-after (fits room (f .good) (f .ahead))
-
-    pub fills-ready : (g : Given) → g ≡ asGiven x → Ready n t s w e g
-    fills-ready g q = subst (Ready n t s w e) (sym q) (ready .0)
-
-    pub fills-room : ArgsReady a (s .stmts) e x
-    fills-room = ready .1
+    pub fills-ready : RecordReady n t a s w e x
+    fills-ready = ready-by (f .reading) (after .reading) nl ns na n t a s w (f .state) (f .walk) says (after .ok) (f .good) (f .holds) (after .took) fits-after (fits room (f .good) (f .ahead))
 
     stepped : {y : Step} → y ≡ stepRow s e → y ≡ Taken (asState (after .reading))
     stepped q = q ∙ ap (stepRow s) (says .row) ∙ taken-uncounted s (asState (after .reading)) (asRow d) steps-on
@@ -260,20 +255,20 @@ module _ {L : Listing} {nl ns na : ℕ} {d : Content} {ds : List Content} {s : S
     pub fills-refused : {y : Step} {m : ℕ} → y ≡ stepRow s e → y ≡ Refused m → ⊥
     fills-refused q h = let z = sym (stepped q) ∙ h in let k : _≡_ {A = ℕ} 0 1 = cc in omega arith
 
-    pub fills-taken : {y : Step} {v : State} {g : Given} {n′ t′ a′ : List ℕ} {u : Walk} → y ≡ stepRow s e → y ≡ Taken v → Placed a (s .stmts) e x a′ g → Wrote n t s w e g n′ t′ u → Fills L nl ns na ds v u n′ t′ a′
-    fills-taken {v = v} q h b o =
+    pub fills-taken : {y : Step} {v : State} {n′ t′ a′ : List ℕ} {u : Walk} → y ≡ stepRow s e → y ≡ Taken v → Recorded n t a s w e x n′ t′ a′ u → Fills L nl ns na ds v u n′ t′ a′
+    fills-taken {v = v} q h o =
         let y = fill-by (f .reading) (after .reading) nl ns na n t a s w (f .state) (f .walk) says (after .ok) (f .good) (f .holds) (after .took) fits-after in
         let k = sym (stepped q) ∙ h in
         record {
           reading = after .reading;
           state = let z : v ≡ asState (after .reading) = cc in z;
-          walk = o .walk ∙ y .1;
+          walk = o .rest .walk ∙ y .1;
           good = good-after;
           ahead = after .ahead;
           holds = record {
-            lines = o .lines ∙ y .0 .lines;
-            stmts = o .stmts ∙ ap (stmtTable t s w e) (b .given) ∙ y .0 .stmts;
-            args = b .args ∙ y .0 .args;
+            lines = o .rest .lines ∙ y .0 .lines;
+            stmts = o .rest .stmts ∙ y .0 .stmts;
+            args = o .args ∙ y .0 .args;
             wide = y .0 .wide;
           };
         }

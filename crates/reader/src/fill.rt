@@ -32,7 +32,7 @@ ghost use Prim.Native.Nat.{_+_, _*_, _-_, _≤_, _<_};
 ghost use lib.ListN.{length, set};
 ghost use lib.Dec.{eqb};
 ghost use Rattle.reader.specs.FillLoop.{Zeroed, Filled};
-ghost use Rattle.reader.specs.Fill.{entryOf, branchStmts, endTable, endWalk, outsideWalk, addedWalk, insideWalk, addSimple, addCond, OperandsPut, Placed, Wrote, Ready, EndReady, ToReady, AddReady, HasRoom, ArgsReady};
+ghost use Rattle.reader.specs.Fill.{entryOf, branchStmts, endTable, endWalk, outsideWalk, addedWalk, insideWalk, addSimple, addCond, OperandsPut, Wrote, Recorded, Ready, EndReady, ToReady, AddReady, HasRoom, RecordReady};
 ghost use Rattle.reader.specs.RowOperands.{operandsIn, rowOperands, IsStatement, RowReady};
 
 // In which IF the next statement stands (one more than its node, or 0), and the number it gets there.
@@ -117,30 +117,6 @@ fn to_row(t: &mut [u16], s: State, w: Walk, n: u16) -> Walk
     w
 }
 
-// The arguments of statement n, whose row is given, into its own 64 entries.
-fn put_row_operands(word: usize, row: &[u8], args: &mut [u64], n: usize) -> Given
-    requires { ⌜ IsStatement (now row) word × HasRoom (now args) n (operandsIn (now row)) ⌝ }
-    ensures { λ r. ⌜ OperandsPut (now (args .entry)) n (operandsIn (now (row .entry))) (now (args .exit)) r ⌝ }
-{
-    let from = n * ARG_ENTRIES;
-    let last = row.len() - 1;
-    put_operands(word, &row[1..last], &mut args[from..])
-}
-
-// What a row gives besides what it is: a statement's operands; the others have none.
-fn row_operands(text: &[u8], args: &mut [u64], n: usize, row: Row) -> Given
-    requires { ⌜ RowReady (now text) row × ArgsReady (now args) n row (rowOperands (now text) row) ⌝ }
-    ensures { λ r. ⌜ Placed (now (args .entry)) n row (rowOperands (now (text .entry)) row) (now (args .exit)) r ⌝ }
-{
-    let Row::Simple { word, count: _ } = row else {
-        return Given {
-            count: 0,
-            detail: 0,
-        };
-    };
-    put_row_operands(word, text, args, n)
-}
-
 fn entry_of(s: State, w: Walk, word: usize, end: usize, g: Given) -> Entry
     requires { ⌜ (0 < s .lines) × (s .lines ≤ 1024) × (word ≤ 28) × (end ≤ 4096) × (g .count ≤ 64) ⌝ }
     ensures { λ r. ⌜ r ≡ entryOf s w word end g ⌝ }
@@ -194,7 +170,7 @@ fn add_line(lines: &mut [u16], at: usize, n: u16) -> Walk
     }
 }
 
-// What a row that is taken appends or amends. given: of a statement, whose arguments are in their entries.
+// What a row that is taken appends or amends. given: of a statement, whose arguments are in their entries already.
 pub(crate) fn write_row(
     lines: &mut [u16],
     stmts: &mut [u16],
@@ -221,6 +197,40 @@ pub(crate) fn write_row(
     }
 }
 
+// The arguments of statement n, whose row is given, into its own 64 entries.
+fn put_row_operands(word: usize, row: &[u8], args: &mut [u64], n: usize) -> Given
+    requires { ⌜ IsStatement (now row) word × HasRoom (now args) n (operandsIn (now row)) ⌝ }
+    ensures { λ r. ⌜ OperandsPut (now (args .entry)) n (operandsIn (now (row .entry))) (now (args .exit)) r ⌝ }
+{
+    let from = n * ARG_ENTRIES;
+    let last = row.len() - 1;
+    put_operands(word, &row[1..last], &mut args[from..])
+}
+
+// Writes a row of text, with its arguments. A statement goes straight to its record: to match the row again would cost time.
+fn write_text_row(
+    text: &[u8],
+    lines: &mut [u16],
+    stmts: &mut [u16],
+    args: &mut [u64],
+    s: State,
+    w: Walk,
+    row: Row,
+) -> Walk
+    requires { ⌜ RowReady (now text) row × RecordReady (now lines) (now stmts) (now args) s w row (rowOperands (now text) row) ⌝ }
+    ensures { λ r. ⌜ Recorded (now (lines .entry)) (now (stmts .entry)) (now (args .entry)) s w row (rowOperands (now (text .entry)) row) (now (lines .exit)) (now (stmts .exit)) (now (args .exit)) r ⌝ }
+{
+    let Row::Simple { word, count: _ } = row else {
+        let none = Given {
+            count: 0,
+            detail: 0,
+        };
+        return write_row(lines, stmts, s, w, row, none);
+    };
+    let given = put_row_operands(word, text, args, s.stmts);
+    add_simple(stmts, s, w, word, given)
+}
+
 // The rows again, each of which was taken before.
 pub(crate) fn fill(text: &[u8], lines: &mut [u16], stmts: &mut [u16], args: &mut [u64])
     requires { ⌜ Zeroed (now text) (now lines) (now stmts) (now args) ⌝ }
@@ -244,8 +254,7 @@ pub(crate) fn fill(text: &[u8], lines: &mut [u16], stmts: &mut [u16], args: &mut
                 return;
             }
             Step::Taken(n) => {
-                let given = row_operands(&text[at..to], args, s.stmts, row);
-                w = write_row(lines, stmts, s, w, row, given);
+                w = write_text_row(&text[at..to], lines, stmts, args, s, w, row);
                 s = n;
             }
         }

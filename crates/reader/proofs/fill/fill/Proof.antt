@@ -8,7 +8,7 @@ use Rattle.listings.specs.Rows.{split, contentOf, rowOf}
 use Rattle.listings.specs.Scan.{pieceAt, next-more}
 use Rattle.reader.specs.Fill.{Says}
 use Rattle.reader.specs.RowOperands.{rowOperands, row-says, row-ready}
-use Rattle.reader.specs.FillSteps.{Room, Fills, fills-bounded, fills-long, fills-formed, fills-room, fills-ready, fills-refused, fills-taken}
+use Rattle.reader.specs.FillSteps.{Room, Fills, fills-bounded, fills-long, fills-formed, fills-ready, fills-refused, fills-taken}
 use Rattle.reader.specs.FillLoop.{Accepts, rowsIn, zeroed-start, text-ends, text-goes-on}
 use Rattle.reader.proofs.fill.fill.Statement.{statement}
 use Rattle.reader.proofs.fill.fill.Tie as tie
@@ -154,27 +154,20 @@ returns-2 c =
 enum-known-n : tie.Need-enum-known-n Inv-loop μ-loop
 enum-known-n c = search needs
 
-sub-row-operands : tie.Need-sub-row-operands Inv-loop μ-loop
-sub-row-operands c = search needs
+sub-write-text-row : tie.Need-sub-write-text-row Inv-loop μ-loop
+sub-write-text-row c = search needs
 
-part-row-operands-start : tie.Need-part-row-operands-start Inv-loop μ-loop
-part-row-operands-start c = search needs
+part-write-text-row-start : tie.Need-part-write-text-row-start Inv-loop μ-loop
+part-write-text-row-start c = search needs
 
-part-row-operands-end : tie.Need-part-row-operands-end Inv-loop μ-loop
-part-row-operands-end c = search needs
+part-write-text-row-end : tie.Need-part-write-text-row-end Inv-loop μ-loop
+part-write-text-row-end c = search needs
 
-row-operands-requires : tie.Need-row-operands-requires Inv-loop μ-loop
-row-operands-requires c κs =
+write-text-row-requires : tie.Need-write-text-row-requires Inv-loop μ-loop
+write-text-row-requires c κs =
     let row : tie.After-accepted-row Inv-loop μ-loop = search in
     let more = row .before .before in
-    (row-ready (piece more) (row .accepted-row .result) (row .accepted-row .ensures), fills-room (room more) (ahead more) (says row))
-
-write-row-requires : tie.Need-write-row-requires Inv-loop μ-loop
-write-row-requires c κs =
-    let put : tie.After-row-operands Inv-loop μ-loop = search in
-    let row : tie.After-accepted-row Inv-loop μ-loop = search in
-    let more = row .before .before in
-    fills-ready (room more) (ahead more) (says row) (put .row-operands .result) (put .row-operands .ensures .given)
+    (row-ready (piece more) (row .accepted-row .result) (row .accepted-row .ensures), fills-ready (room more) (ahead more) (says row))
 
 add-at : tie.Need-add-at Inv-loop μ-loop
 add-at c =
@@ -192,14 +185,13 @@ loop-less c =
 
 loop-again : tie.Need-loop-again Inv-loop μ-loop
 loop-again c =
-    let wrote : tie.After-write-row Inv-loop μ-loop = search in
-    let put : tie.After-row-operands Inv-loop μ-loop = search in
+    let wrote : tie.After-write-text-row Inv-loop μ-loop = search in
     let took : tie.After-n Inv-loop μ-loop = search in
     let step : tie.After-step-row Inv-loop μ-loop = search in
     let row : tie.After-accepted-row Inv-loop μ-loop = search in
     let more = row .before .before in
     let z = row-inside more in
-    (omega arith, loop-of more .loop .inv .1, fills-taken (room more) (ahead more) (says row) (step .step-row .ensures) (took .n .given .1) (put .row-operands .ensures) (wrote .write-row .ensures))
+    (omega arith, loop-of more .loop .inv .1, fills-taken (room more) (ahead more) (says row) (step .step-row .ensures) (took .n .given .1) (wrote .write-text-row .ensures))
 
 pub fill-spec : {M : Type 1} → statement M
 fill-spec =
@@ -229,11 +221,10 @@ fill-spec =
     same-length-6
     returns-2
     enum-known-n
-    sub-row-operands
-    part-row-operands-start
-    part-row-operands-end
-    row-operands-requires
-    write-row-requires
+    sub-write-text-row
+    part-write-text-row-start
+    part-write-text-row-end
+    write-text-row-requires
     add-at
     loop-less
     loop-again)
