@@ -19,7 +19,8 @@ use Rattle.graph.specs.Nodes.{NodeStmt, Node, nodes}
 use Rattle.graph.specs.NodeWords.{stmtWord, stmtNumber}
 use Rattle.graph.specs.Print.{printedRefusal}
 use Rattle.graph.specs.Build.{Built, graph, build}
-use Rattle.wiring.specs.GraphTables.{Sizes, Tables, tablesOf, capacity, BuildWrote, Answered}
+use Rattle.passes.specs.TableForms.{Sizes, Tables, tablesOf, capacity}
+use Rattle.wiring.specs.GraphTables.{BuildWrote, Answered}
 use Rattle.formatting.specs.Printing.{Puts, puts-none, puts-is}
 use Rattle.wiring.specs.BuildAnswers.{text-read, accepted-built, refused-by}
 use Rattle.wiring.specs.declared.build.Built.{Built as BuiltAnswer}

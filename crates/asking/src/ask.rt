@@ -4,7 +4,7 @@ use answers::text::listing_length;
 use formatting::print_rows::put_refusal;
 use wiring::build::Built;
 use wiring::build::build;
-ghost use Rattle.wiring.specs.GraphTables.{sizesOf};
+ghost use Rattle.passes.specs.TableForms.{sizesOf};
 ghost use Rattle.answers.specs.AnswersAt.{answerAt};
 ghost use Rattle.answers.specs.TextLaws.{CutAt};
 ghost use Rattle.asking.specs.Asked.{QuestionsAnswered, TextAsked};

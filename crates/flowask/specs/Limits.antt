@@ -8,7 +8,7 @@ use lib.Seq.{length-sets}
 use borrow.Author.Tests.{le-leb, lt-leb}
 use Rattle.graph.specs.Print.{printedRefusal}
 use Rattle.graph.specs.Build.{Capacity, limits}
-use Rattle.wiring.specs.GraphTables.{Sizes}
+use Rattle.passes.specs.TableForms.{Sizes}
 use Rattle.formatting.specs.Printing.{Puts, puts-is}
 use Rattle.printing.specs.PrintLength.{refusal-length}
 use Rattle.wiring.specs.Limits.{at-limits}

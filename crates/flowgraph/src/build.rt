@@ -2,7 +2,7 @@
 use telling::build::tell_built;
 use wiring::build::build;
 ghost use Rattle.graph.specs.Build.{build as builtBy};
-ghost use Rattle.wiring.specs.GraphTables.{sizesOf, capacity};
+ghost use Rattle.passes.specs.TableForms.{sizesOf, capacity};
 ghost use Rattle.telling.specs.BuildTold.{BuildTold};
 
 #[no_mangle]

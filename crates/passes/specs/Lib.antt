@@ -79,3 +79,4 @@ pub mod GraphHeld
 pub mod GraphReads
 pub mod Spread
 pub mod SpreadLaws
+pub mod TableForms

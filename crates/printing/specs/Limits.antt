@@ -6,7 +6,7 @@ use native.Mathlib.Omega.{arith}
 use lib.ListN.{length, take, drop}
 use lib.Seq.{length-sets, sets-eq, take-at}
 use Rattle.graph.specs.Build.{Capacity, build, written, flowlist}
-use Rattle.wiring.specs.GraphTables.{Sizes}
+use Rattle.passes.specs.TableForms.{Sizes}
 use Rattle.wiring.specs.Limits.{at-limits}
 use Rattle.formatting.specs.Printing.{Puts, puts-is}
 use Rattle.printing.specs.ListGraph.{GraphListed}

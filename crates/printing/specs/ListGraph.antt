@@ -6,7 +6,8 @@ use lib.ListN.{getD}
 use Rattle.listings.specs.Listing.{Listing}
 use Rattle.graph.specs.Print.{printedRefusal}
 use Rattle.graph.specs.Build.{graph, build, written}
-use Rattle.wiring.specs.GraphTables.{Sizes, Tables, tablesOf, capacity, Answered}
+use Rattle.passes.specs.TableForms.{Sizes, Tables, tablesOf, capacity}
+use Rattle.wiring.specs.GraphTables.{Answered}
 use Rattle.formatting.specs.Printing.{Puts, puts-is}
 use Rattle.passes.specs.GraphHeld.{GraphHeld}
 use Rattle.printing.specs.PrintedTables.{SomeGraph, GraphPrinted}

@@ -5,7 +5,7 @@ use tables::widths::count_of;
 use wiring::build::Built;
 use wiring::build::build;
 ghost use lib.ListN.{getD};
-ghost use Rattle.wiring.specs.GraphTables.{sizesOf};
+ghost use Rattle.passes.specs.TableForms.{sizesOf};
 ghost use Rattle.printing.specs.PrintedTables.{SomeGraph, GraphPrinted};
 ghost use Rattle.printing.specs.ListGraph.{GraphListed};
 

@@ -25,7 +25,7 @@ use Rattle.wiring.specs.WrittenLaws.{graph-held, listing-held, counts-held, nod
 use Rattle.wiring.specs.Refusals.{LongEnough}
 use Rattle.tables.specs.Columns.{succStart, succCount, callWord, wordOf, fallEntry, continuationEntry, succPart}
 use Rattle.passes.specs.GraphHeld.{GraphHeld}
-use Rattle.wiring.specs.GraphTables.{Sizes, Tables, Written}
+use Rattle.passes.specs.TableForms.{Sizes, Tables, Written}
 use Rattle.passes.specs.HoldsListing.{HoldsListing, holds-listed}
 use Rattle.passes.specs.ListedNodes.{SimpleListed, StmtListed, Listed, key-same}
 use Rattle.passes.specs.OpenerLaws.{some-at}

@@ -18,7 +18,8 @@ use Rattle.graph.specs.Build.{BuildNumber, edgeCount}
 use Rattle.graph.specs.Demand3.{Demand3}
 use Rattle.graph.specs.Questions.{Reply, answer, refused, askSuccessors, askPredecessors, askEntry, askStatement, askPath, askFrame}
 use Rattle.tables.specs.Columns.{wordOf, lineOf, continuationEntry, pathIn, succPart, predPart, entriesIn}
-use Rattle.wiring.specs.GraphTables.{Sizes, Tables, BuildWrote, Written, AllZero}
+use Rattle.passes.specs.TableForms.{Sizes, Tables, Written, AllZero}
+use Rattle.wiring.specs.GraphTables.{BuildWrote}
 use Rattle.wiring.specs.Refusals.{ListingOf, LongEnough, Refusal}
 use Rattle.wiring.specs.declared.build.Built.{Built as BuiltAnswer}
 use Rattle.wiring.specs.declared.build.Built.the-variants as built

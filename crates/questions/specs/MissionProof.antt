@@ -19,7 +19,8 @@ use Rattle.tables.specs.Columns.{wordOf, succPart, entriesIn}
 use Rattle.passes.specs.OpenerLaws.{in-range}
 use Rattle.passes.specs.GraphHeld.{GraphHeld}
 use Rattle.passes.specs.GraphReads.{reads, returns-are}
-use Rattle.wiring.specs.GraphTables.{Sizes, Tables, BuildWrote, Written}
+use Rattle.passes.specs.TableForms.{Sizes, Tables, Written}
+use Rattle.wiring.specs.GraphTables.{BuildWrote}
 use Rattle.wiring.specs.Refusals.{ListingOf, ReadAs, LongEnough}
 use Rattle.wiring.specs.WrittenLaws.{graph-held, counts-held, nodes-total, held-entries, held-succ, held-pred, held-continuation}
 use Rattle.wiring.specs.BuildAnswers.{text-read, decided, refuses, refused-by, carries-out, graph-of, long-enough, number-of}

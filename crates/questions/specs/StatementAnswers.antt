@@ -17,7 +17,7 @@ use Rattle.graph.specs.Graph.{wire, returnTargets}
 use Rattle.passes.specs.Compare.{lt-or}
 use Rattle.passes.specs.LineEntries.{at-place}
 use Rattle.tables.specs.Columns.{wordOf}
-use Rattle.wiring.specs.GraphTables.{Sizes, Tables, Written}
+use Rattle.passes.specs.TableForms.{Sizes, Tables, Written}
 use Rattle.wiring.specs.Refusals.{LongEnough}
 use Rattle.wiring.specs.WrittenLaws.{graph-held, counts-held}
 use Rattle.passes.specs.GraphHeld.{GraphHeld}

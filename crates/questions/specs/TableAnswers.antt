@@ -14,7 +14,7 @@ use Rattle.graph_laws.specs.NodeLaws.{Below, entry-fits}
 use Rattle.graph.specs.Graph.{wire, successors, predecessors, returnTargets}
 use Rattle.graph_laws.specs.GraphLaws.{nodeCount, entry-ids}
 use Rattle.tables.specs.Columns.{succStart, succCount, predStart, predCount, NodesReadable, entriesIn}
-use Rattle.wiring.specs.GraphTables.{Sizes, Tables, Written}
+use Rattle.passes.specs.TableForms.{Sizes, Tables, Written}
 use Rattle.passes.specs.GraphHeld.{GraphHeld}
 use Rattle.passes.specs.GraphReads.{nodes-readable}
 use Rattle.wiring.specs.WrittenLaws.{graph-held, counts-held, nodes-total, held-entries, held-succ, held-pred}

@@ -3,7 +3,8 @@ use Prim.Native.Nat.{ℕ}
 use mathlib.Core.Path.{_≡_, _∙_, ap, subst}
 use mathlib.Core.List.{List, [], _∷_}
 use Rattle.graph.specs.Build.{Built, graph, refused}
-use Rattle.wiring.specs.GraphTables.{Sizes, Answered, answerOf, answer-graph, answer-refused}
+use Rattle.passes.specs.TableForms.{Sizes}
+use Rattle.wiring.specs.GraphTables.{Answered, answerOf, answer-graph, answer-refused}
 use Rattle.wiring.specs.declared.build.Built.{Built as BuiltAnswer}
 use Rattle.wiring.specs.declared.build.Built.the-variants as answer
 

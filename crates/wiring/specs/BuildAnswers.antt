@@ -15,7 +15,8 @@ use Rattle.graph.specs.Build.{Capacity, Built, graph, refused, edgeCount, fitte
 use Rattle.graph_laws.specs.Theorems.{accepted, in-form}
 use Rattle.graph_laws.specs.Numbers.{read-refusal, answer-number}
 use Rattle.passes.specs.Room.{room-fits, fits-room}
-use Rattle.wiring.specs.GraphTables.{Sizes, capacity, capacity-is, Tables, Writes, BuildWrote, Written, AllZero, writes-graph, writes-refusal}
+use Rattle.passes.specs.TableForms.{Sizes, capacity, capacity-is, Tables, Written, AllZero}
+use Rattle.wiring.specs.GraphTables.{Writes, BuildWrote, writes-graph, writes-refusal}
 use Rattle.wiring.specs.Refusals.{ListingOf, ReadAs, LinesFit, NodesFit, EdgesFit, LongEnough, Refusal, input, noLines, noNodes, noEdges}
 use Rattle.wiring.specs.declared.build.Built.{Built as BuiltAnswer}
 use Rattle.wiring.specs.declared.build.Built.the-variants as answer

@@ -20,7 +20,8 @@ use Rattle.graph.specs.Build.{Capacity, Built, graph, refused, edgeCount, fitte
 use Rattle.passes.specs.HoldsListing.{HoldsListing}
 use Rattle.passes.specs.Reading.{readBy, FittingRead, Fits, ReadWithin, read-fits}
 use Rattle.passes.specs.Room.{stmtRoom, StmtsFit, room-fits}
-use Rattle.wiring.specs.GraphTables.{Sizes, sizesOf, tablesOf, capacity, capacity-is, Answered, edgesFitted, Zeroed, refusal-writes}
+use Rattle.passes.specs.TableForms.{Sizes, sizesOf, tablesOf, capacity, capacity-is}
+use Rattle.wiring.specs.GraphTables.{Answered, edgesFitted, Zeroed, refusal-writes}
 use Rattle.wiring.specs.declared.build.Built.{Built as BuiltAnswer}
 use Rattle.wiring.specs.declared.build.Built.the-variants as answer
 

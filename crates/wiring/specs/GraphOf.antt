@@ -15,7 +15,8 @@ use Rattle.passes.specs.LinkRows.{linkRows, prepared-links}
 use Rattle.passes.specs.HoldsListing.{HoldsListing}
 use Rattle.passes.specs.Preparing.{PrepareReady, PreparedTo}
 use Rattle.wiring.specs.Wiring.{WireHeld, WireReady, WiringDone, WiredTo}
-use Rattle.wiring.specs.GraphTables.{Zeroed, Sizes, sizesOf, Answered, edgesFitted, listTable, returnTable, succTable, predTable, tablesOf, graph-writes, line-table, stmt-table, arg-table, entries-table, fall-table, links-table}
+use Rattle.passes.specs.TableForms.{Sizes, sizesOf, listTable, returnTable, succTable, predTable, tablesOf, line-table, stmt-table, arg-table, entries-table, fall-table, links-table}
+use Rattle.wiring.specs.GraphTables.{Zeroed, Answered, edgesFitted, graph-writes}
 use Rattle.wiring.specs.BuildLaws.{GraphReady, GraphMade, all-zero}
 use Rattle.wiring.specs.declared.build.Built.the-variants as answer
 

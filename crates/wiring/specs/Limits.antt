@@ -3,7 +3,7 @@ use Prim.Native.Nat.{ℕ}
 use mathlib.Core.Path.{_≡_, sym, _∙_}
 use Rattle.graph.specs.Build.{limits}
 use Rattle.passes.specs.Room.{stmtRoom}
-use Rattle.wiring.specs.GraphTables.{Sizes, capacity, capacity-is}
+use Rattle.passes.specs.TableForms.{Sizes, capacity, capacity-is}
 
 numbers-at-limits : (l t a e f k i r u p : ℕ) → 1024 ≡ l → 49152 ≡ t → 262144 ≡ a → 1024 ≡ e → 12288 ≡ f → 262144 ≡ k → 16384 ≡ i → 4096 ≡ r
     → 32768 ≡ u → 32768 ≡ p

@@ -8,7 +8,7 @@ use Rattle.listings.specs.ListingText.{Within, InForm, listingText}
 use Rattle.listings.specs.Read.{Answer, listing, refusal}
 use Rattle.graph.specs.Build.{InputNumber, edgeCount}
 use Rattle.passes.specs.Room.{StmtsFit}
-use Rattle.wiring.specs.GraphTables.{Sizes}
+use Rattle.passes.specs.TableForms.{Sizes}
 
 -- "A listing that follows the bracket form and the limits of document 01": the text is that of L
 pub record ListingOf (text : List ℕ) (L : Listing) : Type 0 where

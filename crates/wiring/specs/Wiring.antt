@@ -9,7 +9,7 @@ use Rattle.listings.specs.Listing.{Listing}
 use Rattle.listings.specs.Records.{padded, countsOf}
 use Rattle.graph.specs.Build.{edgeCount}
 use Rattle.passes.specs.Prepared.{LinksPrepared}
-use Rattle.wiring.specs.GraphTables.{countTable, listTable, returnTable, succTable, predTable}
+use Rattle.passes.specs.TableForms.{countTable, listTable, returnTable, succTable, predTable}
 
 -- the tables before, where the lists are zero
 pub record WireHeld (L : Listing) (handlers : Bool) (c n : ℕ) (counts stmts args entries falls links succ pred : List ℕ) : Type 0 where

@@ -23,7 +23,7 @@ use Rattle.passes.specs.PredecessorLists.{Ready, Written, Successors, stored-su
 use Rattle.passes.specs.EdgeCount.{edges-joined}
 use Rattle.passes.specs.FinalLists.{finalList, FinalTables, SkipsHeld, WritesReady, WritesDone, few-through, finals-are, writes-ready}
 use Rattle.passes.specs.PreparedLaws.{return-row}
-use Rattle.wiring.specs.GraphTables.{countTable, listTable, succTable, predTable, count-table, list-table, return-table, succ-table, pred-table}
+use Rattle.passes.specs.TableForms.{countTable, listTable, succTable, predTable, count-table, list-table, return-table, succ-table, pred-table}
 use Rattle.wiring.specs.Wiring.{WiredGraph}
 
 -- ---- what the tables hold

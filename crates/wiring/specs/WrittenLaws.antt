@@ -26,7 +26,7 @@ use Rattle.passes.specs.Held.{lines-held}
 use Rattle.passes.specs.FallLaws.{rows-length}
 use Rattle.passes.specs.TableReads.{fall-of}
 use Rattle.tables.specs.Columns.{fallEntry, continuationEntry, wordOf, succPart, predPart, entryNode, entriesIn}
-use Rattle.wiring.specs.GraphTables.{Sizes, Tables, Written, count-table, line-table, stmt-table, arg-table, entries-table, fall-table, list-table, return-table, succ-table, pred-table}
+use Rattle.passes.specs.TableForms.{Sizes, Tables, Written, count-table, line-table, stmt-table, arg-table, entries-table, fall-table, list-table, return-table, succ-table, pred-table}
 use Rattle.wiring.specs.Refusals.{LongEnough}
 use Rattle.passes.specs.GraphHeld.{GraphHeld}
 use Rattle.passes.specs.HoldsListing.{HoldsListing}

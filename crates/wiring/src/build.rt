@@ -10,7 +10,8 @@ use reader::tables::zero64;
 ghost use mathlib.Core.Path.{_≡_};
 ghost use lib.ListN.{replicate};
 ghost use Rattle.listings.specs.Read.{read};
-ghost use Rattle.wiring.specs.GraphTables.{Zeroed, sizesOf, tablesOf, BuildWrote};
+ghost use Rattle.passes.specs.TableForms.{sizesOf, tablesOf};
+ghost use Rattle.wiring.specs.GraphTables.{Zeroed, BuildWrote};
 ghost use Rattle.wiring.specs.BuildLaws.{GraphReady, GraphMade};
 
 // The graph is in the tables, or document 01's number and place.
