@@ -43,7 +43,7 @@ pub fn no_marks() -> [bool; MAX_STMTS]
     [false; MAX_STMTS]
 }
 
-pub fn no_work() -> [u16; MAX_STMTS]
+pub(crate) fn no_work() -> [u16; MAX_STMTS]
     ensures { λ r. ⌜ length r ≡ 4096 ⌝ }
 {
     [0u16; MAX_STMTS]

@@ -9,7 +9,6 @@ use layout::limits::MAX_EDGES;
 use layout::limits::MAX_STMTS;
 use walks::regions::region_return_edges;
 use walks::return_totals::count_returns;
-use walks::walk::no_work;
 ghost use mathlib.Core.Path.{_≡_};
 ghost use mathlib.Core.Bool.{true, _&&_};
 ghost use Prim.Native.Nat.{min};
@@ -37,6 +36,13 @@ fn no_scratch() -> [u16; 36864]
     ensures { λ r. ⌜ length r ≡ 36864 ⌝ }
 {
     [0u16; 36864]
+}
+
+// Room for one list.
+fn no_work() -> [u16; MAX_STMTS]
+    ensures { λ r. ⌜ length r ≡ 4096 ⌝ }
+{
+    [0u16; MAX_STMTS]
 }
 
 // Three entries for each of 4,096 statements; in a function of its own, as marks are.
