@@ -8,6 +8,7 @@ Calls: names, order and types of parameters and results, from the functions that
 Constants: limits, entries of each table, columns, opening words and refusals, from the Rattle sources and docs/DECISIONS.md.
 """
 
+import math
 import os
 import re
 import sys
@@ -16,19 +17,13 @@ HERE = os.path.dirname(os.path.abspath(__file__))
 HEADER, RUST, WORDS = "include/flowgraph.h", "rust/src/ffi.rs", "rust/src/word.rs"
 LIBRARY = "crates/flowgraph/src"
 DECISIONS, ROOM, SIZES = "docs/DECISIONS.md", "crates/wiring/src/room.rt", "crates/flowlist/src/main.rt"
-COLUMNS, OPENING = "crates/reader/src/tables.rt", "crates/tokens/src/words.rt"
-LIMITS = {
-    "MAX_BYTES": ("crates/reader/src/judge.rt", "MAX_BYTES"),
-    "MAX_LINES": ("crates/reader/src/machine.rt", "MAX_LINES"),
-    "MAX_STATEMENTS": ("crates/reader/src/machine.rt", "MAX_STMTS"),
-    "MAX_EDGES": ("crates/wiring/src/skip_lists.rt", "MOST_EDGES"),
-    "MAX_DEPTH": ("crates/reader/src/machine.rt", "MAX_DEPTH"),
-}
+COLUMNS, LIMIT_CONSTANTS, OPENING = "crates/layout/src/columns.rt", "crates/layout/src/limits.rt", "crates/tokens/src/words.rt"
+LIMITS = {"MAX_BYTES": "MAX_BYTES", "MAX_LINES": "MAX_LINES", "MAX_STATEMENTS": "MAX_STMTS", "MAX_EDGES": "MAX_EDGES", "MAX_DEPTH": "MAX_DEPTH"}
 TABLES = ["lines", "stmts", "args", "entries", "falls", "links", "lists", "returns", "succ", "pred"]
 # What has entries of its own in a table, other than a statement.
 PER = {"lines": "MAX_LINES", "entries": "MAX_LINES", "succ": "MAX_EDGES", "pred": "MAX_EDGES"}
 C_TYPES = {"u8": "uint8_t", "u16": "uint16_t", "u32": "uint32_t", "u64": "uint64_t", "usize": "size_t", "bool": "bool"}
-CRATES = ["tokens", "reader", "wiring", "adjacency", "statements", "frame_slices", "frame_lists"]
+CRATES = ["tokens", "reader", "walks", "wiring", "adjacency", "statements", "frame_slices", "frame_lists"]
 
 
 class Files:
@@ -126,6 +121,17 @@ def constant(text, name):
     return int(re.search(rf"const {name}: \w+ = (\d+);", text)[1])
 
 
+def value(files, name):
+    """A number, or a constant of the layout: a number, or a product of such."""
+    if name.isdigit():
+        return int(name)
+    for path in (LIMIT_CONSTANTS, COLUMNS):
+        found = re.search(rf"const {name}: \w+ = ([^;]+);", files[path])
+        if found:
+            return math.prod(value(files, factor) for factor in found[1].split(" * "))
+    return None
+
+
 def entries_by_room(files):
     """Entries for each line or statement, as the wiring divides by them; an edge table has one for each edge."""
     found = {"succ": 1, "pred": 1}
@@ -165,7 +171,7 @@ def given_refusals(files):
 
 def due_constants(files):
     """What the header must define, from the sources."""
-    due = {name: constant(files[path], source) for name, (path, source) in LIMITS.items()}
+    due = {name: constant(files[LIMIT_CONSTANTS], source) for name, source in LIMITS.items()}
     decided = decided_tables(files)
     for table in TABLES:
         each = decided[table][0]
@@ -208,7 +214,7 @@ def compare_constants(files, say):
 def compare_tables(files, say):
     """The layout in words, in the code and in the program that lends tables at all limits."""
     decided, room = decided_tables(files), entries_by_room(files)
-    lent = dict(re.findall(r"let mut (\w+) = (\[0u\d+; \d+\]);", files[SIZES]))
+    lent = {table: f"[{zero}; {value(files, n)}]" for table, zero, n in re.findall(r"let mut (\w+) = \[(0u\d+); (\w+)\];", files[SIZES])}
     found = header_constants(files[HEADER])
     for table in TABLES:
         entries, kind = decided[table]
@@ -265,8 +271,8 @@ DAMAGE = [
     (RUST, r"        header: usize,\n        node: usize,", "        node: usize,\n        header: usize,"),
     (RUST, r"counts: \*mut \[u32; 5\]", "counts: *mut [u32; 6]"),
     (WORDS, r'    For "for",\n    Next "next",', '    Next "next",\n    For "for",'),
-    (ROOM, r"falls / 3", "falls / 4"),
-    (SIZES, r"\[0u16; 12288\]", "[0u16; 12289]"),
+    (ROOM, r"falls / FALL_ENTRIES", "falls / LIST_ENTRIES"),
+    (SIZES, r"\[0u16; FALLS_LENGTH\]", "[0u16; LISTS_LENGTH]"),
     (DECISIONS, r"\| `lists` \| 4 a", "| `lists` | 5 a"),
     (OPENING, r"\[105, 102, 0,", "[105, 103, 0,"),
     (COLUMNS, r"const INDEX: usize = 3", "const INDEX: usize = 4"),
