@@ -26,19 +26,21 @@ extern "C" {
 #define FLOW_MAX_EDGES 32768
 #define FLOW_MAX_DEPTH 16
 
-/* `counts`: how many lines and statements, 1 where the listing has handlers, how many edges and return targets. */
-#define FLOW_COUNTS 5
+/* `counts`: how many lines and statements, 1 where the listing has handlers, how many edges, return targets and rows of
+ * `entries`. */
+#define FLOW_COUNTS 6
 #define FLOW_COUNT_LINES 0
 #define FLOW_COUNT_STATEMENTS 1
 #define FLOW_COUNT_HANDLERS 2
 #define FLOW_COUNT_EDGES 3
 #define FLOW_COUNT_RETURNS 4
+#define FLOW_COUNT_ENTRIES 5
 
 /* Entries of each table for a line (lines, entries), an edge (succ, pred) or a statement (all others). */
 #define FLOW_LINES_EACH 1
 #define FLOW_STMTS_EACH 12
 #define FLOW_ARGS_EACH 64
-#define FLOW_ENTRIES_EACH 1
+#define FLOW_ENTRIES_EACH 2
 #define FLOW_FALLS_EACH 3
 #define FLOW_LINKS_EACH 64
 #define FLOW_LISTS_EACH 4
@@ -50,7 +52,7 @@ extern "C" {
 #define FLOW_LINES_SIZE 1024
 #define FLOW_STMTS_SIZE 49152
 #define FLOW_ARGS_SIZE 262144
-#define FLOW_ENTRIES_SIZE 1024
+#define FLOW_ENTRIES_SIZE 2048
 #define FLOW_FALLS_SIZE 12288
 #define FLOW_LINKS_SIZE 262144
 #define FLOW_LISTS_SIZE 16384
@@ -71,6 +73,10 @@ extern "C" {
 #define FLOW_STMT_NUMBER2 9
 #define FLOW_STMT_COUNT 10  /* how many numbers or slots */
 #define FLOW_STMT_DETAIL 11 /* FOR's tier, NEXT's mark */
+
+/* A row of `entries`, ascending by line number. */
+#define FLOW_ENTRY_NUMBER 0 /* a line's number */
+#define FLOW_ENTRY_NODE 1   /* the node where a jump to it starts, or none */
 
 /* In `falls`: the node that a statement falls to, or none; of a call that is its continuation. */
 #define FLOW_FALL_NEXT 0
@@ -129,7 +135,7 @@ extern "C" {
  * its place in `place`, and every entry of every table zero. What the tables held before does not matter. */
 uint8_t flow_build(
     const uint8_t *text, size_t text_len,
-    uint32_t counts[5],
+    uint32_t counts[6],
     uint16_t *lines, size_t lines_len,
     uint16_t *stmts, size_t stmts_len,
     uint64_t *args, size_t args_len,
@@ -146,7 +152,7 @@ uint8_t flow_build(
 
 /* A node's successors in their order: `answer[1]` entries of `succ` from `answer[0]` on. Refused: 24, 25. */
 uint8_t flow_successors(
-    const uint32_t counts[5],
+    const uint32_t counts[6],
     const uint16_t *lists, size_t lists_len,
     const uint16_t *succ, size_t succ_len,
     size_t node,
@@ -154,7 +160,7 @@ uint8_t flow_successors(
 
 /* A node's predecessors, ascending: the same of `pred`. */
 uint8_t flow_predecessors(
-    const uint32_t counts[5],
+    const uint32_t counts[6],
     const uint16_t *lists, size_t lists_len,
     const uint16_t *pred, size_t pred_len,
     size_t node,
@@ -162,14 +168,14 @@ uint8_t flow_predecessors(
 
 /* A node's statement: `answer` is its node id and the index of its opening word. Refused: 24, 25, 26. */
 uint8_t flow_statement(
-    const uint32_t counts[5],
+    const uint32_t counts[6],
     const uint16_t *stmts, size_t stmts_len,
     size_t node,
     size_t answer[2]);
 
 /* The statement at a path, a line index and numbers: the same answer. Refused: 25, 26. */
 uint8_t flow_path(
-    const uint32_t counts[5],
+    const uint32_t counts[6],
     const uint16_t *stmts, size_t stmts_len,
     size_t line,
     const uint16_t *path, size_t path_len,
@@ -177,8 +183,7 @@ uint8_t flow_path(
 
 /* Where a jump to a line number starts: `answer` is a node and 1, or 0 and 0 for none. Refused: 25. */
 uint8_t flow_entry(
-    const uint32_t counts[5],
-    const uint16_t *lines, size_t lines_len,
+    const uint32_t counts[6],
     const uint16_t *entries, size_t entries_len,
     uint16_t number,
     size_t answer[2]);
@@ -187,7 +192,7 @@ uint8_t flow_entry(
  * `answer[0]` of them stand in `out`, with zeros after; `answer[1]` is 0. Refused: 3, 24 (the header first), 25, 26, 28; `out`
  * is then as it was. */
 uint8_t flow_frame(
-    const uint32_t counts[5],
+    const uint32_t counts[6],
     const uint16_t *stmts, size_t stmts_len,
     const uint64_t *args, size_t args_len,
     const uint16_t *falls, size_t falls_len,

@@ -180,9 +180,10 @@ def due_constants(files):
     due["COUNTS"] = decided["counts"][0]
     kept = re.search(r"^\| `counts` .*?\| ([^|]*) \| [^|]* \|$", files[DECISIONS], flags=re.M)[1]
     for i, what in enumerate(re.split(r"[,;] ", kept)):
-        due["COUNT_" + {"return targets": "RETURNS"}.get(what, what.upper())] = i
+        due["COUNT_" + {"return targets": "RETURNS", "entry rows": "ENTRIES"}.get(what, what.upper())] = i
     columns = ["WORD", "LINE", "HOLDER", "INDEX", "END", "SECOND", "FORM1", "NUMBER1", "FORM2", "NUMBER2", "COUNT", "DETAIL"]
     due.update({f"STMT_{c}": constant(files[COLUMNS], c) for c in columns})
+    due.update({c: constant(files[COLUMNS], c) for c in ("ENTRY_NUMBER", "ENTRY_NODE")})
     due["FALL_NEXT"] = 0
     words = opening_words(files)
     due["WORDS"] = len(words)
@@ -269,13 +270,15 @@ DAMAGE = [
     (RUST, r"pub const STMTS_EACH: usize = 12", "pub const STMTS_EACH: usize = 13"),
     (RUST, r"\*const u8, name_len", "*const u16, name_len"),
     (RUST, r"        header: usize,\n        node: usize,", "        node: usize,\n        header: usize,"),
-    (RUST, r"counts: \*mut \[u32; 5\]", "counts: *mut [u32; 6]"),
+    (RUST, r"counts: \*mut \[u32; 6\]", "counts: *mut [u32; 5]"),
     (WORDS, r'    For "for",\n    Next "next",', '    Next "next",\n    For "for",'),
     (ROOM, r"falls / FALL_ENTRIES", "falls / LIST_ENTRIES"),
     (SIZES, r"\[0u16; FALLS_LENGTH\]", "[0u16; LISTS_LENGTH]"),
     (DECISIONS, r"\| `lists` \| 4 a", "| `lists` | 5 a"),
     (OPENING, r"\[105, 102, 0,", "[105, 103, 0,"),
     (COLUMNS, r"const INDEX: usize = 3", "const INDEX: usize = 4"),
+    (COLUMNS, r"const ENTRY_NODE: usize = 1", "const ENTRY_NODE: usize = 0"),
+    (COLUMNS, r"const ENTRY_ENTRIES: usize = 2", "const ENTRY_ENTRIES: usize = 3"),
 ]
 
 

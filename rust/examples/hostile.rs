@@ -146,7 +146,7 @@ fn long(random: &mut Random) -> Vec<u8> {
 // ---- answers
 
 fn fill(tables: &mut Tables) {
-    tables.counts = [u32::MAX; 5];
+    tables.counts = [u32::MAX; 6];
     tables.args.fill(u64::MAX);
     each(tables, |table| table.fill(65535));
 }
@@ -164,17 +164,18 @@ fn zero(part: &[u16]) -> bool {
 }
 
 fn all_zero(tables: &mut Tables) -> bool {
-    let mut all = tables.counts == [0; 5] && tables.args.iter().all(|&e| e == 0);
+    let mut all = tables.counts == [0; 6] && tables.args.iter().all(|&e| e == 0);
     each(tables, |table| all &= zero(table));
     all
 }
 
 fn zero_past_the_used(t: &Tables) -> bool {
-    let [lines, n, _, edges, returns] = t.counts.map(|n| n as usize);
+    let [lines, n, _, edges, returns, rows] = t.counts.map(|n| n as usize);
     let of_statements = [(&t.stmts, 12), (&t.falls, 3), (&t.links, 64), (&t.lists, 4)];
     of_statements.iter().all(|(table, each)| zero(&table[n * each..]))
         && t.args[n * 64..].iter().all(|&e| e == 0)
-        && [&t.lines, &t.entries].iter().all(|table| zero(&table[lines..]))
+        && zero(&t.lines[lines..])
+        && zero(&t.entries[rows * 2..])
         && [&t.succ, &t.pred].iter().all(|table| zero(&table[edges..]))
         && zero(&t.returns[returns..])
 }
@@ -206,9 +207,9 @@ fn answer(text: &[u8], random: &mut Random) -> Result<Tables, Refusal> {
 fn shortened(text: &[u8], answer: &Result<Tables, Refusal>, random: &mut Random) {
     let need = match answer {
         Ok(tables) => tables.counts.map(|n| n as usize),
-        Err(_) => [0; 5],
+        Err(_) => [0; 6],
     };
-    let [lines, statements, _, edges, _] = need;
+    let [lines, statements, _, edges, _, _] = need;
     let room = [random.below(lines + 2), random.below(statements + 2), random.below(edges + 2)];
     let found = build(Tables::with_room(room[0], room[1], room[2]).clone(), text);
     let due = match answer {

@@ -12,7 +12,7 @@ pub const MAX_EDGES: usize = 32768;
 /// The greatest depth of a statement.
 pub const MAX_DEPTH: usize = 16;
 
-pub const COUNTS: usize = 5;
+pub const COUNTS: usize = 6;
 pub const COUNT_LINES: usize = 0;
 pub const COUNT_STATEMENTS: usize = 1;
 pub const COUNT_HANDLERS: usize = 2;
@@ -21,7 +21,7 @@ pub const COUNT_RETURNS: usize = 4;
 pub const LINES_EACH: usize = 1;
 pub const STMTS_EACH: usize = 12;
 pub const ARGS_EACH: usize = 64;
-pub const ENTRIES_EACH: usize = 1;
+pub const ENTRIES_EACH: usize = 2;
 pub const FALLS_EACH: usize = 3;
 pub const LINKS_EACH: usize = 64;
 pub const LISTS_EACH: usize = 4;
@@ -44,7 +44,7 @@ pub const OUTSIDE: u8 = 25;
 extern "C" {
     pub fn flow_build(
         text: *const u8, text_len: usize,
-        counts: *mut [u32; 5],
+        counts: *mut [u32; 6],
         lines: *mut u16, lines_len: usize,
         stmts: *mut u16, stmts_len: usize,
         args: *mut u64, args_len: usize,
@@ -59,7 +59,7 @@ extern "C" {
     ) -> u8;
 
     pub fn flow_successors(
-        counts: *const [u32; 5],
+        counts: *const [u32; 6],
         lists: *const u16, lists_len: usize,
         succ: *const u16, succ_len: usize,
         node: usize,
@@ -67,7 +67,7 @@ extern "C" {
     ) -> u8;
 
     pub fn flow_predecessors(
-        counts: *const [u32; 5],
+        counts: *const [u32; 6],
         lists: *const u16, lists_len: usize,
         pred: *const u16, pred_len: usize,
         node: usize,
@@ -75,14 +75,14 @@ extern "C" {
     ) -> u8;
 
     pub fn flow_statement(
-        counts: *const [u32; 5],
+        counts: *const [u32; 6],
         stmts: *const u16, stmts_len: usize,
         node: usize,
         answer: *mut [usize; 2],
     ) -> u8;
 
     pub fn flow_path(
-        counts: *const [u32; 5],
+        counts: *const [u32; 6],
         stmts: *const u16, stmts_len: usize,
         line: usize,
         path: *const u16, path_len: usize,
@@ -90,15 +90,14 @@ extern "C" {
     ) -> u8;
 
     pub fn flow_entry(
-        counts: *const [u32; 5],
-        lines: *const u16, lines_len: usize,
+        counts: *const [u32; 6],
         entries: *const u16, entries_len: usize,
         number: u16,
         answer: *mut [usize; 2],
     ) -> u8;
 
     pub fn flow_frame(
-        counts: *const [u32; 5],
+        counts: *const [u32; 6],
         stmts: *const u16, stmts_len: usize,
         args: *const u64, args_len: usize,
         falls: *const u16, falls_len: usize,

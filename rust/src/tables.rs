@@ -20,7 +20,7 @@ pub struct Stmt {
 /// [`Cfg`](crate::Cfg), whose tables are always a graph. What each entry says is in the repository's `docs/DECISIONS.md`.
 #[derive(Debug, Clone, Default, PartialEq, Eq)]
 pub struct Tables {
-    /// Lines, statements, handlers (0 or 1), edges, return targets.
+    /// Lines, statements, handlers (0 or 1), edges, return targets, rows of `entries`.
     pub counts: [u32; ffi::COUNTS],
     /// The number of each line.
     pub lines: Vec<u16>,
@@ -28,7 +28,7 @@ pub struct Tables {
     pub stmts: Vec<u16>,
     /// 64 entries a statement: its numbers, names or slots.
     pub args: Vec<u64>,
-    /// Each line's entry, one more than the node, or 0.
+    /// 2 entries a line, ascending by number: the line's number, and one more than the node of its entry, or 0.
     pub entries: Vec<u16>,
     /// 3 entries a statement: where it falls, and where its branches lead.
     pub falls: Vec<u16>,
@@ -188,7 +188,6 @@ impl Tables {
         let refused = unsafe {
             ffi::flow_entry(
                 &self.counts,
-                self.lines.as_ptr(), self.lines.len(),
                 self.entries.as_ptr(), self.entries.len(),
                 number,
                 &mut answer,

@@ -20,7 +20,7 @@ pub(crate) fn entry_of(x: u16) -> usize
 }
 
 // Of the list whose start stands in this column of the node's record, and whose count stands in the next.
-fn ask_list(counts: &[u32; 5], lists: &[u16], size: usize, node: usize, column: usize) -> Asked
+fn ask_list(counts: &[u32; 6], lists: &[u16], size: usize, node: usize, column: usize) -> Asked
     requires { ⌜ column ≤ 2 ⌝ }
     ensures { λ r. ⌜ r ≡ askedOf (listAt (now (counts .entry)) (now (lists .entry)) size node (getD (now (lists .entry)) (node * 4 + column) 0) (getD (now (lists .entry)) (node * 4 + (column + 1)) 0)) ⌝ }
 {
@@ -51,20 +51,20 @@ fn ask_list(counts: &[u32; 5], lists: &[u16], size: usize, node: usize, column: 
     }
 }
 
-pub fn ask_successors(counts: &[u32; 5], lists: &[u16], succ: &[u16], node: usize) -> Asked
+pub fn ask_successors(counts: &[u32; 6], lists: &[u16], succ: &[u16], node: usize) -> Asked
     ensures { λ r. ⌜ r ≡ askedOf (successorsAt (now (counts .entry)) (now (lists .entry)) (length (now (succ .entry))) node) ⌝ }
 {
     ask_list(counts, lists, succ.len(), node, 0)
 }
 
-pub fn ask_predecessors(counts: &[u32; 5], lists: &[u16], pred: &[u16], node: usize) -> Asked
+pub fn ask_predecessors(counts: &[u32; 6], lists: &[u16], pred: &[u16], node: usize) -> Asked
     ensures { λ r. ⌜ r ≡ askedOf (predecessorsAt (now (counts .entry)) (now (lists .entry)) (length (now (pred .entry))) node) ⌝ }
 {
     ask_list(counts, lists, pred.len(), node, 2)
 }
 
 // The successors themselves: that part of the caller's table; empty where the question is refused.
-pub fn successors<'a>(counts: &[u32; 5], lists: &[u16], succ: &'a [u16], node: usize) -> &'a [u16]
+pub fn successors<'a>(counts: &[u32; 6], lists: &[u16], succ: &'a [u16], node: usize) -> &'a [u16]
     ensures { λ r. ⌜ now r ≡ partOf (successorsAt (now (counts .entry)) (now (lists .entry)) (length (now (succ .entry))) node) (now (succ .entry)) ⌝ }
 {
     match ask_successors(counts, lists, succ, node) {
@@ -79,7 +79,7 @@ pub fn successors<'a>(counts: &[u32; 5], lists: &[u16], succ: &'a [u16], node: u
     }
 }
 
-pub fn predecessors<'a>(counts: &[u32; 5], lists: &[u16], pred: &'a [u16], node: usize) -> &'a [u16]
+pub fn predecessors<'a>(counts: &[u32; 6], lists: &[u16], pred: &'a [u16], node: usize) -> &'a [u16]
     ensures { λ r. ⌜ now r ≡ partOf (predecessorsAt (now (counts .entry)) (now (lists .entry)) (length (now (pred .entry))) node) (now (pred .entry)) ⌝ }
 {
     match ask_predecessors(counts, lists, pred, node) {

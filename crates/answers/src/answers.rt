@@ -45,7 +45,7 @@ ghost use Rattle.answers.specs.QuestionWords.{formAt};
 fn put_successors(
     out: &mut [u8],
     at: usize,
-    counts: &[u32; 5],
+    counts: &[u32; 6],
     lists: &[u16],
     succ: &[u16],
     node: usize,
@@ -60,7 +60,7 @@ fn put_successors(
 fn put_predecessors(
     out: &mut [u8],
     at: usize,
-    counts: &[u32; 5],
+    counts: &[u32; 6],
     lists: &[u16],
     pred: &[u16],
     node: usize,
@@ -78,7 +78,7 @@ fn put_by_number(
     at: usize,
     word: usize,
     n: u16,
-    counts: &[u32; 5],
+    counts: &[u32; 6],
     lines: &[u16],
     stmts: &[u16],
     entries: &[u16],
@@ -97,7 +97,7 @@ fn put_by_number(
     if word == STATEMENT {
         return put_stated(out, at, stmt_at(counts, stmts, wide(n)));
     }
-    put_entered(out, at, line_first(counts, lines, entries, n))
+    put_entered(out, at, line_first(counts, entries, n))
 }
 
 // A number's value, 0 where it is none.
@@ -142,7 +142,7 @@ fn put_path(
     at: usize,
     s: &[u8],
     n: usize,
-    counts: &[u32; 5],
+    counts: &[u32; 6],
     stmts: &[u16],
 ) -> usize
     requires { ⌜ (n ≡ length (split 32 (now s))) × (n ≤ 65) ⌝ }
@@ -160,7 +160,7 @@ fn answer_path(
     at: usize,
     k: usize,
     s: &[u8],
-    counts: &[u32; 5],
+    counts: &[u32; 6],
     stmts: &[u16],
 ) -> usize
     ensures { λ r. ⌜ Puts (now (out .entry)) at (now (out .exit)) r (outcomeRow (answerAt (now (counts .entry)) [] (now (stmts .entry)) [] [] [] [] [] []) k (orRefused (pathQuestion (split 32 (now (s .entry)))) short)) ⌝ }
@@ -185,7 +185,7 @@ fn frame_room() -> [u16; MAX_STMTS]
 fn put_frame(
     out: &mut [u8],
     at: usize,
-    counts: &[u32; 5],
+    counts: &[u32; 6],
     stmts: &[u16],
     args: &[u64],
     falls: &[u16],
@@ -224,7 +224,7 @@ fn answer_frame(
     at: usize,
     k: usize,
     s: &[u8],
-    counts: &[u32; 5],
+    counts: &[u32; 6],
     stmts: &[u16],
     args: &[u64],
     falls: &[u16],
@@ -265,7 +265,7 @@ fn answer_words(
     k: usize,
     word: usize,
     s: &[u8],
-    counts: &[u32; 5],
+    counts: &[u32; 6],
     lines: &[u16],
     stmts: &[u16],
     args: &[u64],
@@ -310,7 +310,7 @@ pub(crate) fn answer_row(
     at: usize,
     k: usize,
     w: &[u8],
-    counts: &[u32; 5],
+    counts: &[u32; 6],
     lines: &[u16],
     stmts: &[u16],
     args: &[u64],

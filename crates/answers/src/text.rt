@@ -32,7 +32,7 @@ pub fn listing_length(text: &[u8]) -> usize
 pub fn answer_rows(
     out: &mut [u8],
     text: &[u8],
-    counts: &[u32; 5],
+    counts: &[u32; 6],
     lines: &[u16],
     stmts: &[u16],
     args: &[u64],

@@ -14,7 +14,7 @@ fn answer_questions(
     out: &mut [u8],
     text: &[u8],
     n: usize,
-    counts: &[u32; 5],
+    counts: &[u32; 6],
     lines: &[u16],
     stmts: &[u16],
     args: &[u64],
@@ -50,7 +50,7 @@ fn answer_questions(
 // Builds the graph of a text's listing in the lent tables and answers its questions, or gives the listing's refusal; answers where the next byte would go (the length of `out` if it did not fit).
 pub fn ask_text(
     text: &[u8],
-    counts: &mut [u32; 5],
+    counts: &mut [u32; 6],
     lines: &mut [u16],
     stmts: &mut [u16],
     args: &mut [u64],

@@ -18,7 +18,7 @@ use Rattle.asking.specs.Asked.{TextAsked}
 
 -- tables of these lengths: s
 pub asked-limits : (text : List ℕ) (s : Sizes) (c l t a e f k i r u p out out′ : List ℕ) (n : ℕ) → 1024 ≡ s .lines → 49152 ≡ s .stmts → 262144 ≡ s .args
-    → 1024 ≡ s .entries → 12288 ≡ s .falls → 262144 ≡ s .links → 16384 ≡ s .lists → 4096 ≡ s .returns → 32768 ≡ s .succ
+    → 2048 ≡ s .entries → 12288 ≡ s .falls → 262144 ≡ s .links → 16384 ≡ s .lists → 4096 ≡ s .returns → 32768 ≡ s .succ
     → 32768 ≡ s .pred → TextAsked text s c l t a e f k i r u p out out′ n → Puts out 0 out′ n (askText limits text)
 asked-limits text s c l t a e f k i r u p out out′ n hl ht ha he hf hk hi hr hu hp g =
     puts-is (ap (λ (z : Capacity). askText z text) (at-limits s hl ht ha he hf hk hi hr hu hp)) (g .asked)

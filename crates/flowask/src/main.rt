@@ -2,6 +2,7 @@
 use asking::ask::ask_text;
 use formatting::print_rows::put_refusal;
 use layout::limits::ARGS_LENGTH;
+use layout::limits::ENTRIES_LENGTH;
 use layout::limits::FALLS_LENGTH;
 use layout::limits::LINKS_LENGTH;
 use layout::limits::LISTS_LENGTH;
@@ -26,11 +27,11 @@ const MAX_ANSWERS: usize = 2097152;
 fn ask_at_limits(text: &[u8], out: &mut [u8]) -> usize
     ensures { λ r. ⌜ Puts (now (out .entry)) 0 (now (out .exit)) r (askText limits (now (text .entry))) ⌝ }
 {
-    let mut counts = [0u32; 5];
+    let mut counts = [0u32; 6];
     let mut lines = [0u16; MAX_LINES];
     let mut stmts = [0u16; STMTS_LENGTH];
     let mut args = [0u64; ARGS_LENGTH];
-    let mut entries = [0u16; MAX_LINES];
+    let mut entries = [0u16; ENTRIES_LENGTH];
     let mut falls = [0u16; FALLS_LENGTH];
     let mut links = [0u16; LINKS_LENGTH];
     let mut lists = [0u16; LISTS_LENGTH];

@@ -61,10 +61,9 @@ unfolding nodeIn
 node-numbered nodes none = tt
 node-numbered nodes (some i) = either Numbered (ltb i nodes) (answer (some i)) (refused 25 0) tt (omega arith)
 
-entry-numbered : (counts lines entries : List ℕ) (number : ℕ) → Numbered (entryAt counts lines entries number)
+entry-numbered : (counts entries : List ℕ) (number : ℕ) → Numbered (entryAt counts entries number)
 unfolding entryAt
-entry-numbered counts lines entries number =
-    either Numbered (leb (getD counts 0 0) (length lines)) _ _ (either Numbered (leb (getD counts 0 0) (length entries)) _ _ (node-numbered (getD counts 1 0) _) (omega arith)) (omega arith)
+entry-numbered counts entries number = either Numbered (leb (getD counts 5 0 * 2) (length entries)) _ _ (node-numbered (getD counts 1 0) _) (omega arith)
 
 stmt-numbered : (stmts : List ℕ) (h : ℕ) → Numbered (stmtAt stmts h)
 unfolding stmtAt
@@ -135,8 +134,8 @@ zero-statement counts stmts node = zero-answer _ (statement-numbered counts stmt
 pub zero-path : (counts stmts : List ℕ) (line : ℕ) (path : List ℕ) → codeOf (pathStatement counts stmts line path) ≡ 0 → (d : ℕ × ℕ) × (pathStatement counts stmts line path ≡ answer d)
 zero-path counts stmts line path = zero-answer _ (path-numbered counts stmts line path)
 
-pub zero-entry : (counts lines entries : List ℕ) (number : ℕ) → codeOf (entryAt counts lines entries number) ≡ 0 → (x : Option ℕ) × (entryAt counts lines entries number ≡ answer x)
-zero-entry counts lines entries number = zero-answer _ (entry-numbered counts lines entries number)
+pub zero-entry : (counts entries : List ℕ) (number : ℕ) → codeOf (entryAt counts entries number) ≡ 0 → (x : Option ℕ) × (entryAt counts entries number ≡ answer x)
+zero-entry counts entries number = zero-answer _ (entry-numbered counts entries number)
 
 pub zero-frame : (lines n : ℕ) (stmts args falls lists succ : List ℕ) (header node : ℕ) (name : List ℕ) (flag : Bool) (room : ℕ)
     → codeOf (frameAt lines n stmts args falls lists succ header node name flag room) ≡ 0 → (l : List ℕ) × (frameAt lines n stmts args falls lists succ header node name flag room ≡ answer l)

@@ -8,7 +8,7 @@ ghost use Rattle.telling.specs.BuildTold.{BuildTold};
 #[no_mangle]
 pub extern "C" fn flow_build(
     text: &[u8],
-    counts: &mut [u32; 5],
+    counts: &mut [u32; 6],
     lines: &mut [u16],
     stmts: &mut [u16],
     args: &mut [u64],

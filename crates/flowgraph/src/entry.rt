@@ -6,13 +6,12 @@ ghost use Rattle.telling.specs.QuestionTold.{entryWords, Told};
 
 #[no_mangle]
 pub extern "C" fn flow_entry(
-    counts: &[u32; 5],
-    lines: &[u16],
+    counts: &[u32; 6],
     entries: &[u16],
     number: u16,
     answer: &mut [usize; 2],
 ) -> u8
-    ensures { λ r. ⌜ Told entryWords (entryAt (now (counts .entry)) (now (lines .entry)) (now (entries .entry)) number) r (now (answer .exit)) ⌝ }
+    ensures { λ r. ⌜ Told entryWords (entryAt (now (counts .entry)) (now (entries .entry)) number) r (now (answer .exit)) ⌝ }
 {
-    tell_entered(line_first(counts, lines, entries, number), answer)
+    tell_entered(line_first(counts, entries, number), answer)
 }

@@ -7,7 +7,7 @@ ghost use Rattle.telling.specs.QuestionTold.{ListTold};
 
 #[no_mangle]
 pub extern "C" fn flow_frame(
-    counts: &[u32; 5],
+    counts: &[u32; 6],
     stmts: &[u16],
     args: &[u64],
     falls: &[u16],

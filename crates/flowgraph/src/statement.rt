@@ -7,7 +7,7 @@ ghost use Rattle.telling.specs.QuestionTold.{pairWords, Told};
 
 #[no_mangle]
 pub extern "C" fn flow_statement(
-    counts: &[u32; 5],
+    counts: &[u32; 6],
     stmts: &[u16],
     node: usize,
     answer: &mut [usize; 2],
@@ -19,7 +19,7 @@ pub extern "C" fn flow_statement(
 
 #[no_mangle]
 pub extern "C" fn flow_path(
-    counts: &[u32; 5],
+    counts: &[u32; 6],
     stmts: &[u16],
     line: usize,
     path: &[u16],

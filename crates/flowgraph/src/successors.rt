@@ -8,7 +8,7 @@ ghost use Rattle.telling.specs.QuestionTold.{pairWords, Told};
 
 #[no_mangle]
 pub extern "C" fn flow_successors(
-    counts: &[u32; 5],
+    counts: &[u32; 6],
     lists: &[u16],
     succ: &[u16],
     node: usize,
@@ -21,7 +21,7 @@ pub extern "C" fn flow_successors(
 
 #[no_mangle]
 pub extern "C" fn flow_predecessors(
-    counts: &[u32; 5],
+    counts: &[u32; 6],
     lists: &[u16],
     pred: &[u16],
     node: usize,

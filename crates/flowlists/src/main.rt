@@ -1,5 +1,6 @@
 // Framed texts on standard input (a row with the byte count, then the bytes); for each its graph or its refusal, framed in the same way.
 use layout::limits::ARGS_LENGTH;
+use layout::limits::ENTRIES_LENGTH;
 use layout::limits::FALLS_LENGTH;
 use layout::limits::LINKS_LENGTH;
 use layout::limits::LISTS_LENGTH;
@@ -59,11 +60,11 @@ fn next_length() -> Next {
 fn list_text(text: &[u8], out: &mut [u8; 1048576]) -> usize
     ensures { λ r. ⌜ Whole (now (out .exit)) r (flowlist (now (text .entry))) ⌝ }
 {
-    let mut counts = [0u32; 5];
+    let mut counts = [0u32; 6];
     let mut lines = [0u16; MAX_LINES];
     let mut stmts = [0u16; STMTS_LENGTH];
     let mut args = [0u64; ARGS_LENGTH];
-    let mut entries = [0u16; MAX_LINES];
+    let mut entries = [0u16; ENTRIES_LENGTH];
     let mut falls = [0u16; FALLS_LENGTH];
     let mut links = [0u16; LINKS_LENGTH];
     let mut lists = [0u16; LISTS_LENGTH];

@@ -55,7 +55,7 @@ fn keeps_shared(word: u16, flag: bool) -> bool
 
 // Of the successors of a NEXT those that the header has.
 fn keep_part(
-    counts: &[u32; 5],
+    counts: &[u32; 6],
     lists: &[u16],
     succ: &[u16],
     header: usize,
@@ -71,7 +71,7 @@ fn keep_part(
 }
 
 // All successors.
-fn copy_part(counts: &[u32; 5], lists: &[u16], succ: &[u16], node: usize, out: &mut [u16]) -> Framed
+fn copy_part(counts: &[u32; 6], lists: &[u16], succ: &[u16], node: usize, out: &mut [u16]) -> Framed
     requires { ⌜ PartInside (now counts) (now lists) (now succ) node ⌝ }
     ensures { λ r. ⌜ FrameTold (ifRoom (length (now (out .entry))) (succPart (now (lists .entry)) (now (succ .entry)) node)) (now (out .entry)) (now (out .exit)) r ⌝ }
 {
@@ -80,7 +80,7 @@ fn copy_part(counts: &[u32; 5], lists: &[u16], succ: &[u16], node: usize, out: &
 
 // By the node's opening word.
 fn write_frame(
-    counts: &[u32; 5],
+    counts: &[u32; 6],
     stmts: &[u16],
     args: &[u64],
     falls: &[u16],
@@ -183,7 +183,7 @@ fn key_answer(k: NameKey) -> u64
 
 // Once the name is known to be one. All is decided before the first entry is written.
 fn frame_of(
-    counts: &[u32; 5],
+    counts: &[u32; 6],
     lines: usize,
     n: usize,
     stmts: &[u16],
@@ -239,7 +239,7 @@ fn frame_of(
 
 // The frame question (document 01), on any tables.
 pub fn ask_frame(
-    counts: &[u32; 5],
+    counts: &[u32; 6],
     stmts: &[u16],
     args: &[u64],
     falls: &[u16],

@@ -1,4 +1,11 @@
 // The layout of the lent tables (docs/DECISIONS.md, "Tables"): how many entries a statement has in each, and what stands in them.
+// How many entries the table of line entries has for a line: its number, and its node.
+pub const ENTRY_ENTRIES: usize = 2;
+
+pub const ENTRY_NUMBER: usize = 0;
+
+pub const ENTRY_NODE: usize = 1;
+
 // How many entries each table has for a statement.
 pub const STMT_ENTRIES: usize = 12;
 

@@ -183,9 +183,9 @@ unfoldable pub handlerNumber : Bool → ℕ
 handlerNumber true = 1
 handlerNumber false = 0
 
--- used counts: lines, statements, handlers; the wiring writes the edges and the return targets
+-- used counts: lines, statements, handlers; the wiring writes the edges, the return targets and the entry rows
 unfoldable pub countsOf : Listing → List ℕ
-countsOf L = count (L .lines) ∷ total (L .lines) ∷ handlerNumber (L .handlers) ∷ 0 ∷ 0 ∷ []
+countsOf L = count (L .lines) ∷ total (L .lines) ∷ handlerNumber (L .handlers) ∷ 0 ∷ 0 ∷ 0 ∷ []
 
 -- what reading answers, with tables of so many entries: the definition's refusal, or 21, 22 with the counts as places
 unfoldable pub fitted : (lines stmts args : ℕ) → Listing → Answer

@@ -8,8 +8,8 @@ use mathlib.Core.Logic.{⊎-elim}
 use native.Mathlib.Omega.{arith}
 use native.Mathlib.Numerals.{add-one, sub-one}
 use borrow.Author.Tests.{lt-ltb, le-ltb}
-use lib.ListN.{length, getD, take}
-use lib.Seq.{sets, getD-at}
+use lib.ListN.{length, getD}
+use lib.Seq.{sets}
 use Rattle.listings.specs.Listing.{BranchForm, to, stmts, absent, Stmts, ∅, _▸_, branching, Lines, nolines, line, size, total, count}
 use Rattle.listings.specs.ListingText.{StmtsOk, LinesOk}
 use Rattle.listings.specs.Records.{Rec, recRow, branchNumber, branchLine, stmtRecs, lineRecs}
@@ -20,9 +20,9 @@ use Rattle.graph_laws.specs.NodeLaws.{length-nodes}
 use Rattle.graph_laws.specs.Members.{all-map}
 use Rattle.passes.specs.Compare.{lt-or}
 use Rattle.graph.specs.Nodes.{branchTarget, allocate, lineEntry, nodesBefore, nodes, Entries, entryOf, entriesBefore, entries}
-use Rattle.passes.specs.Held.{LinesHeld, StmtsHeld}
-use Rattle.passes.specs.LineEntries.{entryNumbers, entryRows, numbers-append, numbers-length, entries-length, stmts-line}
-use Rattle.passes.specs.LineSearch.{EntryTable, EntriesHeld, EntryFound, lines-exact}
+use Rattle.passes.specs.Held.{StmtsHeld}
+use Rattle.passes.specs.LineEntries.{entryPairs, pairs-append, pairs-length, entries-length, second-at, stmts-line}
+use Rattle.passes.specs.LineSearch.{EntryTable, EntryFound}
 use Rattle.passes.specs.Falls.{leads, fallRows, Head, leaf, fork, headSize, headRow, fallsOf, headFalls, Spans, HeadAt, HeadOk, Written, targetOf, BranchLed, RowConnected, StmtConnected, BranchConnected, LinesConnected, AllLines}
 use Rattle.passes.specs.FallLaws.{rows-append, falls-nodes, falls-length, rows-length, sets-before, sets-padded, RecsAt, recs-split, recs-at, spans-recs, Prefix, prefix-∅, prefix-all, prefix-le, More, more, row-width}
 use Rattle.tables.specs.Stores.{sets-append}
@@ -37,14 +37,14 @@ not-both false e f = no (sym e)
 
 -- ---- where one branch leads
 
-module _ (lines entries : List ℕ) (form number from end next : ℕ) where
-  pub led-line : (r : ℕ) → form ≡ 2 → EntryFound lines entries (length lines) number r → BranchLed lines entries form number from end next r
+module _ (entries : List ℕ) (k form number from end next : ℕ) where
+  pub led-line : (r : ℕ) → form ≡ 2 → EntryFound entries k number r → BranchLed entries k form number from end next r
   unfolding leads branchTarget branchNumber branchLine
   led-line r z f es et (to n) a ef en ee = f es et ∙ ap (λ (x : ℕ). nodeNumber (entryOf es x)) en
   led-line r z f es et stmts a ef en ee = absurd (omega arith)
   led-line r z f es et absent a ef en ee = absurd (omega arith)
 
-  pub led-none : form ≡ 0 → BranchLed lines entries form number from end next next
+  pub led-none : form ≡ 0 → BranchLed entries k form number from end next next
   unfolding leads branchTarget branchNumber branchLine
   led-none z es et (to n) a ef en ee = absurd (omega arith)
   led-none z es et stmts a ef en ee = absurd (omega arith)
@@ -56,30 +56,30 @@ module _ (lines entries : List ℕ) (form number from end next : ℕ) where
   led-in r (s ▸ o) e er es = er ∙ rw (lt-ltb from end (omega arith)) (add-one from)
   led-in r (branching s w t a u b) e er es = er ∙ rw (lt-ltb from end (omega arith)) (add-one from)
 
-  led-stmts : (r : ℕ) → (form ≡ 2 → ⊥) → (form ≡ 0 → ⊥) → r ≡ targetOf from end next → BranchLed lines entries form number from end next r
+  led-stmts : (r : ℕ) → (form ≡ 2 → ⊥) → (form ≡ 0 → ⊥) → r ≡ targetOf from end next → BranchLed entries k form number from end next r
   unfolding branchNumber
   led-stmts r f g er es et (to n) a ef en ee = absurd (f ef)
   led-stmts r f g er es et stmts a ef en ee = led-in r a ee er es
   led-stmts r f g er es et absent a ef en ee = absurd (g ef)
 
-  pub led-first : (r : ℕ) → (form ≡ 2 → ⊥) → (form ≡ 0 → ⊥) → from < end → r ≡ from + 1 → BranchLed lines entries form number from end next r
+  pub led-first : (r : ℕ) → (form ≡ 2 → ⊥) → (form ≡ 0 → ⊥) → from < end → r ≡ from + 1 → BranchLed entries k form number from end next r
   led-first r f g h er = led-stmts r f g (er ∙ rw (lt-ltb from end h))
 
-  pub led-empty : (form ≡ 2 → ⊥) → (form ≡ 0 → ⊥) → end ≤ from → BranchLed lines entries form number from end next next
+  pub led-empty : (form ≡ 2 → ⊥) → (form ≡ 0 → ⊥) → end ≤ from → BranchLed entries k form number from end next next
   led-empty f g h = led-stmts next f g (rw (le-ltb from end h))
 
 -- ---- the row of an IF
 
-pub row-both : (lines entries rows : List ℕ) (i m end next x y : ℕ) (t : List ℕ)
-    → BranchLed lines entries (getD rows (i * 12 + 6) 0) (getD rows (i * 12 + 7) 0) (i + 1) m next x
-    → BranchLed lines entries (getD rows (i * 12 + 8) 0) (getD rows (i * 12 + 9) 0) m end next y
-    → RowConnected lines entries rows i m end next t (sets t (i * 3) (next ∷ x ∷ y ∷ []))
+pub row-both : (entries : List ℕ) (k : ℕ) (rows : List ℕ) (i m end next x y : ℕ) (t : List ℕ)
+    → BranchLed entries k (getD rows (i * 12 + 6) 0) (getD rows (i * 12 + 7) 0) (i + 1) m next x
+    → BranchLed entries k (getD rows (i * 12 + 8) 0) (getD rows (i * 12 + 9) 0) m end next y
+    → RowConnected entries k rows i m end next t (sets t (i * 3) (next ∷ x ∷ y ∷ []))
 unfolding headRow
-row-both lines entries rows i m end next x y t f g es et p a q b r em ee =
+row-both entries k rows i m end next x y t f g es et p a q b r em ee =
     let ex : x ≡ leads es next (branchTarget p (suc i) a)
-    = f es et p a (r .form1-at) (r .number1-at) (rw add-one em) ∙ ap (λ (k : ℕ). leads es next (branchTarget p k a)) (add-one i) in
+    = f es et p a (r .form1-at) (r .number1-at) (rw add-one em) ∙ ap (λ (j : ℕ). leads es next (branchTarget p j a)) (add-one i) in
     let ey : y ≡ leads es next (branchTarget q (suc i + size a) b)
-    = g es et q b (r .form2-at) (r .number2-at) (rw em ee) ∙ ap (λ (k : ℕ). leads es next (branchTarget q k b)) em in
+    = g es et q b (r .form2-at) (r .number2-at) (rw em ee) ∙ ap (λ (j : ℕ). leads es next (branchTarget q j b)) em in
     rw (ex, ey)
 
 head-end : (rows : List ℕ) (i : ℕ) (h : Head) → HeadAt rows i h → getD rows (i * 12 + 4) 0 ≡ i + headSize h
@@ -95,7 +95,7 @@ pub record Gone (es : Entries) (from end next : ℕ) (t u : List ℕ) (i : ℕ) 
   pub at : i ≡ from + size p
   pub table : u ≡ sets t (from * 3) (fallsOf es from (targetOf i end next) p)
 
-module _ (lines entries rows : List ℕ) (depth from end next : ℕ) (t : List ℕ) (es : Entries) (et : EntryTable es lines entries (length lines)) (d : ℕ) (dd : d + depth ≡ 17)
+module _ (entries : List ℕ) (k : ℕ) (rows : List ℕ) (depth from end next : ℕ) (t : List ℕ) (es : Entries) (et : EntryTable es entries k) (d : ℕ) (dd : d + depth ≡ 17)
     (s : Stmts) (sp : Spans rows from s) (ok : StmtsOk d s) (all : end ≡ from + size s) where
   pub branch-start : Gone es from end next t t from s
   unfolding size fallsOf
@@ -117,7 +117,7 @@ module _ (lines entries rows : List ℕ) (depth from end next : ℕ) (t : List �
         one leaf = omega arith
         one (fork f a g b) = omega arith
 
-    step-at : (v : List ℕ) (r : Bool) (e g : ℕ) → e ≡ getD rows (i * 12 + 4) 0 → g ≡ targetOf e end next → StmtConnected lines entries rows depth i e g u v r
+    step-at : (v : List ℕ) (r : Bool) (e g : ℕ) → e ≡ getD rows (i * 12 + 4) 0 → g ≡ targetOf e end next → StmtConnected entries k rows depth i e g u v r
         → (r ≡ true) × Gone es from end next t v e s
     step-at v r e g ee eg f =
         let F = fallsOf es from (suc i) p in
@@ -144,14 +144,14 @@ module _ (lines entries rows : List ℕ) (depth from end next : ℕ) (t : List �
     pub branch-in : (i + 1 ≤ getD rows (i * 12 + 4) 0) × (getD rows (i * 12 + 4) 0 ≤ end)
     branch-in = in-at u i h (g .p) (g .at) (g .table) here
 
-    pub branch-step : (v : List ℕ) (r : Bool) (e f : ℕ) → e ≡ getD rows (i * 12 + 4) 0 → f ≡ targetOf e end next → StmtConnected lines entries rows depth i e f u v r
+    pub branch-step : (v : List ℕ) (r : Bool) (e f : ℕ) → e ≡ getD rows (i * 12 + 4) 0 → f ≡ targetOf e end next → StmtConnected entries k rows depth i e f u v r
         → (r ≡ true) × Gone es from end next t v e s
     branch-step = step-at u i h (g .p) (g .at) (g .table) here
 
 -- ---- a statement
 
-module _ (lines entries rows : List ℕ) (depth i end next : ℕ) (t : List ℕ) where
-  pub stmt-leaf : (u : List ℕ) → getD rows (i * 12 + 6) 0 ≡ 0 → u ≡ sets t (i * 3) (next ∷ 0 ∷ 0 ∷ []) → StmtConnected lines entries rows depth i end next t u true
+module _ (entries : List ℕ) (k : ℕ) (rows : List ℕ) (depth i end next : ℕ) (t : List ℕ) where
+  pub stmt-leaf : (u : List ℕ) → getD rows (i * 12 + 6) 0 ≡ 0 → u ≡ sets t (i * 3) (next ∷ 0 ∷ 0 ∷ []) → StmtConnected entries k rows depth i end next t u true
   unfolding headFalls headRow
   stmt-leaf u z eu es et d dd leaf at ok ee = record { done = refl; table = eu }
   stmt-leaf u z eu es et d dd (fork f a g b) at ok ee = absurd (ok .1 (sym (at .0 .form1-at) ∙ z))
@@ -164,22 +164,22 @@ module _ (lines entries rows : List ℕ) (depth i end next : ℕ) (t : List ℕ)
   fork-in d dd f a g b at ok ee m em = (omega (arith, ok .0), omega (arith, at .0 .second-at), omega (arith, at .0 .second-at))
 
   module _ (f : getD rows (i * 12 + 6) 0 ≡ 0 → ⊥) (m : ℕ) (em : m ≡ getD rows (i * 12 + 5) 0) where
-    pub stmt-false : (u : List ℕ) → ((0 < depth) × (i + 1 ≤ m) × (m ≤ end) → ⊥) → StmtConnected lines entries rows depth i end next t u false
+    pub stmt-false : (u : List ℕ) → ((0 < depth) × (i + 1 ≤ m) × (m ≤ end) → ⊥) → StmtConnected entries k rows depth i end next t u false
     stmt-false u g es et d dd leaf at ok ee = absurd (f (at .form-at))
     stmt-false u g es et d dd (fork x a y b) at ok ee = absurd (g (fork-in d dd x a y b at ok ee m em))
 
     deeper : (x d : ℕ) → 0 < x → d + x ≡ 17 → suc d + (x - 1) ≡ 17
     deeper x d h e = omega arith
 
-    pub stmt-first : (t₁ u : List ℕ) (r : Bool) → 0 < depth → BranchConnected lines entries rows (depth - 1) (i + 1) m next t₁ u r → not r ≡ true
-        → StmtConnected lines entries rows depth i end next t u false
+    pub stmt-first : (t₁ u : List ℕ) (r : Bool) → 0 < depth → BranchConnected entries k rows (depth - 1) (i + 1) m next t₁ u r → not r ≡ true
+        → StmtConnected entries k rows depth i end next t u false
     stmt-first t₁ u r h g z es et d dd leaf at ok ee = absurd (f (at .form-at))
     stmt-first t₁ u r h g z es et d dd (fork x a y b) at ok ee =
         not-both r (g es et (suc d) (deeper depth d h dd) a (rw add-one (at .1)) (ok .2) (em ∙ at .0 .second-at ∙ rw add-one) .done) z
 
-    pub stmt-both : (t₁ u v : List ℕ) (r₁ r : Bool) → 0 < depth → RowConnected lines entries rows i m end next t t₁
-        → BranchConnected lines entries rows (depth - 1) (i + 1) m next t₁ u r₁ → BranchConnected lines entries rows (depth - 1) m end next u v r
-        → StmtConnected lines entries rows depth i end next t v r
+    pub stmt-both : (t₁ u v : List ℕ) (r₁ r : Bool) → 0 < depth → RowConnected entries k rows i m end next t t₁
+        → BranchConnected entries k rows (depth - 1) (i + 1) m next t₁ u r₁ → BranchConnected entries k rows (depth - 1) m end next u v r
+        → StmtConnected entries k rows depth i end next t v r
     unfolding headFalls
     stmt-both t₁ u v r₁ r h row g₁ g₂ es et d dd leaf at ok ee = absurd (f (at .form-at))
     stmt-both t₁ u v r₁ r h row g₁ g₂ es et d dd (fork x a y b) at ok ee =
@@ -259,23 +259,23 @@ pub record Ahead (es : Entries) (ns : List ℕ) (entries rows t u : List ℕ) (l
   pub next-is : next ≡ nodeNumber after
   pub ok : LinesOk lines
   pub held : RecsAt rows 0 (lineRecs lines)
-  pub entered : entries ≡ entryNumbers (entriesBefore after lines) ++ others
+  pub entered : entries ≡ entryPairs (entriesBefore after lines) ++ others
   pub table : u ≡ sets t (total lines * 3) done
   pub same : fallRows es (nodesBefore after lines) ++ done ≡ ns
 
-module _ (lines entries rows t : List ℕ) (es : Entries) (ns : List ℕ) (et : EntryTable es lines entries (length lines)) (u v : List ℕ) (l end next from : ℕ) (r : Bool)
-    (begins : Begins rows l end from) (con : BranchConnected lines entries rows 17 from end next u v r) where
+module _ (entries : List ℕ) (k : ℕ) (rows t : List ℕ) (es : Entries) (ns : List ℕ) (et : EntryTable es entries k) (u v : List ℕ) (l end next from : ℕ) (r : Bool)
+    (begins : Begins rows l end from) (con : BranchConnected entries k rows 17 from end next u v r) where
   ahead-line : (ls : Lines) (e : Option ℕ) (done others : List ℕ) → suc l ≡ count ls → end ≡ total ls → next ≡ nodeNumber e → LinesOk ls
-      → RecsAt rows 0 (lineRecs ls) → entries ≡ entryNumbers (entriesBefore e ls) ++ others → u ≡ sets t (total ls * 3) done → fallRows es (nodesBefore e ls) ++ done ≡ ns
-      → (r ≡ true) × Ahead es ns entries rows t v l from (getD entries l 0)
-  unfolding count total LinesOk lineRecs entriesBefore entryNumbers nodesBefore
+      → RecsAt rows 0 (lineRecs ls) → entries ≡ entryPairs (entriesBefore e ls) ++ others → u ≡ sets t (total ls * 3) done → fallRows es (nodesBefore e ls) ++ done ≡ ns
+      → (r ≡ true) × Ahead es ns entries rows t v l from (getD entries (l * 2 + 1) 0)
+  unfolding count total LinesOk lineRecs entriesBefore entryPairs nodesBefore
   ahead-line nolines e done others c ee en ok ra en′ eu ea = absurd (omega arith)
   ahead-line (line ls n s) e done others c ee en ok ra en′ eu ea =
       let d = lineEntry (total ls) s e in
-      let E = entryNumbers (entriesBefore d ls) in
-      let g : entries ≡ E ++ (nodeNumber d ∷ others) = en′ ∙ ap (λ (x : List ℕ). x ++ others) (numbers-append (entriesBefore d ls) ((n, d) ∷ [])) ∙ simp append-assoc in
-      let k : length E ≡ l = numbers-length (entriesBefore d ls) ∙ entries-length d ls ∙ omega arith in
-      let x : getD entries l 0 ≡ nodeNumber d = ap (λ (y : List ℕ). getD y l 0) g ∙ getD-at E (nodeNumber d) others 0 l k in
+      let E = entryPairs (entriesBefore d ls) in
+      let g : entries ≡ E ++ (n ∷ nodeNumber d ∷ others) = en′ ∙ ap (λ (x : List ℕ). x ++ others) (pairs-append (entriesBefore d ls) ((n, d) ∷ [])) ∙ simp append-assoc in
+      let le : length E ≡ l * 2 = omega (arith, pairs-length (entriesBefore d ls), entries-length d ls) in
+      let x : getD entries (l * 2 + 1) 0 ≡ nodeNumber d = ap (λ (y : List ℕ). getD y (l * 2 + 1) 0) g ∙ second-at E n (nodeNumber d) others l le in
       let sr = recs-split rows 0 (lineRecs ls) (stmtRecs (count ls) 0 0 (total ls) s) ra in
       let z : 0 + length (lineRecs ls) ≡ total ls = omega (arith, lines-length ls) in
       let own : RecsAt rows (total ls) (stmtRecs (count ls) 0 0 (total ls) s) = rw z at (sr .1) in
@@ -294,7 +294,7 @@ module _ (lines entries rows t : List ℕ) (es : Entries) (ns : List ℕ) (et : 
           lines = ls;
           after = d;
           done = F ++ done;
-          others = nodeNumber d ∷ others;
+          others = n ∷ nodeNumber d ∷ others;
           left = omega arith;
           end-is = f;
           next-is = x;
@@ -307,30 +307,30 @@ module _ (lines entries rows t : List ℕ) (es : Entries) (ns : List ℕ) (et : 
       )
 
 -- the line before place l is the next one
-pub ahead-down : (lines entries rows t : List ℕ) (es : Entries) (ns : List ℕ) → EntryTable es lines entries (length lines) → (u v : List ℕ) (l end next from : ℕ) (r : Bool) → 0 < l
-    → Begins rows (l - 1) end from → Ahead es ns entries rows t u l end next → BranchConnected lines entries rows 17 from end next u v r
-    → (r ≡ true) × Ahead es ns entries rows t v (l - 1) from (getD entries (l - 1) 0)
-ahead-down lines entries rows t es ns et u v zero end next from r h b a con = absurd (omega arith)
-ahead-down lines entries rows t es ns et u v (suc l) end next from r h b a con =
+pub ahead-down : (entries : List ℕ) (k : ℕ) (rows t : List ℕ) (es : Entries) (ns : List ℕ) → EntryTable es entries k → (u v : List ℕ) (l end next from : ℕ) (r : Bool) → 0 < l
+    → Begins rows (l - 1) end from → Ahead es ns entries rows t u l end next → BranchConnected entries k rows 17 from end next u v r
+    → (r ≡ true) × Ahead es ns entries rows t v (l - 1) from (getD entries ((l - 1) * 2 + 1) 0)
+ahead-down entries k rows t es ns et u v zero end next from r h b a con = absurd (omega arith)
+ahead-down entries k rows t es ns et u v (suc l) end next from r h b a con =
     rw sub-one
-    (ahead-line lines entries rows t es ns et u v l end next from r (rw (sub-one (suc l)) at b) con (a .lines) (a .after) (a .done) (a .others) (a .left) (a .end-is) (a .next-is) (a .ok) (a .held) (a .entered)
+    (ahead-line entries k rows t es ns et u v l end next from r (rw (sub-one (suc l)) at b) con (a .lines) (a .after) (a .done) (a .others) (a .left) (a .end-is) (a .next-is) (a .ok) (a .held) (a .entered)
     (a .table) (a .same))
 
-pub ahead-start : (lines table rows t : List ℕ) (n : ℕ) (ls : Lines) → LinesHeld ls lines (length lines) → EntriesHeld ls table → StmtsHeld ls rows n
-    → Ahead (entries ls) (fallRows (entries ls) (nodes ls)) table rows t t (length lines) n 0
-unfolding nodes entries entryRows
-ahead-start lines table rows t n ls lh eh sh =
+pub ahead-start : (table : List ℕ) (k : ℕ) (rows t : List ℕ) (n : ℕ) (ls : Lines) → LinesOk ls → EntryTable (entries ls) table k → StmtsHeld ls rows n
+    → Ahead (entries ls) (fallRows (entries ls) (nodes ls)) table rows t t k n 0
+unfolding nodes entries
+ahead-start table k rows t n ls ok et sh =
     record {
       lines = ls;
       after = none;
       done = [];
-      others = eh .rest;
-      left = lh .counted;
+      others = et .rest;
+      left = et .counted ∙ entries-length none ls;
       end-is = sh .counted;
       next-is = refl;
-      ok = lh .in-form;
+      ok = ok;
       held = rw (sh .rows) (recs-at (lineRecs ls) [] (sh .rest) 0 (omega arith));
-      entered = eh .rows;
+      entered = et .listed;
       table = refl;
       same = append-nil _;
     }
@@ -344,10 +344,9 @@ ahead-end es ns table rows t u l end next z a = none-left (a .lines) (a .after) 
     none-left (line ls n s) e done c eu ea = absurd (omega arith)
 
 -- the whole
-pub lines-connected : (lines table rows : List ℕ) (c n : ℕ) (t u : List ℕ) (r : Bool) → n * 3 ≤ length t → AllLines (take c lines) table rows n t u r
-    → LinesConnected lines table rows c n t u r
+pub lines-connected : (table rows : List ℕ) (c n : ℕ) (t u : List ℕ) (r : Bool) → n * 3 ≤ length t → AllLines table rows c n t u r → LinesConnected table rows c n t u r
 unfolding nodes
-lines-connected lines table rows c n t u r h f ls lh eh sh z =
-    let w = f ls (lines-exact ls lines c lh) eh sh in
+lines-connected table rows c n t u r h f ls ok et sh z =
+    let w = f ls ok et sh in
     let k : length (fallRows (entries ls) (nodes ls)) ≤ length t = omega (arith, rows-length (entries ls) (nodes ls), length-nodes none ls, sh .counted) in
     record { done = w .done; table = w .table ∙ sets-padded t (fallRows (entries ls) (nodes ls)) k z }

@@ -17,8 +17,8 @@ use Rattle.graph_laws.specs.Members.{all-map}
 use Rattle.graph_laws.specs.EdgeBounds.{Ids}
 use Rattle.graph.specs.Nodes.{lineEntry, LineEntry, entriesBefore, entries, firstEntry, allEntries}
 use Rattle.graph_laws.specs.ForLaws.{each-append}
-use Rattle.passes.specs.LineEntries.{entryNumbers, entryRows, numbers-append}
-use Rattle.passes.specs.Growing.{Grows, RoomFor, grows-old, grows-new, all-left}
+use Rattle.passes.specs.LineEntries.{entryNodes, nodes-append}
+use Rattle.passes.specs.Growing.{Grows, RoomFor, grows-old, grows-new, all-left, each-on}
 use Rattle.passes.specs.NextBodies.{all-get}
 use Rattle.passes.specs.AddRoom.{RoomToAdd, room-one, room-each}
 
@@ -89,23 +89,28 @@ rises-end (zeros r) s = no-more r
 pub last-start : (part : List ℕ) → LastAdded part 0 0
 last-start part = record { below = all[]; there = λ z. absurd (z refl) }
 
-module _ (row p q : List ℕ) (r k last : ℕ) (h : k < length row) (a : Grows p 0 q r (each decode (take k row))) (t : Rises last (drop k row)) where
-  here : Rises last (getD row k 0 ∷ drop (suc k) row)
-  here = rw (drop-cons row k 0 h) at t
+-- e: entry k of the row
+module _ (row p q : List ℕ) (r k last : ℕ) (h : k < length row) (a : Grows p 0 q r (each decode (take k row))) (t : Rises last (drop k row)) (e : ℕ) (ae : getD row k 0 ≡ e) where
+  here : Rises last (e ∷ drop (suc k) row)
+  here = rw ae at (rw (drop-cons row k 0 h) at t)
 
-  pub entry-room : RoomToAdd p 0 (each decode row) → LastAdded q r last → (getD row k 0 ≡ 0 → ⊥) → EntryRoom q r (getD row k 0) last
-  entry-room w l s = record { added = l; room = room-one q r (getD row k 0) (room-each decode row p 0 w q r k h a); some = s; rises = rises-on here s .0 }
+  pub entry-room : RoomToAdd p 0 (each decode row) → LastAdded q r last → (e ≡ 0 → ⊥) → EntryRoom q r e last
+  entry-room w l s = record { added = l; room = room-one q r e (rw ae at (room-each decode row p 0 w q r k h a)); some = s; rises = rises-on here s .0 }
 
-  pub rises-next : (getD row k 0 ≡ 0 → ⊥) → Rises (getD row k 0) (drop (k + 1) row)
+  pub rises-next : (e ≡ 0 → ⊥) → Rises e (drop (k + 1) row)
   rises-next s = rw add-one (rises-on here s .1)
 
+  -- it was added
+  pub entry-on : (v : List ℕ) (m : ℕ) → Grows q r v m (decode e) → Grows p 0 v m (each decode (take (k + 1) row))
+  entry-on v m g = each-on decode row p 0 q v r m k h a (rw ae g)
+
   -- no entry follows
-  pub entries-end : getD row k 0 ≡ 0 → Grows p 0 q r (each decode row)
+  pub entries-end : e ≡ 0 → Grows p 0 q r (each decode row)
   entries-end s =
-      let e : each decode row ≡ each decode (take k row)
+      let z : each decode row ≡ each decode (take k row)
       = ap (each decode) (sym (take-append-drop k row)) ∙ each-append decode (take k row) (drop k row) ∙ ap (λ (l : List ℕ). each decode (take k row) ++ each decode l) (drop-cons row k 0 h)
-      ∙ ap (λ (l : List ℕ). each decode (take k row) ++ l) (rises-end here s) ∙ append-nil (each decode (take k row)) in
-      rw e a
+      ∙ ap (λ (x : ℕ). each decode (take k row) ++ each decode (x ∷ drop (suc k) row)) ae ∙ ap (λ (l : List ℕ). each decode (take k row) ++ l) (rises-end here s) ∙ append-nil (each decode (take k row)) in
+      rw z a
 
 -- ---- the entries of a listing's lines do ascend
 
@@ -156,25 +161,25 @@ line-least i ∅ (some a) h = omega arith
 line-least i (s ▸ o) e h = omega arith
 line-least i (branching s w t a u b) e h = omega arith
 
-entries-before : (e : Option ℕ) (ls : Lines) → AtLeast (total ls) e → Rises 0 (entryNumbers (entriesBefore e ls) ++ (nodeNumber e ∷ []))
-unfolding entriesBefore entryNumbers total
+entries-before : (e : Option ℕ) (ls : Lines) → AtLeast (total ls) e → Rises 0 (entryNodes (entriesBefore e ls) ++ (nodeNumber e ∷ []))
+unfolding entriesBefore entryNodes total
 entries-before e nolines h = rises-one 0 (nodeNumber e) (λ q. omega arith)
 entries-before e (line ls n s) h =
     let d = lineEntry (total ls) s e in
-    rw (numbers-append (entriesBefore d ls) ((n, d) ∷ [])) (rises-snoc (entryNumbers (entriesBefore d ls)) 0 (nodeNumber d) (nodeNumber e) (entries-before d ls (line-least (total ls) s e h)) (line-steps (total ls) s e h))
+    rw (nodes-append (entriesBefore d ls) ((n, d) ∷ [])) (rises-snoc (entryNodes (entriesBefore d ls)) 0 (nodeNumber d) (nodeNumber e) (entries-before d ls (line-least (total ls) s e h)) (line-steps (total ls) s e h))
 
-pub entries-rise : (ls : Lines) → Rises 0 (entryRows ls)
-unfolding entryRows entries
-entries-rise ls = rises-front (entryNumbers (entriesBefore none ls)) 0 0 (entries-before none ls tt)
+pub entries-rise : (ls : Lines) → Rises 0 (entryNodes (entries ls .rows))
+unfolding entries
+entries-rise ls = rises-front (entryNodes (entriesBefore none ls)) 0 0 (entries-before none ls tt)
 
 -- ---- what they lead to, by the definition
 
-pub all-entries : (es : List LineEntry) → each decode (entryNumbers es) ≡ allEntries es
-unfolding entryNumbers allEntries each
+pub all-entries : (es : List LineEntry) → each decode (entryNodes es) ≡ allEntries es
+unfolding entryNodes allEntries each
 all-entries [] = refl
 all-entries (d ∷ es) = rw (decode-number (d .1), all-entries es)
 
-pub first-entry : (es : List LineEntry) → each decode (take 1 (entryNumbers es)) ≡ list (firstEntry es)
-unfolding entryNumbers firstEntry each list
+pub first-entry : (es : List LineEntry) → each decode (take 1 (entryNodes es)) ≡ list (firstEntry es)
+unfolding entryNodes firstEntry each list
 first-entry [] = refl
 first-entry (d ∷ es) = append-nil (decode (nodeNumber (d .1))) ∙ decode-number (d .1)

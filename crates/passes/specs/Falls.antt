@@ -9,14 +9,14 @@ use lib.Seq.{sets}
 use lib.Dec.{ltb}
 use Rattle.listings.specs.Bytes.{pick}
 use Rattle.listings.specs.Listing.{BranchForm, to, stmts, Stmts, ∅, _▸_, branching, Lines, size}
-use Rattle.listings.specs.ListingText.{StmtsOk}
+use Rattle.listings.specs.ListingText.{StmtsOk, LinesOk}
 use Rattle.listings.specs.Records.{branchNumber, branchLine, padded}
 use Rattle.graph_laws.specs.Adding.{nodeNumber, decode, decode-number}
 use Rattle.graph.specs.Lists.{list}
 use Rattle.graph.specs.Nodes.{BranchTarget, toLine, toNode, falls, NodeStmt, simple, cond, Node, branchTarget, Entries, entryOf, entries, nodes}
 use Rattle.graph.specs.Targets.{branchEdges}
-use Rattle.passes.specs.Held.{LinesHeld, StmtsHeld}
-use Rattle.passes.specs.LineSearch.{EntryTable, EntriesHeld}
+use Rattle.passes.specs.Held.{StmtsHeld}
+use Rattle.passes.specs.LineSearch.{EntryTable}
 
 -- ---- the table: a row of three for each node
 
@@ -115,26 +115,26 @@ abbrev pub targetOf : (e end next : ℕ) → ℕ
 targetOf e end next = pick (ltb e end) (e + 1) next
 
 -- where a branch leads whose statements are the nodes from `from` up to `end`
-abbrev pub BranchLed : (lines entries : List ℕ) (form number from end next r : ℕ) → Type 0
-BranchLed lines entries form number from end next r =
-    (es : Entries) → EntryTable es lines entries (length lines) → (t : BranchForm) (a : Stmts) → form ≡ branchNumber t → number ≡ branchLine t → end ≡ from + size a
+abbrev pub BranchLed : (entries : List ℕ) (k form number from end next r : ℕ) → Type 0
+BranchLed entries k form number from end next r =
+    (es : Entries) → EntryTable es entries k → (t : BranchForm) (a : Stmts) → form ≡ branchNumber t → number ≡ branchLine t → end ≡ from + size a
     → r ≡ leads es next (branchTarget t from a)
 
 -- the row of an IF whose second branch begins at m and that ends at `end`
-abbrev pub RowConnected : (lines entries rows : List ℕ) (i m end next : ℕ) → List ℕ → List ℕ → Type 0
-RowConnected lines entries rows i m end next t u =
-    (es : Entries) → EntryTable es lines entries (length lines) → (f : BranchForm) (a : Stmts) (g : BranchForm) (b : Stmts) → ForkAt rows i f a g b
+abbrev pub RowConnected : (entries : List ℕ) (k : ℕ) (rows : List ℕ) (i m end next : ℕ) → List ℕ → List ℕ → Type 0
+RowConnected entries k rows i m end next t u =
+    (es : Entries) → EntryTable es entries k → (f : BranchForm) (a : Stmts) (g : BranchForm) (b : Stmts) → ForkAt rows i f a g b
     → m ≡ suc i + size a → end ≡ suc i + size a + size b → u ≡ sets t (i * 3) (headRow es i next (fork f a g b))
 
 -- depth: the depth left
-abbrev pub StmtConnected : (lines entries rows : List ℕ) (depth i end next : ℕ) → List ℕ → List ℕ → Bool → Type 0
-StmtConnected lines entries rows depth i end next t u r =
-    (es : Entries) → EntryTable es lines entries (length lines) → (d : ℕ) → d + depth ≡ 17 → (h : Head) → HeadAt rows i h → HeadOk d h → end ≡ i + headSize h
+abbrev pub StmtConnected : (entries : List ℕ) (k : ℕ) (rows : List ℕ) (depth i end next : ℕ) → List ℕ → List ℕ → Bool → Type 0
+StmtConnected entries k rows depth i end next t u r =
+    (es : Entries) → EntryTable es entries k → (d : ℕ) → d + depth ≡ 17 → (h : Head) → HeadAt rows i h → HeadOk d h → end ≡ i + headSize h
     → Written r t u i (headFalls es i next h)
 
-abbrev pub BranchConnected : (lines entries rows : List ℕ) (depth from end next : ℕ) → List ℕ → List ℕ → Bool → Type 0
-BranchConnected lines entries rows depth from end next t u r =
-    (es : Entries) → EntryTable es lines entries (length lines) → (d : ℕ) → d + depth ≡ 17 → (s : Stmts) → Spans rows from s → StmtsOk d s → end ≡ from + size s
+abbrev pub BranchConnected : (entries : List ℕ) (k : ℕ) (rows : List ℕ) (depth from end next : ℕ) → List ℕ → List ℕ → Bool → Type 0
+BranchConnected entries k rows depth from end next t u r =
+    (es : Entries) → EntryTable es entries k → (d : ℕ) → d + depth ≡ 17 → (s : Stmts) → Spans rows from s → StmtsOk d s → end ≡ from + size s
     → Written r t u from (fallsOf es from next s)
 
 -- a table of zeros becomes the rows of all nodes, and zeros past them
@@ -142,11 +142,11 @@ pub record AllConnected (ls : Lines) (found : Bool) (t u : List ℕ) : Type 0 wh
   pub done : found ≡ true
   pub table : u ≡ padded (length t) (fallRows (entries ls) (nodes ls))
 
-abbrev pub LinesConnected : (lines entries rows : List ℕ) (count n : ℕ) → List ℕ → List ℕ → Bool → Type 0
-LinesConnected lines table rows count n t u r =
-    (ls : Lines) → LinesHeld ls lines count → EntriesHeld ls table → StmtsHeld ls rows n → t ≡ replicate (length t) 0 → AllConnected ls r t u
+abbrev pub LinesConnected : (entries rows : List ℕ) (count n : ℕ) → List ℕ → List ℕ → Bool → Type 0
+LinesConnected table rows count n t u r =
+    (ls : Lines) → LinesOk ls → EntryTable (entries ls) table count → StmtsHeld ls rows n → t ≡ replicate (length t) 0 → AllConnected ls r t u
 
--- the same of the line numbers alone, into any table
-abbrev pub AllLines : (lines entries rows : List ℕ) (n : ℕ) → List ℕ → List ℕ → Bool → Type 0
-AllLines lines table rows n t u r =
-    (ls : Lines) → LinesHeld ls lines (length lines) → EntriesHeld ls table → StmtsHeld ls rows n → Written r t u 0 (fallRows (entries ls) (nodes ls))
+-- the same into any table
+abbrev pub AllLines : (entries rows : List ℕ) (count n : ℕ) → List ℕ → List ℕ → Bool → Type 0
+AllLines table rows count n t u r =
+    (ls : Lines) → LinesOk ls → EntryTable (entries ls) table count → StmtsHeld ls rows n → Written r t u 0 (fallRows (entries ls) (nodes ls))

@@ -70,7 +70,7 @@ continuation-is W i d e = rw e (call-of (d .stmt) (d .fall))
 
 -- ---- a graph that the tables hold
 
-module _ {L : Listing} {lines stmts entries falls lists returns succ pred : List ℕ} {count n targets : ℕ} (g : GraphHeld L lines stmts entries falls lists returns succ pred count n targets) where
+module _ {L : Listing} {lines stmts entries falls lists returns succ pred : List ℕ} {rows n targets : ℕ} (g : GraphHeld L lines stmts entries falls lists returns succ pred rows n targets) where
   pub node-count : length (wire L .nodes) ≡ n
   unfolding wire nodes
   node-count = length-nodes none (L .lines) ∙ sym (g .nodes-are)
@@ -119,7 +119,7 @@ module _ {L : Listing} {lines stmts entries falls lists returns succ pred : List
   nodes-readable =
       record {
         holders = record { rows = g .stmts-fit; held = λ i h. let d = some-node i h in omega (arith, reads i (d .0) (d .1) .held) };
-        numbered = λ i h. let d = some-node i h in let r = reads i (d .0) (d .1) in omega (arith, r .line-is, r .line-in, g .count-is, g .lines-fit);
+        numbered = λ i h. let d = some-node i h in let r = reads i (d .0) (d .1) in omega (arith, r .line-is, r .line-in, g .lines-fit);
         rows = g .lists-fit;
         succ-in = succ-within;
         pred-in = pred-within;

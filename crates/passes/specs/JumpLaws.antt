@@ -13,7 +13,7 @@ use lib.Seq.{sets, take-at, take-suc, take-all, take-append-seam, drop-append-ad
 use Rattle.listings.specs.Bytes.{pick, bytes, same}
 use Rattle.listings.specs.Every.{all[], all∷}
 use Rattle.listings.specs.Listing.{Simple, goto, gosub, return, run, runto, ongoto, ongosub, for, next, repeat, loop, until, endloop, exit, exitif, doif, else, done, clr, stop, any, if, ifelse, rcomp, Lines, total}
-use Rattle.listings.specs.ListingText.{simpleWord, condWord}
+use Rattle.listings.specs.ListingText.{simpleWord, condWord, LinesOk}
 use Rattle.listings.specs.Records.{Rec, argsOf, lineRecs, recRow, argRows, padded, joined, argRow}
 use Rattle.reader.specs.Tables.{Wide, set-past}
 use Rattle.reader.specs.ReadBack.{lines-wide}
@@ -26,9 +26,9 @@ use Rattle.graph_laws.specs.NodeLaws.{length-nodes}
 use Rattle.graph.specs.NodeWords.{stmtWord, stmtNumber}
 use Rattle.graph_laws.specs.NodeRecords.{StmtIs, lines-match, match-at}
 use Rattle.graph.specs.Targets.{onSimple}
-use Rattle.passes.specs.Held.{LinesHeld, StmtsHeld, ArgsHeld}
-use Rattle.passes.specs.LineEntries.{at-place}
-use Rattle.passes.specs.LineSearch.{EntriesHeld, EntryFound, numbersOf, entry-table}
+use Rattle.passes.specs.Held.{StmtsHeld, ArgsHeld}
+use Rattle.passes.specs.LineEntries.{numbersOf, at-place}
+use Rattle.passes.specs.LineSearch.{EntryTable, EntryFound}
 use Rattle.tables.specs.Stores.{sets-append}
 use Rattle.passes.specs.Jumps.{jumpTargets, stmtTargets, linkRow, linked, namesLines, jumpCount, RowLinked}
 use Rattle.passes.specs.Dispatched.{take-node}
@@ -77,8 +77,8 @@ no-line (d ∷ es) n h f =
     let e : eqb (d .0) n ≡ false = ne-eqb (d .0) n (λ q. absurd (omega (arith, f 0))) in
     rw e (no-line es n h (λ k. f (suc k)))
 
-pub large-number : (lines table : List ℕ) (c n : ℕ) → 65535 < n → EntryFound lines table c n 0
-large-number lines table c n h es t = no-line (es .rows) n h (t .small)
+pub large-number : (table : List ℕ) (c n : ℕ) → 65535 < n → EntryFound table c n 0
+large-number table c n h es t = no-line (es .rows) n h (t .small)
 
 -- ---- one row, entry by entry
 
@@ -216,40 +216,40 @@ unfolding nodes
 jumps-end ls t u i n en h e = e ∙ ap (linked (entries ls) t 0) (take-all i (nodes ls) (omega (arith, length-nodes none ls)))
 
 -- the part of row i, lent to the routine that fills it
-pub jumps-step : (lines table : List ℕ) (c : ℕ) (stmts args : List ℕ) (n : ℕ) (ls : Lines) → LinesHeld ls lines c → EntriesHeld ls table → StmtsHeld ls stmts n → ArgsHeld ls args
+pub jumps-step : (table : List ℕ) (c : ℕ) (stmts args : List ℕ) (n : ℕ) (ls : Lines) → LinesOk ls → EntryTable (entries ls) table c → StmtsHeld ls stmts n → ArgsHeld ls args
     → (t u part : List ℕ) (i k : ℕ) → i < n → i * 64 + 64 ≤ length u → k ≡ jumpCount (getD stmts (i * 12 + 0) 0) (getD stmts (i * 12 + 10) 0)
-    → RowLinked lines table c (take 64 (drop (i * 64) args)) k (take 64 (drop (i * 64) u)) part → u ≡ linked (entries ls) t 0 (take i (nodes ls))
+    → RowLinked table c (take 64 (drop (i * 64) args)) k (take 64 (drop (i * 64) u)) part → u ≡ linked (entries ls) t 0 (take i (nodes ls))
     → take (i * 64) u ++ (part ++ drop 64 (drop (i * 64) u)) ≡ linked (entries ls) t 0 (take (i + 1) (nodes ls))
 unfolding nodes recRow argRow jumpCount
-jumps-step lines table c stmts args n ls lh eh sh ah t u part i k h room ek row eu =
+jumps-step table c stmts args n ls ok et sh ah t u part i k h room ek row eu =
     let es = entries ls in
     let ns = nodesBefore none ls in
     let nl : length ns ≡ total ls = length-nodes none ls in
     let p = at-place ns i (omega (arith, sh .counted)) in
     let m = match-at (lines-match none ls) i (p .0) (p .1) in
     let r = m .0 in
-    let few = lines-wide ls (lh .in-form) in
+    let few = lines-wide ls ok in
     let fr : length (r .args) ≤ 64 = few-at i r few (m .1) in
     let ew : getD stmts (i * 12 + 0) 0 ≡ stmtNumber (p .0 .stmt)
     = ap (λ (x : List ℕ). getD x (i * 12 + 0) 0) (sh .rows) ∙ rec-at (lineRecs ls) (sh .rest) i 0 r (m .1) (omega arith) ∙ m .2 .word-is in
     let ec : getD stmts (i * 12 + 10) 0 ≡ length (r .args) = ap (λ (x : List ℕ). getD x (i * 12 + 10) 0) (sh .rows) ∙ rec-at (lineRecs ls) (sh .rest) i 10 r (m .1) (omega arith) in
     let ea : take 64 (drop (i * 64) args) ≡ padded 64 (r .args) = ap (λ (x : List ℕ). take 64 (drop (i * 64) x)) (ah .rows) ∙ args-row (lineRecs ls) (ah .rest) i r few (m .1) in
-    let et : take k (take 64 (drop (i * 64) args)) ≡ stmtTargets (p .0 .stmt)
+    let ek′ : take k (take 64 (drop (i * 64) args)) ≡ stmtTargets (p .0 .stmt)
     = rw (ea, ek, ew, ec) (take-picked (namesLines (stmtNumber (p .0 .stmt))) (r .args) fr ∙ by-word (p .0 .stmt) (0 + i) r (m .2 .stmt-is)) in
     let F = linkRow es (stmtTargets (p .0 .stmt)) in
-    let ep : part ≡ sets (take 64 (drop (i * 64) u)) 0 F = row es (entry-table ls lines table c lh eh) ∙ ap (λ (x : List ℕ). sets (take 64 (drop (i * 64) u)) 0 (linkRow es x)) et in
+    let ep : part ≡ sets (take 64 (drop (i * 64) u)) 0 F = row es et ∙ ap (λ (x : List ℕ). sets (take 64 (drop (i * 64) u)) 0 (linkRow es x)) ek′ in
     let lf : length F ≤ 64 = omega (arith, link-length es (stmtTargets (p .0 .stmt)), targets-few (p .0 .stmt) (0 + i) r (m .2 .stmt-is) fr) in
     let li : (0 + length (take i ns)) * 64 ≡ i * 64 = omega (arith, length-take i ns, nl, sh .counted) in
     ap (λ (x : List ℕ). take (i * 64) u ++ (x ++ drop 64 (drop (i * 64) u))) ep ∙ sets-part u (i * 64) 64 F room lf ∙ ap (λ (x : List ℕ). sets x (i * 64) F) eu
     ∙ sym (rw (add-one i, take-node ns i (p .0) (p .1)) (linked-snoc es t 0 (take i ns) (p .0) ∙ rw li))
 
 -- the part from `at` to `at + 64`
-pub jumps-lent : (lines table : List ℕ) (c : ℕ) (stmts args : List ℕ) (n : ℕ) (ls : Lines) → LinesHeld ls lines c → EntriesHeld ls table → StmtsHeld ls stmts n → ArgsHeld ls args
+pub jumps-lent : (table : List ℕ) (c : ℕ) (stmts args : List ℕ) (n : ℕ) (ls : Lines) → LinesOk ls → EntryTable (entries ls) table c → StmtsHeld ls stmts n → ArgsHeld ls args
     → (t u part : List ℕ) (i k w : ℕ) → w ≡ 64 → i < n → i * 64 + 64 ≤ length u → k ≡ jumpCount (getD stmts (i * 12 + 0) 0) (getD stmts (i * 12 + 10) 0)
-    → RowLinked lines table c (take w (drop (i * 64) args)) k (take w (drop (i * 64) u)) part → u ≡ linked (entries ls) t 0 (take i (nodes ls))
+    → RowLinked table c (take w (drop (i * 64) args)) k (take w (drop (i * 64) u)) part → u ≡ linked (entries ls) t 0 (take i (nodes ls))
     → take (i * 64) u ++ (part ++ drop w (drop (i * 64) u)) ≡ linked (entries ls) t 0 (take (i + 1) (nodes ls))
-jumps-lent lines table c stmts args n ls lh eh sh ah t u part i k w e h room ek row eu =
-    rw e (jumps-step lines table c stmts args n ls lh eh sh ah t u part i k h room ek (rw e at row) eu)
+jumps-lent table c stmts args n ls ok et sh ah t u part i k w e h room ek row eu =
+    rw e (jumps-step table c stmts args n ls ok et sh ah t u part i k h room ek (rw e at row) eu)
 
 pub lent-length : (u part : List ℕ) (at w : ℕ) → at + w ≤ length u → length part ≡ length (take w (drop at u)) → length (take at u ++ (part ++ drop w (drop at u))) ≡ length u
 lent-length u part at w h e =

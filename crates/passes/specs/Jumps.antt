@@ -9,11 +9,12 @@ use lib.Seq.{sets}
 use Rattle.layout.specs.Layout.{gotoWord, returnWord, ongosubWord}
 use Rattle.listings.specs.Bytes.{pick}
 use Rattle.listings.specs.Listing.{Simple, goto, gosub, return, run, runto, ongoto, ongosub, for, next, repeat, loop, until, endloop, exit, exitif, doif, else, done, clr, stop, any, Lines}
+use Rattle.listings.specs.ListingText.{LinesOk}
 use Rattle.graph_laws.specs.Adding.{nodeNumber}
 use Rattle.graph.specs.Nodes.{NodeStmt, Node, Entries, entryOf, entries, nodes}
 use Rattle.graph.specs.Targets.{onSimple}
-use Rattle.passes.specs.Held.{LinesHeld, StmtsHeld, ArgsHeld}
-use Rattle.passes.specs.LineSearch.{EntryTable, EntriesHeld}
+use Rattle.passes.specs.Held.{StmtsHeld, ArgsHeld}
+use Rattle.passes.specs.LineSearch.{EntryTable}
 
 -- the line numbers that a statement names
 unfoldable pub jumpTargets : Simple → List ℕ
@@ -65,9 +66,9 @@ jumpCount w c = pick (namesLines w) (pick (leb c 64) c 0) 0
 
 -- ---- contracts, for whatever the tables hold
 
-abbrev pub RowLinked : (lines entries : List ℕ) (n : ℕ) (args : List ℕ) (c : ℕ) → List ℕ → List ℕ → Type 0
-RowLinked lines entries n args c t u = (es : Entries) → EntryTable es lines entries n → u ≡ sets t 0 (linkRow es (take c args))
+abbrev pub RowLinked : (entries : List ℕ) (n : ℕ) (args : List ℕ) (c : ℕ) → List ℕ → List ℕ → Type 0
+RowLinked entries n args c t u = (es : Entries) → EntryTable es entries n → u ≡ sets t 0 (linkRow es (take c args))
 
-abbrev pub JumpsLinked : (lines table : List ℕ) (count : ℕ) (stmts args : List ℕ) (n : ℕ) → List ℕ → List ℕ → Type 0
-JumpsLinked lines table count stmts args n t u =
-    (ls : Lines) → LinesHeld ls lines count → EntriesHeld ls table → StmtsHeld ls stmts n → ArgsHeld ls args → u ≡ linked (entries ls) t 0 (nodes ls)
+abbrev pub JumpsLinked : (table : List ℕ) (count : ℕ) (stmts args : List ℕ) (n : ℕ) → List ℕ → List ℕ → Type 0
+JumpsLinked table count stmts args n t u =
+    (ls : Lines) → LinesOk ls → EntryTable (entries ls) table count → StmtsHeld ls stmts n → ArgsHeld ls args → u ≡ linked (entries ls) t 0 (nodes ls)

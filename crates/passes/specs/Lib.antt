@@ -52,6 +52,7 @@ pub mod EdgeCount
 pub mod FinalLists
 pub mod Held
 pub mod LineEntries
+pub mod EntryColumn
 pub mod EntryOrder
 pub mod LineSearch
 pub mod Falls

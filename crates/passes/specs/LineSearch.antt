@@ -1,7 +1,7 @@
 -- The search for a line by its number, and its entry. Assumes nothing.
-use Prim.Native.Nat.{ℕ, zero, suc, _+_, _-_, _<_, _≤_}
+use Prim.Native.Nat.{ℕ, zero, suc, _+_, _-_, _*_, _<_, _≤_}
 use mathlib.Core.Path.{_≡_, refl, ap, sym, _∙_}
-use mathlib.Core.List.{List, [], _∷_, _++_, append-nil}
+use mathlib.Core.List.{List, [], _∷_, _++_}
 use mathlib.Core.Logic.{⊎-elim}
 use mathlib.Core.Option.{Option, none, some}
 use mathlib.Core.Bool.{Bool, true, false}
@@ -9,18 +9,16 @@ use native.Mathlib.Omega.{arith}
 use native.Mathlib.Numerals.{add-one, sub-one}
 use borrow.Author.Tests.{eq-eqb, ne-eqb}
 use lib.Dec.{eqb}
-use lib.ListN.{length, getD, getElem?, take, replicate, length-append, length-take, List·getD-append, List·getD-eq-default}
-use lib.Seq.{getD-take, take-at}
+use lib.ListN.{length, getD, replicate, length-append, List·getD-append, List·getD-eq-default}
 use Rattle.listings.specs.Bytes.{pick}
-use Rattle.listings.specs.Listing.{Lines, nolines, line, total}
+use Rattle.listings.specs.Listing.{Lines, nolines, line, total, count}
 use Rattle.listings.specs.ListingText.{lastNumber, Above, LinesOk}
 use Rattle.listings.specs.Records.{lineNumbers, padded}
-use Rattle.listings.specs.ReadingRecords.{numbers-count}
 use Rattle.passes.specs.Compare.{lt-or}
 use Rattle.graph_laws.specs.Adding.{nodeNumber}
 use Rattle.graph.specs.Nodes.{lineEntry, LineEntry, Entries, entriesBefore, entries, entryIn, entryOf}
-use Rattle.passes.specs.Held.{LinesHeld}
-use Rattle.passes.specs.LineEntries.{entryNumbers, entryRows, numbers-length, entries-length}
+use Rattle.passes.specs.LineEntries.{entryPairs, entryRows, numbersOf, entryNodes, entries-length, number-column, node-column}
+use Rattle.tables.specs.EntryRows.{entryColumn, column-length, column-at}
 
 -- ---- a number in a list
 
@@ -50,103 +48,84 @@ place-none n (m ∷ l) f = rw (ne-eqb m n (f 0 (omega arith)), place-none n l (�
 
 -- ---- the search
 
--- r: one more than the index, or 0
-pub record LineFound (lines : List ℕ) (n number r : ℕ) : Type 0 where
-  pub within : r ≤ n
-  pub found : Ascending (take n lines) → r ≡ placeOf number (take n lines)
+-- r: one more than the index in the ascending numbers l, or 0
+pub record LineFound (l : List ℕ) (number r : ℕ) : Type 0 where
+  pub within : r ≤ length l
+  pub found : Ascending l → r ≡ placeOf number l
 
 -- the number is at none of the places below low, and at none from high on
-pub record Narrowed (lines : List ℕ) (n number low high : ℕ) : Type 0 where
-  pub below : (k : ℕ) → k < low → getD lines k 0 < number
-  pub above : (k : ℕ) → high ≤ k → k < n → number < getD lines k 0
+pub record Narrowed (l : List ℕ) (number low high : ℕ) : Type 0 where
+  pub below : (k : ℕ) → k < low → getD l k 0 < number
+  pub above : (k : ℕ) → high ≤ k → k < length l → number < getD l k 0
 
-module _ (lines : List ℕ) (n number : ℕ) (fits : n ≤ length lines) where
-  long : length (take n lines) ≡ n
-  long = simp length-take (omega arith)
+module _ (l : List ℕ) (number : ℕ) where
+  pub narrow-start : (n : ℕ) → length l ≡ n → Narrowed l number 0 n
+  narrow-start n e = record { below = λ k h. absurd (omega arith); above = λ k h g. absurd (omega arith) }
 
-  up : Ascending (take n lines) → (j k : ℕ) → j < k → k < n → getD lines j 0 < getD lines k 0
-  up a j k h g = rw (getD-take n lines j 0 (omega arith), getD-take n lines k 0 g) at (a j k h (omega (arith, long)))
-
-  pub narrow-start : Narrowed lines n number 0 n
-  narrow-start = record { below = λ k h. absurd (omega arith); above = λ k h g. absurd (omega arith) }
-
-  module _ (low high mid : ℕ) (lm : low ≤ mid) (mh : mid < high) (hn : high ≤ n) where
-    pub line-here : getD lines mid 0 ≡ number → LineFound lines n number (mid + 1)
+  -- x: what stands in the middle
+  module _ (low high mid : ℕ) (lm : low ≤ mid) (mh : mid < high) (hn : high ≤ length l) (x : ℕ) (at : getD l mid 0 ≡ x) where
+    pub line-here : x ≡ number → LineFound l number (mid + 1)
     line-here e =
         record {
           within = omega arith;
-          found = λ a. add-one mid ∙ sym (place-here number (take n lines) mid (omega (arith, long)) (getD-take n lines mid 0 (omega arith) ∙ e)
-              (λ j h q. let g : getD lines j 0 ≡ number = sym (getD-take n lines j 0 (omega arith)) ∙ q in absurd (omega (arith, up a j mid h (omega arith), e, g))));
+          found = λ a. add-one mid ∙ sym (place-here number l mid (omega arith) (at ∙ e) (λ j h q. absurd (omega (arith, a j mid h (omega arith), at, e, q))));
         }
 
-    pub narrow-low : Ascending (take n lines) → getD lines mid 0 < number → Narrowed lines n number low high → Narrowed lines n number (mid + 1) high
+    pub narrow-low : Ascending l → x < number → Narrowed l number low high → Narrowed l number (mid + 1) high
     narrow-low a e w =
         record {
-          below = λ k h. ⊎-elim (λ (g : k < mid). omega (arith, up a k mid g (omega arith))) (λ (g : mid ≤ k). let q : k ≡ mid = omega arith in rw q e) (lt-or k mid);
+          below = λ k h. ⊎-elim (λ (g : k < mid). omega (arith, a k mid g (omega arith), at)) (λ (g : mid ≤ k). let q : k ≡ mid = omega arith in rw q (omega (arith, at))) (lt-or k mid);
           above = w .above;
         }
 
-    pub narrow-high : Ascending (take n lines) → (getD lines mid 0 ≡ number → ⊥) → number ≤ getD lines mid 0 → Narrowed lines n number low high → Narrowed lines n number low mid
+    pub narrow-high : Ascending l → (x ≡ number → ⊥) → number ≤ x → Narrowed l number low high → Narrowed l number low mid
     narrow-high a ne e w =
         record {
           below = w .below;
-          above = λ k h g. ⊎-elim (λ (m : mid < k). omega (arith, up a mid k m g)) (λ (m : k ≤ mid). let q : k ≡ mid = omega arith in rw q (omega arith)) (lt-or mid k);
+          above = λ k h g. ⊎-elim (λ (m : mid < k). omega (arith, a mid k m g, at)) (λ (m : k ≤ mid). let q : k ≡ mid = omega arith in rw q (omega (arith, at, ne))) (lt-or mid k);
         }
 
-  pub line-none : (low high : ℕ) → high ≤ low → (Ascending (take n lines) → Narrowed lines n number low high) → LineFound lines n number 0
+  pub line-none : (low high : ℕ) → high ≤ low → (Ascending l → Narrowed l number low high) → LineFound l number 0
   line-none low high h w =
       record {
         within = omega arith;
-        found = λ a. sym (place-none number (take n lines)
-            (λ k g e.
-            let g′ : k < n = omega (arith, long) in
-            let e′ : getD lines k 0 ≡ number = sym (getD-take n lines k 0 g′) ∙ e in
-            ⊎-elim (λ (m : k < low). omega (arith, w a .below k m, e′)) (λ (m : low ≤ k). omega (arith, w a .above k (omega arith) g′, e′)) (lt-or k low)));
+        found = λ a. sym (place-none number l
+            (λ k g e. ⊎-elim (λ (m : k < low). omega (arith, w a .below k m, e)) (λ (m : low ≤ k). omega (arith, w a .above k (omega arith) g, e)) (lt-or k low)));
       }
 
 -- ---- the entry
 
-unfoldable pub numbersOf : List LineEntry → List ℕ
-numbersOf [] = []
-numbersOf (d ∷ es) = d .0 ∷ numbersOf es
-
--- the tables of line numbers and of entries hold es, n lines
-pub record EntryTable (es : Entries) (lines entries : List ℕ) (n : ℕ) : Type 0 where
-  pub counted : n ≡ length (es .rows)
+-- the table lists the rows of es, k of them: "entries ascending by line number"
+pub record EntryTable (es : Entries) (entries : List ℕ) (k : ℕ) : Type 0 where
+  pub counted : k ≡ length (es .rows)
   pub ascends : Ascending (numbersOf (es .rows))
-  pub small : (k : ℕ) → getD (numbersOf (es .rows)) k 0 ≤ 65535
-  pub more : List ℕ
-  pub numbers : lines ≡ numbersOf (es .rows) ++ more
+  pub small : (i : ℕ) → getD (numbersOf (es .rows)) i 0 ≤ 65535
   pub rest : List ℕ
-  pub nodes : entries ≡ entryNumbers (es .rows) ++ rest
+  pub listed : entries ≡ entryPairs (es .rows) ++ rest
 
--- line l, as both tables list it
-pub entry-at : (es : List LineEntry) (more rest : List ℕ) (l : ℕ) (d : LineEntry) → getElem? es l ≡ some d → (getD (numbersOf es ++ more) l 0 ≡ d .0) × (getD (entryNumbers es ++ rest) l 0 ≡ nodeNumber (d .1))
-unfolding numbersOf entryNumbers
-entry-at [] more rest l d e = absurd (let z : _≡_ {A = ℕ} 0 1 = cc in omega arith)
-entry-at (c ∷ es) more rest zero d e = let q : c ≡ d = cc in (ap (λ (x : LineEntry). x .0) q, ap (λ (x : LineEntry). nodeNumber (x .1)) q)
-entry-at (c ∷ es) more rest (suc l) d e = entry-at es more rest l d e
+-- its columns
+module _ {es : Entries} {entries : List ℕ} {k : ℕ} (t : EntryTable es entries k) where
+  pub table-numbers : entryColumn 0 k entries ≡ numbersOf (es .rows)
+  table-numbers = ap (entryColumn 0 k) (t .listed) ∙ number-column (es .rows) (t .rest) k (t .counted)
 
-abbrev pub EntryFound : (lines entries : List ℕ) (n number r : ℕ) → Type 0
-EntryFound lines entries n number r = (es : Entries) → EntryTable es lines entries n → r ≡ nodeNumber (entryOf es number)
+  pub table-nodes : entryColumn 1 k entries ≡ entryNodes (es .rows)
+  table-nodes = ap (entryColumn 1 k) (t .listed) ∙ node-column (es .rows) (t .rest) k (t .counted)
 
-numbers-long : (es : List LineEntry) → length (numbersOf es) ≡ length es
-unfolding numbersOf
-numbers-long [] = refl
-numbers-long (d ∷ es) = ap suc (numbers-long es)
+abbrev pub EntryFound : (entries : List ℕ) (n number r : ℕ) → Type 0
+EntryFound entries n number r = (es : Entries) → EntryTable es entries n → r ≡ nodeNumber (entryOf es number)
 
 -- what the search for a number tells of its entry
 abbrev By : ℕ → List LineEntry → ℕ → Type 0
 By number es zero = _≡_ {A = ℕ} 0 (nodeNumber (entryIn es number))
-By number es (suc k) = (k < length es) × (getD (entryNumbers es) k 0 ≡ nodeNumber (entryIn es number))
+By number es (suc k) = (k < length es) × (getD (entryNodes es) k 0 ≡ nodeNumber (entryIn es number))
 
 by-onward : (number : ℕ) (d : LineEntry) (es : List LineEntry) (p : ℕ) → eqb (d .0) number ≡ false → By number es p → By number (d ∷ es) (onward p)
-unfolding entryIn entryNumbers
+unfolding entryIn entryNodes
 by-onward number d es zero e b = rw e b
 by-onward number d es (suc k) e b = (omega (arith, b .0), rw e (b .1))
 
 by-place : (number : ℕ) (es : List LineEntry) → By number es (placeOf number (numbersOf es))
-unfolding placeOf numbersOf entryIn entryNumbers
+unfolding placeOf numbersOf entryIn entryNodes
 by-place number [] = refl
 by-place number (d ∷ es) = go (eqb (d .0) number) refl (by-place number es)
   where
@@ -154,29 +133,30 @@ by-place number (d ∷ es) = go (eqb (d .0) number) refl (by-place number es)
     go true e b = (omega arith, rw e)
     go false e b = by-onward number d es (placeOf number (numbersOf es)) e b
 
-module _ (lines entries : List ℕ) (n number r : ℕ) (f : LineFound lines n number r) where
-  place : (es : Entries) → EntryTable es lines entries n → By number (es .rows) r
+module _ (entries : List ℕ) (n number r : ℕ) (f : LineFound (entryColumn 0 n entries) number r) where
+  pub found-within : r ≤ n
+  found-within = omega (arith, f .within, column-length 0 n entries)
+
+  place : (es : Entries) → EntryTable es entries n → By number (es .rows) r
   place es t =
       let ds = es .rows in
-      let q : take n lines ≡ numbersOf ds = ap (take n) (t .numbers) ∙ take-at (numbersOf ds) (t .more) n (numbers-long ds ∙ sym (t .counted)) in
-      let p : r ≡ placeOf number (numbersOf ds) = f .found (rw q (t .ascends)) ∙ ap (placeOf number) q in
+      let p : r ≡ placeOf number (numbersOf ds) = f .found (rw (table-numbers t) (t .ascends)) ∙ ap (placeOf number) (table-numbers t) in
       rw p (by-place number ds)
 
   no-entry : (x : ℕ) → x ≡ 0 → (es : List LineEntry) → By number es x → _≡_ {A = ℕ} 0 (nodeNumber (entryIn es number))
   no-entry zero z es b = b
   no-entry (suc x) z es b = absurd (omega arith)
 
-  pub entry-none : r ≡ 0 → EntryFound lines entries n number 0
+  pub entry-none : r ≡ 0 → EntryFound entries n number 0
   entry-none z es t = no-entry r z (es .rows) (place es t)
 
-  one-entry : (x : ℕ) → (x ≡ 0 → ⊥) → (es : Entries) → By number (es .rows) x → EntryTable es lines entries n → getD entries (x - 1) 0 ≡ nodeNumber (entryOf es number)
-  one-entry zero z es b t = absurd (z refl)
-  one-entry (suc x) z es b t =
-      let g : x < length (entryNumbers (es .rows)) = omega (arith, numbers-length (es .rows), b .0) in
-      rw (sub-one (suc x), t .nodes) (List·getD-append (entryNumbers (es .rows)) (t .rest) 0 x g ∙ b .1)
+  one-entry : (x : ℕ) → (x ≡ 0 → ⊥) → x ≤ n → (es : Entries) → By number (es .rows) x → EntryTable es entries n → getD entries ((x - 1) * 2 + 1) 0 ≡ nodeNumber (entryOf es number)
+  one-entry zero z h es b t = absurd (z refl)
+  one-entry (suc x) z h es b t =
+      rw (sub-one (suc x)) (sym (column-at 1 n entries x h) ∙ ap (λ (l : List ℕ). getD l x 0) (table-nodes t) ∙ b .1)
 
-  pub entry-some : (r ≡ 0 → ⊥) → EntryFound lines entries n number (getD entries (r - 1) 0)
-  entry-some z es t = one-entry r z es (place es t) t
+  pub entry-some : (r ≡ 0 → ⊥) → EntryFound entries n number (getD entries ((r - 1) * 2 + 1) 0)
+  entry-some z es t = one-entry r z found-within es (place es t) t
 
 -- ---- the entries of a listing in form
 
@@ -223,33 +203,9 @@ numbers-small (line ls m s) ok k =
     (λ (h : length (lineNumbers ls ++ (m ∷ [])) ≤ k). rw (List·getD-eq-default (lineNumbers ls ++ (m ∷ [])) 0 {n = k} h) (omega arith))
     (lt-or k (length (lineNumbers ls ++ (m ∷ []))))
 
--- the entries of a listing
-pub record EntriesHeld (ls : Lines) (table : List ℕ) : Type 0 where
-  pub rest : List ℕ
-  pub rows : table ≡ entryRows ls ++ rest
-
-pub entries-held : (ls : Lines) (n : ℕ) (table : List ℕ) → table ≡ padded n (entryRows ls) → EntriesHeld ls table
-unfolding padded
-entries-held ls n table e = record { rest = replicate (n - length (entryRows ls)) 0; rows = e }
-
--- the tables that hold a listing's line numbers and entries
-pub entry-table : (ls : Lines) (lines table : List ℕ) (n : ℕ) → LinesHeld ls lines n → EntriesHeld ls table → EntryTable (entries ls) lines table n
-unfolding entryRows entries
-entry-table ls lines table n h e =
+-- the table that holds a listing's line entries
+pub entry-table : (ls : Lines) (m : ℕ) (table : List ℕ) → LinesOk ls → table ≡ padded m (entryRows ls) → EntryTable (entries ls) table (count ls)
+unfolding entryRows entries padded
+entry-table ls m table ok e =
     let q : numbersOf (entriesBefore none ls) ≡ lineNumbers ls = numbers-of none ls in
-    record {
-      counted = h .counted ∙ sym (entries-length none ls);
-      ascends = rw q (numbers-ascend ls (h .in-form));
-      small = rw q (numbers-small ls (h .in-form));
-      more = h .rest;
-      numbers = rw q (h .rows);
-      rest = e .rest;
-      nodes = e .rows;
-    }
-
--- the part of the line numbers alone
-pub lines-exact : (ls : Lines) (lines : List ℕ) (n : ℕ) → LinesHeld ls lines n → LinesHeld ls (take n lines) (length (take n lines))
-lines-exact ls lines n h =
-    let k : length (lineNumbers ls) ≡ n = numbers-count ls ∙ sym (h .counted) in
-    let q : take n lines ≡ lineNumbers ls = ap (take n) (h .rows) ∙ take-at (lineNumbers ls) (h .rest) n k in
-    record { in-form = h .in-form; counted = ap length q ∙ numbers-count ls; rest = []; rows = q ∙ sym (append-nil (lineNumbers ls)) }
+    record { counted = sym (entries-length none ls); ascends = rw q (numbers-ascend ls ok); small = rw q (numbers-small ls ok); rest = replicate (m - length (entryRows ls)) 0; listed = e }

@@ -17,12 +17,13 @@ use Rattle.passes.specs.AddRoom.{RoomToAdd}
 use Rattle.passes.specs.EntryOrder.{Rises}
 use Rattle.passes.specs.Prepared.{Prepared, Keys, linkEntries}
 use Rattle.tables.specs.Columns.{wordOf, fallEntry}
+use Rattle.tables.specs.EntryRows.{entryColumn}
 
 -- ---- what a statement adds to its own list, as Edges.own says it; ts, en, fs, ls, fr: the tables of statements, entries, falls, links and frames
 
 -- a RUN: its target, or the first line's entry
 unfoldable pub runEdges : (ts en ls : List ℕ) (lines i : ℕ) → List ℕ
-runEdges ts en ls lines i = pick (eqb (getD ts (i * 12 + 10) 0) 0) (each decode (take 1 (take lines en))) (linkEntries ts ls i)
+runEdges ts en ls lines i = pick (eqb (getD ts (i * 12 + 10) 0) 0) (each decode (take 1 (entryColumn 1 lines en))) (linkEntries ts ls i)
 
 -- GOTO, GOSUB and RETURN come before 11, ON GOTO and ON GOSUB fall besides
 unfoldable pub jumpEdges : (ts fs ls : List ℕ) (i : ℕ) → List ℕ
@@ -51,21 +52,21 @@ ownEdges ts en fs ls fr lines i =
     (pick (eqb w runWord) (runEdges ts en ls lines i)
     (pick (ltb w forWord) (jumpEdges ts fs ls i)
     (pick (eqb w nextWord) (nextEdges ts fs ls i)
-    (pick (eqb w anyWord) (each decode (take lines en)) (blockEdges w fs fr i)))))
+    (pick (eqb w anyWord) (each decode (entryColumn 1 lines en)) (blockEdges w fs fr i)))))
 
 -- ---- room
 
 -- the row of node i is in each table, and what its statement adds fits the part
 pub record OwnRoom (ts en fs ls fr : List ℕ) (lines i : ℕ) (part : List ℕ) : Type 0 where
   pub stmts : i * 12 + 12 ≤ length ts
-  pub entries : lines ≤ length en
+  pub entries : lines * 2 ≤ length en
   pub falls : i * 3 + 3 ≤ length fs
   pub links : i * 64 + 64 ≤ length ls
   pub frames : i * 3 + 3 ≤ length fr
   pub opener : getD fr (i * 3) 0 * 3 ≤ length fs
   pub few : 7 ≤ getD ts (i * 12) 0 → getD ts (i * 12 + 10) 0 ≤ 64
   pub popped : getD ts (i * 12) 0 ≡ nextWord → PoppedRoom fs ls i (getD ts (i * 12 + 10) 0) part 0
-  pub rises : Rises 0 (take lines en)
+  pub rises : Rises 0 (entryColumn 1 lines en)
   pub room : RoomToAdd part 0 (ownEdges ts en fs ls fr lines i)
 
 -- ---- the whole list

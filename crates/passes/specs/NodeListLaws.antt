@@ -16,6 +16,7 @@ use Rattle.passes.specs.NextBodies.{bodyAt, linkBody, LinkRoom}
 use Rattle.passes.specs.AddRoom.{RoomToAdd, room-one}
 use Rattle.tables.specs.Columns.{wordOf, fallEntry}
 use Rattle.passes.specs.Prepared.{linkEntries}
+use Rattle.tables.specs.EntryRows.{entryColumn}
 use Rattle.passes.specs.NodeList.{runEdges, jumpEdges, nextEdges, untilEdges, fallsWord, blockEdges, ownEdges}
 
 -- the part of a table that is lent, c entries from `at` on
@@ -32,7 +33,7 @@ links-lent ts ls i c e = rw (lent-is ls (i * 64) c, e)
 -- ---- RUN
 
 module _ (ts en ls : List ℕ) (lines i c : ℕ) (e : c ≡ getD ts (i * 12 + 10) 0) where
-  pub run-first : c ≡ 0 → each decode (take 1 (take lines en)) ≡ runEdges ts en ls lines i
+  pub run-first : c ≡ 0 → each decode (take 1 (entryColumn 1 lines en)) ≡ runEdges ts en ls lines i
   unfolding runEdges
   run-first z = rw (← e, z)
 
@@ -131,7 +132,7 @@ module _ (ts en fs ls fr : List ℕ) (lines i : ℕ) where
         unfolding ownEdges wordOf
         own-next e = rw e
 
-        pub own-any : getD ts (i * 12) 0 ≡ 26 → each decode (take lines en) ≡ ownEdges ts en fs ls fr lines i
+        pub own-any : getD ts (i * 12) 0 ≡ 26 → each decode (entryColumn 1 lines en) ≡ ownEdges ts en fs ls fr lines i
         unfolding ownEdges wordOf
         own-any e = rw e
 

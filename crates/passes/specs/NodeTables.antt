@@ -32,7 +32,8 @@ use Rattle.passes.specs.ForLinks.{linkedRows, poppedBy}
 use Rattle.passes.specs.ForLinkLaws.{other-links}
 use Rattle.passes.specs.NextBodies.{FallsFit, bodyAt}
 use Rattle.passes.specs.NextBodyLaws.{body-is, next-ids, next-bodies}
-use Rattle.passes.specs.LineEntries.{entryNumbers, entryRows, numbers-length, entries-length}
+use Rattle.tables.specs.EntryRows.{entryColumn}
+use Rattle.passes.specs.LineSearch.{EntryTable, table-nodes, entry-table}
 use Rattle.passes.specs.EntryOrder.{all-entries, first-entry}
 use Rattle.passes.specs.Jumps.{stmtTargets, linkRow, linked}
 use Rattle.passes.specs.JumpLaws.{link-length}
@@ -104,21 +105,17 @@ module _ {L : Listing} {stmts ks entries falls links frames dispatched : List �
         omega (arith, falling k (x .0) (x .1), number-below (nodeCount L) (x .0 .fall) (all-at (fits L) k (x .0) (x .1) .0), P .nodes-are);
   }
 
-  pub entered : take lines entries ≡ entryRows (L .lines)
-  unfolding padded entryRows entriesOf
-  entered =
-      let ds = entriesOf (L .lines) .rows in
-      let s : length (entryNumbers ds) ≡ lines = numbers-length ds ∙ entries-length none (L .lines) ∙ sym (P .lines-are) in
-      ap (take lines) (P .entered) ∙ take-at (entryNumbers ds) _ lines s
+  pub entered : EntryTable (entriesOf (L .lines)) entries lines
+  entered = rw (P .lines-are) (entry-table (L .lines) (length entries) entries (P .in-form) (P .entered))
 
   -- where RUN and `any` lead
-  pub first-is : each decode (take 1 (take lines entries)) ≡ list (wire L .entries .first)
-  unfolding entryRows wire entriesOf
-  first-is = ap (λ (x : List ℕ). each decode (take 1 x)) entered ∙ first-entry (entriesOf (L .lines) .rows)
+  pub first-is : each decode (take 1 (entryColumn 1 lines entries)) ≡ list (wire L .entries .first)
+  unfolding wire entriesOf
+  first-is = ap (λ (x : List ℕ). each decode (take 1 x)) (table-nodes entered) ∙ first-entry (entriesOf (L .lines) .rows)
 
-  pub all-are : each decode (take lines entries) ≡ wire L .entries .all
-  unfolding entryRows wire entriesOf
-  all-are = ap (each decode) entered ∙ all-entries (entriesOf (L .lines) .rows)
+  pub all-are : each decode (entryColumn 1 lines entries) ≡ wire L .entries .all
+  unfolding wire entriesOf
+  all-are = ap (each decode) (table-nodes entered) ∙ all-entries (entriesOf (L .lines) .rows)
 
   few-targets : All Few (wire L .nodes)
   unfolding wire

@@ -23,6 +23,7 @@ use Rattle.passes.specs.Jumps.{jumpTargets}
 use Rattle.passes.specs.ForLinks.{poppedBy}
 use Rattle.passes.specs.NextBodies.{bodyAt, linkBody}
 use Rattle.tables.specs.Columns.{wordOf, fallEntry}
+use Rattle.tables.specs.EntryRows.{entryColumn}
 use Rattle.passes.specs.Prepared.{linkEntries}
 use Rattle.passes.specs.NodeList.{runEdges, jumpEdges, nextEdges, untilEdges, fallsWord, blockEdges, ownEdges}
 
@@ -56,7 +57,7 @@ module _ (ts en fs ls fr : List ℕ) (lines i : ℕ) (es : Entries) (e : Option 
   until-is zero q no-frame = rw q
   until-is (suc o) q (closes-frame p) = rw (q, ne-eqb (suc o) 0 (λ x. omega arith), p, append-nil, fall)
 
-  module _ (first-is : each decode (take 1 (take lines en)) ≡ list (es .first)) (all-are : each decode (take lines en) ≡ es .all) where
+  module _ (first-is : each decode (take 1 (entryColumn 1 lines en)) ≡ list (es .first)) (all-are : each decode (entryColumn 1 lines en) ≡ es .all) where
     pub own-simple : (o : Simple) → getD ts (i * 12) 0 ≡ stmtNumber (simple o) → getD ts (i * 12 + 10) 0 ≡ length (argsOf o)
         → ((stmtNumber (simple o) ≡ 14 → ⊥) → argsOf o ≡ jumpTargets o → linkEntries ts ls i ≡ targetEntries es (jumpTargets o))
         → ((m : Mark) (ss : List Slot) → o ≡ next m ss → each (bodyAt fs) (poppedBy ls i (getD ts (i * 12 + 10) 0)) ≡ bs)

@@ -47,7 +47,8 @@ pub record LinksPrepared (L : Listing) (stmts args entries falls links : List �
   pub linking : links ≡ linkTable (length links) (wire L)
   pub stmts-fit : n * 12 ≤ length stmts
   pub args-fit : n * 64 ≤ length args
-  pub entries-fit : lines ≤ length entries
+  pub few-lines : lines ≤ 1024
+  pub entries-fit : lines * 2 ≤ length entries
   pub falls-fit : n * 3 ≤ length falls
   pub links-fit : n * 64 ≤ length links
 
@@ -66,7 +67,8 @@ pub record Prepared (L : Listing) (stmts args entries falls links frames dispatc
   pub dispatches : d ≡ length (dispatchedFrom 0 (wire L .nodes))
   pub stmts-fit : n * 12 ≤ length stmts
   pub args-fit : n * 64 ≤ length args
-  pub entries-fit : lines ≤ length entries
+  pub few-lines : lines ≤ 1024
+  pub entries-fit : lines * 2 ≤ length entries
   pub falls-fit : n * 3 ≤ length falls
   pub links-fit : n * 64 ≤ length links
   pub frames-fit : n * 3 ≤ length frames

@@ -14,6 +14,7 @@ use Rattle.listings.specs.Listing.{Name, Listing}
 use Rattle.listings.specs.Records.{padded}
 use Rattle.reader.specs.Tables.{drop-zeros}
 use Rattle.listings.specs.WordTable.{zeros}
+use Rattle.graph.specs.Nodes as definition
 use Rattle.graph.specs.Nodes.{NodeStmt, Node}
 use Rattle.graph.specs.Targets.{onFor, onSimple, dispatchTarget}
 use Rattle.graph.specs.Graph.{wire}
@@ -21,7 +22,7 @@ use Rattle.passes.specs.ListedNodes.{Listed, FallsListed, AllCounted, fo
 use Rattle.passes.specs.FramePass.{AllZero}
 use Rattle.passes.specs.Frames.{Framed}
 use Rattle.passes.specs.LineEntries.{entryRows, EntriesComputed, at-place}
-use Rattle.passes.specs.LineSearch.{EntriesHeld, entries-held}
+use Rattle.passes.specs.LineSearch.{EntryTable, entry-table}
 use Rattle.passes.specs.Falls.{fallRows, LinesConnected}
 use Rattle.passes.specs.TableReads.{falls-listed}
 use Rattle.passes.specs.Jumps.{linked, JumpsLinked}
@@ -39,7 +40,7 @@ pub record PrepareReady (lines stmts args entries falls links : List ℕ) (c n :
   pub zero-entries : entries ≡ replicate (length entries) 0
   pub zero-falls : falls ≡ replicate (length falls) 0
   pub zero-links : links ≡ replicate (length links) 0
-  pub entries-fit : c ≤ length entries
+  pub entries-fit : c * 2 ≤ length entries
   pub falls-fit : n * 3 ≤ length falls
   pub links-fit : n * 64 ≤ length links
 
@@ -109,25 +110,25 @@ module _ {L : Listing} {lines stmts args : List ℕ} {c n : ℕ} (h : HoldsListi
   pub holds-counted : AllCounted stmts n
   holds-counted = rw (holds-length h) (listed-counted stmts args (wire L .nodes) (holds-listed h))
 
-  entered : (t u : List ℕ) → t ≡ replicate (length t) 0 → length u ≡ length t → EntriesComputed stmts c n t u → u ≡ padded (length u) (entryRows (L .lines))
-  entered t u z e p = p (L .lines) (holds-stmts h) (h .count-is) z ∙ ap (λ (k : ℕ). padded k (entryRows (L .lines))) (sym e)
+  entered : (t u : List ℕ) → t ≡ replicate (length t) 0 → length u ≡ length t → EntriesComputed lines stmts c n t u → u ≡ padded (length u) (entryRows (L .lines))
+  entered t u z e p = p (L .lines) (holds-lines h) (holds-stmts h) z ∙ ap (λ (k : ℕ). padded k (entryRows (L .lines))) (sym e)
 
   module _ (entries : List ℕ) (held : entries ≡ padded (length entries) (entryRows (L .lines))) where
-    rows-held : EntriesHeld (L .lines) entries
-    rows-held = entries-held (L .lines) (length entries) entries held
+    rows-held : EntryTable (definition.entries (L .lines)) entries c
+    rows-held = rw (h .count-is) (entry-table (L .lines) (length entries) entries (h .within .lines) held)
 
-    found : (t u : List ℕ) (r : Bool) → t ≡ replicate (length t) 0 → LinesConnected lines entries stmts c n t u r → r ≡ true
-    found t u r z p = p (L .lines) (holds-lines h) rows-held (holds-stmts h) z .done
+    found : (t u : List ℕ) (r : Bool) → t ≡ replicate (length t) 0 → LinesConnected entries stmts c n t u r → r ≡ true
+    found t u r z p = p (L .lines) (h .within .lines) rows-held (holds-stmts h) z .done
 
-    falling : (t u : List ℕ) (r : Bool) → t ≡ replicate (length t) 0 → length u ≡ length t → LinesConnected lines entries stmts c n t u r → u ≡ padded (length u) (fallRows (wire L .entries) (wire L .nodes))
+    falling : (t u : List ℕ) (r : Bool) → t ≡ replicate (length t) 0 → length u ≡ length t → LinesConnected entries stmts c n t u r → u ≡ padded (length u) (fallRows (wire L .entries) (wire L .nodes))
     unfolding wire
-    falling t u r z e p = p (L .lines) (holds-lines h) rows-held (holds-stmts h) z .table ∙ ap (λ (k : ℕ). padded k (fallRows (wire L .entries) (wire L .nodes))) (sym e)
+    falling t u r z e p = p (L .lines) (h .within .lines) rows-held (holds-stmts h) z .table ∙ ap (λ (k : ℕ). padded k (fallRows (wire L .entries) (wire L .nodes))) (sym e)
 
-    linking : (t u v : List ℕ) → t ≡ replicate (length t) 0 → length v ≡ length t → JumpsLinked lines entries c stmts args n t u → ForsLinked stmts args n u v → v ≡ linkTable (length v) (wire L)
+    linking : (t u v : List ℕ) → t ≡ replicate (length t) 0 → length v ≡ length t → JumpsLinked entries c stmts args n t u → ForsLinked stmts args n u v → v ≡ linkTable (length v) (wire L)
     unfolding linkTable wire
     linking t u v z e p q =
         let W = wire L in
-        let a : u ≡ linked (W .entries) (replicate (length v) 0) 0 (W .nodes) = p (L .lines) (holds-lines h) rows-held (holds-stmts h) (holds-args h)
+        let a : u ≡ linked (W .entries) (replicate (length v) 0) 0 (W .nodes) = p (L .lines) (h .within .lines) rows-held (holds-stmts h) (holds-args h)
         ∙ ap (λ (x : List ℕ). linked (W .entries) x 0 (W .nodes)) (z ∙ ap (λ (k : ℕ). replicate k 0) (sym e)) in
         q (W .nodes) (holds-listed h) (sym (holds-length h)) ∙ ap (linkedRows 0 (W .nodes) []) a
 
@@ -138,14 +139,14 @@ pub never-lost : (x : Bool) → x ≡ true → not x ≡ true → ⊥
 never-lost x f e = let z : _≡_ {A = Bool} true false = sym f ∙ not-true x e in let y : _≡_ {A = ℕ} 0 1 = cc in omega arith
 
 module _ {lines stmts args entries falls links : List ℕ} {c n : ℕ} (ready : PrepareReady lines stmts args entries falls links c n)
-    {entries′ falls′ : List ℕ} {ok : Bool} (long-entries : length entries′ ≡ length entries) (computed : EntriesComputed stmts c n entries entries′) (connected : LinesConnected lines entries′ stmts c n falls falls′ ok) where
+    {entries′ falls′ : List ℕ} {ok : Bool} (long-entries : length entries′ ≡ length entries) (computed : EntriesComputed lines stmts c n entries entries′) (connected : LinesConnected entries′ stmts c n falls falls′ ok) where
   -- 27 is never answered
   pub none-lost : not ok ≡ true → ⊥
   none-lost e =
       let h = ready .holds in
       never-lost ok (found h entries′ (entered h entries entries′ (ready .zero-entries) long-entries computed) falls falls′ ok (ready .zero-falls) connected) e
 
-  pub all-prepared : {links₁ links′ : List ℕ} → length falls′ ≡ length falls → length links′ ≡ length links → JumpsLinked lines entries′ c stmts args n links links₁ → ForsLinked stmts args n links₁ links′
+  pub all-prepared : {links₁ links′ : List ℕ} → length falls′ ≡ length falls → length links′ ≡ length links → JumpsLinked entries′ c stmts args n links links₁ → ForsLinked stmts args n links₁ links′
       → PreparedTo lines stmts args entries′ falls′ links′ c n true
   all-prepared {links₁} {links′} long-falls long-links jumps fors =
       record { answered = refl; prepared = λ L h. made L h }
@@ -165,6 +166,7 @@ module _ {lines stmts args entries falls links : List ℕ} {c n : ℕ} (ready : 
             linking = linking h entries′ en links links₁ links′ (ready .zero-links) long-links jumps fors;
             stmts-fit = h .stmts-fit;
             args-fit = h .args-fit;
+            few-lines = omega (arith, h .count-is, h .within .lineCount);
             entries-fit = omega (arith, ready .entries-fit);
             falls-fit = omega (arith, ready .falls-fit);
             links-fit = omega (arith, ready .links-fit);
@@ -214,6 +216,7 @@ with-frames {L} {stmts} {args} {entries} {falls} {links} {frames} {dispatched} {
       dispatches = ds .0;
       stmts-fit = p .stmts-fit;
       args-fit = p .args-fit;
+      few-lines = p .few-lines;
       entries-fit = p .entries-fit;
       falls-fit = p .falls-fit;
       links-fit = p .links-fit;

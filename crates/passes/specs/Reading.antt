@@ -44,7 +44,7 @@ readBy kl kn q = answerOf kl (kn * 12) (kn * 64) q
 -- the answer and every entry, of tables with nl, ns and na entries; q: what was read
 pub record FittingRead (q : Answer) (kl kn nl ns na : ℕ) (c l t a : List ℕ) (r : Listed) : Type 0 where
   pub answer : r ≡ listedOf (readBy kl kn q)
-  pub counts : c ≡ tableOf countsOf (readBy kl kn q) 5
+  pub counts : c ≡ tableOf countsOf (readBy kl kn q) 6
   pub lines : l ≡ tableOf lineEntries (readBy kl kn q) nl
   pub stmts : t ≡ tableOf stmtEntries (readBy kl kn q) ns
   pub args : a ≡ tableOf argEntries (readBy kl kn q) na

@@ -5,7 +5,7 @@ use mathlib.Core.List.{List, [], _∷_}
 use lib.ListN.{replicate, take}
 use Rattle.listings.specs.Listing.{gosub, return, ongoto, stop, Simple, if, ifelse, to, stmts, absent, ∅, _▸_, branching, Lines, nolines, line}
 use Rattle.graph.specs.Nodes.{entries, nodes}
-use Rattle.passes.specs.LineEntries.{entryNumbers, entryRows}
+use Rattle.passes.specs.LineEntries.{entryPairs, entryRows}
 use Rattle.passes.specs.Falls.{leads, stmtRow, fallRow, fallRows}
 use Rattle.passes.specs.Jumps.{jumpTargets, stmtTargets, linkRow, linked}
 use Rattle.graph.specs.Opened.{opened}
@@ -26,10 +26,10 @@ nested = line nolines 10 (branching ∅ ifelse stmts (branching (∅ ▸ Simple.
 unfoldable pub jumps : Lines
 jumps = line (line (line nolines 10 (∅ ▸ ongoto (40 ∷ 30 ∷ 20 ∷ []))) 20 ∅) 40 (∅ ▸ stop)
 
-pub computed : (entryRows c2 ≡ 1 ∷ 1 ∷ 0 ∷ [])
-    × (entryRows c12 ≡ 1 ∷ 3 ∷ 4 ∷ [])
+pub computed : (entryRows c2 ≡ 10 ∷ 1 ∷ 20 ∷ 1 ∷ 30 ∷ 0 ∷ [])
+    × (entryRows c12 ≡ 10 ∷ 1 ∷ 20 ∷ 3 ∷ 100 ∷ 4 ∷ [])
     × (fallRows (entries c12) (nodes c12) ≡ 2 ∷ 0 ∷ 0 ∷ 3 ∷ 0 ∷ 0 ∷ 4 ∷ 0 ∷ 0 ∷ 5 ∷ 3 ∷ 5 ∷ 0 ∷ 0 ∷ 0 ∷ [])
     × (fallRows (entries nested) (nodes nested) ≡ 4 ∷ 2 ∷ 4 ∷ 3 ∷ 0 ∷ 0 ∷ 4 ∷ 4 ∷ 4 ∷ 0 ∷ 0 ∷ 0 ∷ [])
     × (take 4 (linked (entries jumps) (replicate 128 0) 0 (nodes jumps)) ≡ 2 ∷ 0 ∷ 2 ∷ 0 ∷ [])
-unfolding opened entryNumbers entryRows leads stmtRow fallRow fallRows jumpTargets stmtTargets linkRow linked c2 c12 nested jumps
+unfolding opened entryPairs entryRows leads stmtRow fallRow fallRows jumpTargets stmtTargets linkRow linked c2 c12 nested jumps
 computed = (refl, refl, refl, refl, refl)

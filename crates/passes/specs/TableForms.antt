@@ -1,6 +1,6 @@
 -- What the lent tables hold for a listing, every entry of every table, whoever wrote them. Assumes nothing.
 -- Nothing outside opens these definitions: the laws at the end say what each is.
-use Prim.Native.Nat.{ℕ, min}
+use Prim.Native.Nat.{ℕ, _/_, min}
 use mathlib.Core.Path.{_≡_, refl}
 use mathlib.Core.List.{List, [], _∷_}
 use lib.ListN.{length, replicate}
@@ -18,9 +18,9 @@ use Rattle.passes.specs.Room.{stmtRoom}
 
 -- ---- each table of k entries, for a listing; zeros past the used part
 
--- lines, statements, handlers, edges, return targets
+-- lines, statements, handlers, edges, return targets, entry rows
 pub countTable : Listing → ℕ → List ℕ
-countTable L k = padded k (count (L .lines) ∷ total (L .lines) ∷ handlerNumber (L .handlers) ∷ edgeCount L ∷ length (returnTargets (wire L)) ∷ [])
+countTable L k = padded k (count (L .lines) ∷ total (L .lines) ∷ handlerNumber (L .handlers) ∷ edgeCount L ∷ length (returnTargets (wire L)) ∷ length (wire L .entries .rows) ∷ [])
 
 -- the reader's records
 pub lineTable : Listing → ℕ → List ℕ
@@ -32,7 +32,7 @@ stmtTable L k = padded k (recRows (lineRecs (L .lines)))
 pub argTable : Listing → ℕ → List ℕ
 argTable L k = padded k (argRows (lineRecs (L .lines)))
 
--- the line entries
+-- the line entries: numbers and nodes
 pub entryTable : Listing → ℕ → List ℕ
 entryTable L k = padded k (entryRows (L .lines))
 
@@ -91,7 +91,7 @@ sizesOf l t a e f k i r u p =
 pub capacity : Sizes → Capacity
 capacity s =
     record {
-      lines = min (s .lines) (s .entries);
+      lines = min (s .lines) (s .entries / 2);
       nodes = stmtRoom (s .stmts) (s .args) (s .falls) (s .links) (s .lists) (s .returns);
       edges = min (s .succ) (s .pred);
     }
@@ -118,7 +118,7 @@ tablesOf c l t a e f k i r u p =
 
 -- "its graph is written": every entry of every table, zeros past the used parts
 pub record Written (L : Listing) (s : Sizes) (T : Tables) : Type 0 where
-  pub counts : T .counts ≡ countTable L 5
+  pub counts : T .counts ≡ countTable L 6
   pub lines : T .lines ≡ lineTable L (s .lines)
   pub stmts : T .stmts ≡ stmtTable L (s .stmts)
   pub args : T .args ≡ argTable L (s .args)
@@ -132,7 +132,7 @@ pub record Written (L : Listing) (s : Sizes) (T : Tables) : Type 0 where
 
 -- "leaves every entry of its tables zero"
 pub record AllZero (s : Sizes) (T : Tables) : Type 0 where
-  pub counts : T .counts ≡ replicate 5 0
+  pub counts : T .counts ≡ replicate 6 0
   pub lines : T .lines ≡ replicate (s .lines) 0
   pub stmts : T .stmts ≡ replicate (s .stmts) 0
   pub args : T .args ≡ replicate (s .args) 0
@@ -147,12 +147,12 @@ pub record AllZero (s : Sizes) (T : Tables) : Type 0 where
 -- ---- what each definition is, as laws
 
 pub capacity-is : (s : Sizes) → capacity s
-    ≡ record { lines = min (s .lines) (s .entries); nodes = stmtRoom (s .stmts) (s .args) (s .falls) (s .links) (s .lists) (s .returns); edges = min (s .succ) (s .pred) }
+    ≡ record { lines = min (s .lines) (s .entries / 2); nodes = stmtRoom (s .stmts) (s .args) (s .falls) (s .links) (s .lists) (s .returns); edges = min (s .succ) (s .pred) }
 unfolding capacity
 capacity-is s = refl
 
 module _ (L : Listing) (k : ℕ) where
-  pub count-table : countTable L k ≡ padded k (count (L .lines) ∷ total (L .lines) ∷ handlerNumber (L .handlers) ∷ edgeCount L ∷ length (returnTargets (wire L)) ∷ [])
+  pub count-table : countTable L k ≡ padded k (count (L .lines) ∷ total (L .lines) ∷ handlerNumber (L .handlers) ∷ edgeCount L ∷ length (returnTargets (wire L)) ∷ length (wire L .entries .rows) ∷ [])
   unfolding countTable
   count-table = refl
 

@@ -31,7 +31,7 @@ use Rattle.graph_laws.specs.PerNodeLaws.{length-facts, per-node}
 use Rattle.graph_laws.specs.Theorems.{factsOf, lists-per-node}
 use Rattle.passes.specs.OpenerLaws.{some-at, node-of, fall-at, stmt-at}
 use Rattle.passes.specs.ListedNodes.{SimpleListed, SlotsCounted, ForKind, isFor, isNext, isOther, for-kind, for-number}
-use Rattle.passes.specs.LineEntries.{entryRows}
+use Rattle.passes.specs.LineSearch.{table-nodes}
 use Rattle.passes.specs.Late.{FitsPart, LateTables, LateReady, lateEdges, LateAdded}
 use Rattle.passes.specs.LateLaws.{late-ready}
 use Rattle.passes.specs.Growing.{Grown, Grows, all-left, all-right, grown-added}
@@ -125,7 +125,6 @@ module _ {L : Listing} {stmts ks entries falls links frames ds : List ℕ} {line
           }
 
       own-fits : (part : List ℕ) → n ≤ length part → OwnRoom stmts entries falls links frames lines i part
-      unfolding wire
       own-fits part h = record {
         stmts = omega (arith, P .stmts-fit);
         entries = P .entries-fit;
@@ -135,7 +134,7 @@ module _ {L : Listing} {stmts ks entries falls links frames ds : List ℕ} {line
         opener = opener-fits P i lt x f ex ef;
         few = few-args;
         popped = popped-fits part h;
-        rises = rw (entered P) (entries-rise (L .lines));
+        rises = rw (table-nodes (entered P)) (entries-rise (L .lines));
         room = record { nodes = n; grown = grown-start n part h; ids = own-ids };
       }
 

@@ -29,7 +29,7 @@ puts-whole out out′ l n h g =
 
 -- so `list_graph` with tables of these lengths, s, and 1,048,576 bytes for the graph writes all of what the definition's `flowlist` says
 pub listed-limits : (text : List ℕ) (s : Sizes) (c l t a e f k i r u p out out′ : List ℕ) (n : ℕ) → 1024 ≡ s .lines → 49152 ≡ s .stmts → 262144 ≡ s .args
-    → 1024 ≡ s .entries → 12288 ≡ s .falls → 262144 ≡ s .links → 16384 ≡ s .lists → 4096 ≡ s .returns → 32768 ≡ s .succ
+    → 2048 ≡ s .entries → 12288 ≡ s .falls → 262144 ≡ s .links → 16384 ≡ s .lists → 4096 ≡ s .returns → 32768 ≡ s .succ
     → 32768 ≡ s .pred → length out ≡ 1048576 → GraphListed text s c l t a e f k i r u p out out′ n → Whole out′ n (flowlist text)
 unfolding flowlist
 listed-limits text s c l t a e f k i r u p out out′ n hl ht ha he hf hk hi hr hu hp ho g =

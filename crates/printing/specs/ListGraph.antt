@@ -29,18 +29,18 @@ module _ (text : List ℕ) (s : Sizes) (c l t a e f k i r u p : List ℕ) (x : B
   T = tablesOf c l t a e f k i r u p
 
   -- the graph of the listing that the text is
-  listing-held : x ≡ answer.Graph → (L : Listing) × (build (capacity s) text ≡ graph L) × GraphHeld L l t e f i r u p (getD c 0 0) (getD c 1 0) (getD c 4 0)
+  listing-held : x ≡ answer.Graph → (L : Listing) × (build (capacity s) text ≡ graph L) × GraphHeld L l t e f i r u p (getD c 5 0) (getD c 1 0) (getD c 4 0)
   listing-held q =
       let g = graph-of (text-read text) s T x w q in
       let L = g .0 in
       let n = counts-held L s T (g .3) in
       let h = graph-held L s T (g .1 .in-form .within) (g .2) (g .3) in
-      (L, accepted-built (text-read text) s L (g .1) (g .2), rw (n .lines, n .stmts, n .targets) h)
+      (L, accepted-built (text-read text) s L (g .1) (g .2), rw (n .rows, n .stmts, n .targets) h)
 
-  pub some-graph : x ≡ answer.Graph → SomeGraph l t e f i r u p (getD c 0 0) (getD c 1 0) (getD c 4 0)
+  pub some-graph : x ≡ answer.Graph → SomeGraph l t e f i r u p (getD c 5 0) (getD c 1 0) (getD c 4 0)
   some-graph q = let h = listing-held q in (h .0, h .2)
 
-  pub graph-listed : (out out′ : List ℕ) (n : ℕ) → x ≡ answer.Graph → GraphPrinted l t e f i r u p (getD c 0 0) (getD c 1 0) (getD c 4 0) out out′ n
+  pub graph-listed : (out out′ : List ℕ) (n : ℕ) → x ≡ answer.Graph → GraphPrinted l t e f i r u p (getD c 5 0) (getD c 1 0) (getD c 4 0) out out′ n
       → GraphListed text s c l t a e f k i r u p out out′ n
   unfolding written
   graph-listed out out′ n q z = let h = listing-held q in record { answer = x; built = w; listed = puts-is (sym (ap written (h .1))) (z (h .0) (h .2)) }

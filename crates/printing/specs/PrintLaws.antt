@@ -10,14 +10,14 @@ use Rattle.listings.specs.Bytes.{pick, bytes}
 use Rattle.listings.specs.Listing.{Listing}
 use Rattle.graph.specs.Lists.{each, list, below}
 use Rattle.graph_laws.specs.Adding.{nodeNumber, decode-number}
-use Rattle.graph.specs.Nodes.{Node, nodes}
+use Rattle.graph.specs.Nodes.{Node, LineEntry, nodes}
 use Rattle.graph.specs.NodeWords.{stmtNumber}
 use Rattle.graph.specs.Graph.{Wired, wire, allSuccessors, predecessorsIn, returnTargets}
 use Rattle.graph.specs.Print.{spaced, joined, nodeRow, nodeRows, entryRow, backRow, printed}
 use Rattle.tables.specs.Columns.{callWord, wordOf}
 use Rattle.passes.specs.OpenerLaws.{in-range}
-use Rattle.passes.specs.LineSearch.{entry-at, entry-table, entries-held}
-use Rattle.passes.specs.Held.{lines-held}
+use Rattle.passes.specs.EntryColumn.{table-row}
+use Rattle.wiring.specs.WrittenLaws.{held-table}
 use Rattle.passes.specs.TableReads.{fall-of}
 use Rattle.formatting.specs.Printing.{Puts, puts-both, each-snoc, pairText}
 use Rattle.printing.specs.PrintedTables.{headText, listsText, nodeText, someText, entryText, backText, returnsText}
@@ -59,9 +59,9 @@ row-is i d ss ps = simp append-assoc
 
 -- ---- line entries
 
-entry-is : (lines entries : List ℕ) (l : ℕ) (d : ℕ × Option ℕ) → getD lines l 0 ≡ d .0 → getD entries l 0 ≡ nodeNumber (d .1) → entryText lines entries l ≡ entryRow d
+entry-is : (entries : List ℕ) (k : ℕ) (d : LineEntry) → getD entries (k * 2 + 0) 0 ≡ d .0 → getD entries (k * 2 + 1) 0 ≡ nodeNumber (d .1) → entryText entries k ≡ entryRow d
 unfolding entryText someText pairText entryRow
-entry-is lines entries l d e f = rw (e, f, decode-number (d .1))
+entry-is entries k d e f = rw (e, f, decode-number (d .1))
 
 -- ---- continuations
 
@@ -87,7 +87,7 @@ printed-is : (L : Listing) → graphText (length (wire L .nodes)) (nodeRows (all
 unfolding graphText returnsText printed
 printed-is L = simp append-assoc
 
-module _ {L : Listing} {lines stmts entries falls lists returns succ pred : List ℕ} {count n targets : ℕ} (g : GraphHeld L lines stmts entries falls lists returns succ pred count n targets) where
+module _ {L : Listing} {lines stmts entries falls lists returns succ pred : List ℕ} {rows n targets : ℕ} (g : GraphHeld L lines stmts entries falls lists returns succ pred rows n targets) where
   node-is : (i : ℕ) (d : Node) → getElem? (wire L .nodes) i ≡ some d → nodeText lines stmts lists succ pred i ≡ nodeRow i d (getD (allSuccessors L) i []) (predecessorsIn i 0 (allSuccessors L))
   unfolding nodeText
   node-is i d e =
@@ -100,22 +100,20 @@ module _ {L : Listing} {lines stmts entries falls lists returns succ pred : List
       ap (λ (k : ℕ). each (nodeText lines stmts lists succ pred) (below k)) (sym (node-count g))
       ∙ rows-index (allSuccessors L) 0 (nodeText lines stmts lists succ pred) (wire L .nodes) (λ k d e. let z : 0 + k ≡ k = omega arith in rw z (node-is k d e))
 
-  entries-text : each (entryText lines entries) (below count) ≡ each entryRow (wire L .entries .rows)
-  unfolding wire
+  entries-text : each (entryText entries) (below rows) ≡ each entryRow (wire L .entries .rows)
   entries-text =
-      let t = entry-table (L .lines) lines entries _ (lines-held (L .lines) (length lines) lines (g .within .lines) (g .lines-are)) (entries-held (L .lines) (length entries) entries (g .entries-are)) in
-      let k : count ≡ length (wire L .entries .rows) = g .count-is ∙ t .counted in
-      ap (λ (k : ℕ). each (entryText lines entries) (below k)) k
-      ∙ each-index entryRow (entryText lines entries) (wire L .entries .rows) (λ l d e.
-      let q = entry-at (wire L .entries .rows) (t .more) (t .rest) l d e in
-      entry-is lines entries l d (ap (λ (x : List ℕ). getD x l 0) (t .numbers) ∙ q .0) (ap (λ (x : List ℕ). getD x l 0) (t .nodes) ∙ q .1))
+      let t = held-table g in
+      ap (λ (k : ℕ). each (entryText entries) (below k)) (t .counted)
+      ∙ each-index entryRow (entryText entries) (wire L .entries .rows) (λ k d e.
+      let q = table-row t k d e in
+      entry-is entries k d (q .0) (q .1))
 
   backs-text : each (backText stmts falls) (below n) ≡ each (backRow (wire L)) (below n)
   backs-text =
       each-below (backText stmts falls) (backRow (wire L)) n
       (λ i h. let d = some-node g i h in back-is (wire L) stmts falls i (d .0) (d .1) (reads g i (d .0) (d .1) .word-is) (fall-of (wire L .entries) (wire L .nodes) (length falls) falls (g .falls-are) i (d .0) (d .1)))
 
-  pub graph-text : graphText n (each (nodeText lines stmts lists succ pred) (below n)) (each (entryText lines entries) (below count)) (take targets returns) (each (backText stmts falls) (below n)) ≡ printed L
+  pub graph-text : graphText n (each (nodeText lines stmts lists succ pred) (below n)) (each (entryText entries) (below rows)) (take targets returns) (each (backText stmts falls) (below n)) ≡ printed L
   graph-text = rw (nodes-text, entries-text, returns-are g, backs-text, ← node-count g) (printed-is L)
 
 pub puts-graph : {p q s t u v w x : List ℕ} {a b c d e f r : ℕ} {ns es bs : List ℕ} (k : ℕ) (rs : List ℕ) → Puts p 0 q a (bytes "(graph" ++ spaced (0 ∷ k ∷ [])) → Puts q a s b (bytes "\n") → Puts s b t c ns → Puts t c u d es

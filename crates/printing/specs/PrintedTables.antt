@@ -35,8 +35,9 @@ nodeText lines stmts lists succ pred i =
 unfoldable pub someText : List ℕ → (a e : ℕ) → List ℕ
 someText w a e = each (pairText w a) (decode e)
 
-unfoldable pub entryText : (lines entries : List ℕ) → ℕ → List ℕ
-entryText lines entries l = someText (bytes "(entry") (getD lines l 0) (getD entries l 0)
+-- row k of the line entries
+unfoldable pub entryText : (entries : List ℕ) → ℕ → List ℕ
+entryText entries k = someText (bytes "(entry") (getD entries (k * 2 + 0) 0) (getD entries (k * 2 + 1) 0)
 
 -- where a call falls
 unfoldable pub backText : (stmts falls : List ℕ) → ℕ → List ℕ
@@ -138,9 +139,10 @@ unfolding someText each
 puts-some p q n r w a zero x z f b = absurd (z refl)
 puts-some p q n r w a (suc e) x z f b = puts-is (ap (λ (y : ℕ). pairText w a (y - 1)) f ∙ rw (sub-one (suc e)) (sym (append-nil (pairText w a e)))) b
 
-pub puts-entry : (p q : List ℕ) (n r : ℕ) (lines entries : List ℕ) (l x : ℕ) → x ≡ getD lines l 0 → Puts p n q r (someText (bytes "(entry") x (getD entries l 0)) → Puts p n q r (entryText lines entries l)
+pub puts-entry : (p q : List ℕ) (n r : ℕ) (entries : List ℕ) (k x : ℕ) → x ≡ getD entries (k * 2 + 0) 0 → Puts p n q r (someText (bytes "(entry") x (getD entries (k * 2 + 1) 0))
+    → Puts p n q r (entryText entries k)
 unfolding entryText
-puts-entry p q n r lines entries l x e a = rw e at a
+puts-entry p q n r entries k x e a = rw e at a
 
 pub puts-back : (p q : List ℕ) (n r : ℕ) (stmts falls : List ℕ) (i : ℕ) → callWord (wordOf stmts i) ≡ true → Puts p n q r (someText (bytes "(back") i (getD falls (i * 3) 0)) → Puts p n q r (backText stmts falls i)
 unfolding backText
@@ -155,16 +157,16 @@ unfolding returnsText
 puts-returns p q s t n m k r l a b c = puts-both _ _ _ _ _ _ _ _ (puts-both _ _ _ _ _ _ _ _ a b) c
 
 -- of some listing
-abbrev pub SomeGraph : (lines stmts entries falls lists returns succ pred : List ℕ) (count n targets : ℕ) → Type 0
-SomeGraph lines stmts entries falls lists returns succ pred count n targets =
-    (L : Listing) × GraphHeld L lines stmts entries falls lists returns succ pred count n targets
+abbrev pub SomeGraph : (lines stmts entries falls lists returns succ pred : List ℕ) (rows n targets : ℕ) → Type 0
+SomeGraph lines stmts entries falls lists returns succ pred rows n targets =
+    (L : Listing) × GraphHeld L lines stmts entries falls lists returns succ pred rows n targets
 
 -- the printed graph of the listing whose graph they hold
-abbrev pub GraphPrinted : (lines stmts entries falls lists returns succ pred : List ℕ) (count n targets : ℕ) (out out′ : List ℕ) (r : ℕ) → Type 0
-GraphPrinted lines stmts entries falls lists returns succ pred count n targets out out′ r =
-    (L : Listing) → GraphHeld L lines stmts entries falls lists returns succ pred count n targets → Puts out 0 out′ r (printed L)
+abbrev pub GraphPrinted : (lines stmts entries falls lists returns succ pred : List ℕ) (rows n targets : ℕ) (out out′ : List ℕ) (r : ℕ) → Type 0
+GraphPrinted lines stmts entries falls lists returns succ pred rows n targets out out′ r =
+    (L : Listing) → GraphHeld L lines stmts entries falls lists returns succ pred rows n targets → Puts out 0 out′ r (printed L)
 
 -- with the counts as they were read
-pub held-as : {L : Listing} {lines stmts entries falls lists returns succ pred : List ℕ} (a b c : ℕ) {count n targets : ℕ} → a ≡ count → b ≡ n → c ≡ targets
-    → GraphHeld L lines stmts entries falls lists returns succ pred count n targets → GraphHeld L lines stmts entries falls lists returns succ pred a b c
+pub held-as : {L : Listing} {lines stmts entries falls lists returns succ pred : List ℕ} (a b c : ℕ) {rows n targets : ℕ} → a ≡ rows → b ≡ n → c ≡ targets
+    → GraphHeld L lines stmts entries falls lists returns succ pred rows n targets → GraphHeld L lines stmts entries falls lists returns succ pred a b c
 held-as a b c e f g h = rw (e, f, g) h

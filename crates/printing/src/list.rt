@@ -11,7 +11,7 @@ ghost use Rattle.printing.specs.ListGraph.{GraphListed};
 
 // Prints the graph that the tables hold, with the counts as their table has them.
 fn print_counted(
-    counts: &[u32; 5],
+    counts: &[u32; 6],
     lines: &[u16],
     stmts: &[u16],
     entries: &[u16],
@@ -22,8 +22,8 @@ fn print_counted(
     pred: &[u16],
     out: &mut [u8],
 ) -> usize
-    requires { ⌜ SomeGraph (now lines) (now stmts) (now entries) (now falls) (now lists) (now returns) (now succ) (now pred) (getD (now counts) 0 0) (getD (now counts) 1 0) (getD (now counts) 4 0) ⌝ }
-    ensures { λ r. ⌜ GraphPrinted (now (lines .entry)) (now (stmts .entry)) (now (entries .entry)) (now (falls .entry)) (now (lists .entry)) (now (returns .entry)) (now (succ .entry)) (now (pred .entry)) (getD (now (counts .entry)) 0 0) (getD (now (counts .entry)) 1 0) (getD (now (counts .entry)) 4 0) (now (out .entry)) (now (out .exit)) r ⌝ }
+    requires { ⌜ SomeGraph (now lines) (now stmts) (now entries) (now falls) (now lists) (now returns) (now succ) (now pred) (getD (now counts) 5 0) (getD (now counts) 1 0) (getD (now counts) 4 0) ⌝ }
+    ensures { λ r. ⌜ GraphPrinted (now (lines .entry)) (now (stmts .entry)) (now (entries .entry)) (now (falls .entry)) (now (lists .entry)) (now (returns .entry)) (now (succ .entry)) (now (pred .entry)) (getD (now (counts .entry)) 5 0) (getD (now (counts .entry)) 1 0) (getD (now (counts .entry)) 4 0) (now (out .entry)) (now (out .exit)) r ⌝ }
 {
     print_graph(
         counts,
@@ -35,7 +35,7 @@ fn print_counted(
         returns,
         succ,
         pred,
-        count_of(counts[0]),
+        count_of(counts[5]),
         count_of(counts[1]),
         count_of(counts[4]),
         out,
@@ -45,7 +45,7 @@ fn print_counted(
 // Builds the graph of a text in the lent tables and prints it, or its refusal; answers where the next byte would go (the length of `out` if it did not fit).
 pub fn list_graph(
     text: &[u8],
-    counts: &mut [u32; 5],
+    counts: &mut [u32; 6],
     lines: &mut [u16],
     stmts: &mut [u16],
     args: &mut [u64],

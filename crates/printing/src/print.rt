@@ -4,6 +4,9 @@ use formatting::print_numbers::put_bytes;
 use formatting::print_numbers::put_pair;
 use formatting::print_numbers::put_spaced;
 use formatting::print_rows::put_pair_row;
+use layout::columns::ENTRY_ENTRIES;
+use layout::columns::ENTRY_NODE;
+use layout::columns::ENTRY_NUMBER;
 use layout::columns::FALL_ENTRIES;
 use layout::columns::STMT_ENTRIES;
 use tables::calls::is_call;
@@ -25,24 +28,30 @@ fn put_some(out: &mut [u8], at: usize, word: &[u8], a: usize, e: u16) -> usize
     put_pair_row(out, at, word, a, wide(e) - 1)
 }
 
-// The entry of line l; no row where there is none.
-fn put_entry(out: &mut [u8], at: usize, lines: &[u16], entries: &[u16], l: usize) -> usize
-    requires { ⌜ (l < length (now lines)) × (l < length (now entries)) ⌝ }
-    ensures { λ r. ⌜ Puts (now (out .entry)) at (now (out .exit)) r (entryText (now (lines .entry)) (now (entries .entry)) l) ⌝ }
+// The entry in row k; no row where there is none.
+fn put_entry(out: &mut [u8], at: usize, entries: &[u16], k: usize) -> usize
+    requires { ⌜ k * 2 + 2 ≤ length (now entries) ⌝ }
+    ensures { λ r. ⌜ Puts (now (out .entry)) at (now (out .exit)) r (entryText (now (entries .entry)) k) ⌝ }
 {
-    put_some(out, at, b"(entry", wide(lines[l]), entries[l])
+    put_some(
+        out,
+        at,
+        b"(entry",
+        wide(entries[k * ENTRY_ENTRIES + ENTRY_NUMBER]),
+        entries[k * ENTRY_ENTRIES + ENTRY_NODE],
+    )
 }
 
-// The entries of `count` lines, by number.
-fn put_entries(out: &mut [u8], at: usize, lines: &[u16], entries: &[u16], count: usize) -> usize
-    requires { ⌜ (count ≤ length (now lines)) × (count ≤ length (now entries)) ⌝ }
-    ensures { λ r. ⌜ Puts (now (out .entry)) at (now (out .exit)) r (each (entryText (now (lines .entry)) (now (entries .entry))) (below count)) ⌝ }
+// The entries of so many rows, by number.
+fn put_entries(out: &mut [u8], at: usize, entries: &[u16], rows: usize) -> usize
+    requires { ⌜ rows * 2 ≤ length (now entries) ⌝ }
+    ensures { λ r. ⌜ Puts (now (out .entry)) at (now (out .exit)) r (each (entryText (now (entries .entry))) (below rows)) ⌝ }
 {
     let mut r = at;
-    let mut l: usize = 0;
-    while l < count {
-        r = put_entry(out, r, lines, entries, l);
-        l += 1;
+    let mut k: usize = 0;
+    while k < rows {
+        r = put_entry(out, r, entries, k);
+        k += 1;
     }
     r
 }
@@ -82,9 +91,9 @@ fn put_returns(out: &mut [u8], at: usize, returns: &[u16], targets: usize) -> us
     put_bytes(out, r, b")\n")
 }
 
-// Prints the graph that the tables hold, of `count` lines, n nodes and so many return targets.
+// Prints the graph that the tables hold, of so many entry rows, n nodes and so many return targets.
 pub(crate) fn print_graph(
-    counts: &[u32; 5],
+    counts: &[u32; 6],
     lines: &[u16],
     stmts: &[u16],
     entries: &[u16],
@@ -93,18 +102,18 @@ pub(crate) fn print_graph(
     returns: &[u16],
     succ: &[u16],
     pred: &[u16],
-    count: usize,
+    rows: usize,
     n: usize,
     targets: usize,
     out: &mut [u8],
 ) -> usize
-    requires { ⌜ SomeGraph (now lines) (now stmts) (now entries) (now falls) (now lists) (now returns) (now succ) (now pred) count n targets × (n ≡ getD (now counts) 1 0) ⌝ }
-    ensures { λ r. ⌜ GraphPrinted (now (lines .entry)) (now (stmts .entry)) (now (entries .entry)) (now (falls .entry)) (now (lists .entry)) (now (returns .entry)) (now (succ .entry)) (now (pred .entry)) count n targets (now (out .entry)) (now (out .exit)) r ⌝ }
+    requires { ⌜ SomeGraph (now lines) (now stmts) (now entries) (now falls) (now lists) (now returns) (now succ) (now pred) rows n targets × (n ≡ getD (now counts) 1 0) ⌝ }
+    ensures { λ r. ⌜ GraphPrinted (now (lines .entry)) (now (stmts .entry)) (now (entries .entry)) (now (falls .entry)) (now (lists .entry)) (now (returns .entry)) (now (succ .entry)) (now (pred .entry)) rows n targets (now (out .entry)) (now (out .exit)) r ⌝ }
 {
     let r = put_pair(out, 0, b"(graph", 0, n);
     let r = put_bytes(out, r, b"\n");
     let r = put_nodes(out, r, counts, lines, stmts, lists, succ, pred, n);
-    let r = put_entries(out, r, lines, entries, count);
+    let r = put_entries(out, r, entries, rows);
     let r = put_returns(out, r, returns, targets);
     let r = put_backs(out, r, stmts, falls, n);
     put_bytes(out, r, b")\n")

@@ -61,7 +61,7 @@ fn put_list(out: &mut [u8], at: usize, word: &[u8], list: &[u16]) -> usize
 fn put_lists(
     out: &mut [u8],
     at: usize,
-    counts: &[u32; 5],
+    counts: &[u32; 6],
     lists: &[u16],
     succ: &[u16],
     pred: &[u16],
@@ -81,7 +81,7 @@ fn put_lists(
 fn put_node(
     out: &mut [u8],
     at: usize,
-    counts: &[u32; 5],
+    counts: &[u32; 6],
     lines: &[u16],
     stmts: &[u16],
     lists: &[u16],
@@ -103,7 +103,7 @@ fn put_node(
 pub(crate) fn put_nodes(
     out: &mut [u8],
     at: usize,
-    counts: &[u32; 5],
+    counts: &[u32; 6],
     lines: &[u16],
     stmts: &[u16],
     lists: &[u16],

@@ -160,7 +160,7 @@ module _ {L : Listing} {lines n : ℕ} {stmts args falls lists succ : List ℕ} 
 -- ---- the tables that a build wrote
 
 module _ (L : Listing) (s : Sizes) (T : Tables) (ok : Within L) (f : LongEnough s L) (w : Written L s T) where
-  held : GraphHeld L (T .lines) (T .stmts) (T .entries) (T .falls) (T .lists) (T .returns) (T .succ) (T .pred) (count (L .lines)) (total (L .lines)) (length (returnTargets (wire L)))
+  held : GraphHeld L (T .lines) (T .stmts) (T .entries) (T .falls) (T .lists) (T .returns) (T .succ) (T .pred) (length (wire L .entries .rows)) (total (L .lines)) (length (returnTargets (wire L)))
   held = graph-held L s T ok f w
 
   holds : HoldsListing L (T .lines) (T .stmts) (T .args) (count (L .lines)) (total (L .lines))

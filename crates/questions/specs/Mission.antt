@@ -17,7 +17,8 @@ use Rattle.graph.specs.Graph.{wire, successors, predecessors, continuation, ret
 use Rattle.graph.specs.Build.{BuildNumber, edgeCount}
 use Rattle.graph.specs.Demand3.{Demand3}
 use Rattle.graph.specs.Questions.{Reply, answer, refused, askSuccessors, askPredecessors, askEntry, askStatement, askPath, askFrame}
-use Rattle.tables.specs.Columns.{wordOf, lineOf, continuationEntry, pathIn, succPart, predPart, entriesIn}
+use Rattle.tables.specs.Columns.{wordOf, lineOf, continuationEntry, pathIn, succPart, predPart}
+use Rattle.tables.specs.EntryRows.{entriesIn}
 use Rattle.passes.specs.TableForms.{Sizes, Tables, Written, AllZero}
 use Rattle.wiring.specs.GraphTables.{BuildWrote}
 use Rattle.wiring.specs.Refusals.{ListingOf, LongEnough, Refusal}
@@ -65,7 +66,7 @@ pub record Demand2 (L : Listing) (T : Tables) : Type 0 where
   pub count : getD (T .counts) 1 0 ≡ length (nodes (L .lines))
   pub node : (i : ℕ) (n : Node) → getElem? (nodes (L .lines)) i ≡ some n → NodeWritten L T i n
   -- "Line entry: the node where a jump to a line number starts": each line's number with a node or none
-  pub entries : entriesIn (getD (T .counts) 0 0) (T .lines) (T .entries) ≡ wire L .entries .rows
+  pub entries : entriesIn (getD (T .counts) 5 0) (T .entries) ≡ wire L .entries .rows
   pub targets : take (getD (T .counts) 4 0) (T .returns) ≡ returnTargets (wire L)
   pub edges : getD (T .counts) 3 0 ≡ edgeCount L
   pub handlers : getD (T .counts) 2 0 ≡ handlerNumber (L .handlers)
@@ -93,7 +94,7 @@ pub record Questions (L : Listing) (T : Tables) : Type 0 where
   pub predecessor-part : (i : ℕ) → partOf (predecessorsAt (T .counts) (T .lists) (length (T .pred)) i) (T .pred) ≡ listOf (askPredecessors L i)
   pub statement : (i : ℕ) → nodeStatement (T .counts) (T .stmts) i ≡ numbered (askStatement L i)
   pub path : (line : ℕ) (p : List ℕ) → pathStatement (T .counts) (T .stmts) line p ≡ numbered (askPath L line p)
-  pub entry : (number : ℕ) → entryAt (T .counts) (T .lines) (T .entries) number ≡ askEntry L number
+  pub entry : (number : ℕ) → entryAt (T .counts) (T .entries) number ≡ askEntry L number
   -- whatever room there is
   pub frame : (header node : ℕ) (v : Name) (flag : Bool) (room : ℕ)
       → frameAt (getD (T .counts) 0 0) (getD (T .counts) 1 0) (T .stmts) (T .args) (T .falls) (T .lists) (T .succ) header node v flag room ≡ askFrame L header node v flag room

@@ -15,7 +15,8 @@ use Rattle.graph.specs.Demand3.{Demand3}
 use Rattle.graph_laws.specs.GraphLaws.{nodeCount}
 use Rattle.graph_laws.specs.RunLaws.{demand3-of}
 use Rattle.graph_laws.specs.Theorems.{demand-three}
-use Rattle.tables.specs.Columns.{wordOf, succPart, entriesIn}
+use Rattle.tables.specs.Columns.{wordOf, succPart}
+use Rattle.tables.specs.EntryRows.{entriesIn}
 use Rattle.passes.specs.OpenerLaws.{in-range}
 use Rattle.passes.specs.GraphHeld.{GraphHeld}
 use Rattle.passes.specs.GraphReads.{reads, returns-are}
@@ -40,7 +41,7 @@ part-list (refused n p) t = refl
 -- ---- of the tables that were written for L
 
 module _ (L : Listing) (s : Sizes) (T : Tables) (ok : Within L) (g : LongEnough s L) (w : Written L s T) where
-  held : GraphHeld L (T .lines) (T .stmts) (T .entries) (T .falls) (T .lists) (T .returns) (T .succ) (T .pred) (count (L .lines)) (total (L .lines)) (length (returnTargets (wire L)))
+  held : GraphHeld L (T .lines) (T .stmts) (T .entries) (T .falls) (T .lists) (T .returns) (T .succ) (T .pred) (length (wire L .entries .rows)) (total (L .lines)) (length (returnTargets (wire L)))
   held = graph-held L s T ok g w
 
   node-written : (i : ℕ) (n : Node) → getElem? (nodes (L .lines)) i ≡ some n → NodeWritten L T i n
@@ -57,7 +58,7 @@ module _ (L : Listing) (s : Sizes) (T : Tables) (ok : Within L) (g : LongEnough 
       record {
         count = n .stmts ∙ sym (nodes-total L);
         node = node-written;
-        entries = ap (λ (k : ℕ). entriesIn k (T .lines) (T .entries)) (n .lines) ∙ held-entries held;
+        entries = ap (λ (k : ℕ). entriesIn k (T .entries)) (n .rows) ∙ held-entries held;
         targets = ap (λ (k : ℕ). take k (T .returns)) (n .targets) ∙ returns-are held;
         edges = n .edges;
         handlers = n .handlers;

@@ -40,7 +40,7 @@ module _ (L : Listing) (s : Sizes) (T : Tables) (ok : Within L) (g : LongEnough 
   abbrev ns : List Node
   ns = nodesBefore none (L .lines)
 
-  held : GraphHeld L (T .lines) (T .stmts) (T .entries) (T .falls) (T .lists) (T .returns) (T .succ) (T .pred) (count (L .lines)) (total (L .lines)) (length (returnTargets (wire L)))
+  held : GraphHeld L (T .lines) (T .stmts) (T .entries) (T .falls) (T .lists) (T .returns) (T .succ) (T .pred) (length (wire L .entries .rows)) (total (L .lines)) (length (returnTargets (wire L)))
   held = graph-held L s T ok g w
 
   word-is : (i : ℕ) (d : Node) → getElem? ns i ≡ some d → wordOf (T .stmts) i ≡ stmtNumber (d .stmt)

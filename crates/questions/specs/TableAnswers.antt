@@ -13,7 +13,8 @@ use Rattle.graph.specs.Nodes.{entryIn, entryOf}
 use Rattle.graph_laws.specs.NodeLaws.{Below, entry-fits}
 use Rattle.graph.specs.Graph.{wire, successors, predecessors, returnTargets}
 use Rattle.graph_laws.specs.GraphLaws.{nodeCount, entry-ids}
-use Rattle.tables.specs.Columns.{succStart, succCount, predStart, predCount, NodesReadable, entriesIn}
+use Rattle.tables.specs.Columns.{succStart, succCount, predStart, predCount, NodesReadable}
+use Rattle.tables.specs.EntryRows.{entriesIn}
 use Rattle.passes.specs.TableForms.{Sizes, Tables, Written}
 use Rattle.passes.specs.GraphHeld.{GraphHeld}
 use Rattle.passes.specs.GraphReads.{nodes-readable}
@@ -54,11 +55,8 @@ node-in n (some i) b = rw (lt-ltb i n b) refl
 -- ---- all of them
 
 module _ (L : Listing) (s : Sizes) (T : Tables) (ok : Within L) (fits : LongEnough s L) (w : Written L s T) where
-  held : GraphHeld L (T .lines) (T .stmts) (T .entries) (T .falls) (T .lists) (T .returns) (T .succ) (T .pred) (count (L .lines)) (total (L .lines)) (length (returnTargets (wire L)))
+  held : GraphHeld L (T .lines) (T .stmts) (T .entries) (T .falls) (T .lists) (T .returns) (T .succ) (T .pred) (length (wire L .entries .rows)) (total (L .lines)) (length (returnTargets (wire L)))
   held = graph-held L s T ok fits w
-
-  lines-are : getD (T .counts) 0 0 ≡ count (L .lines)
-  lines-are = counts-held L s T w .lines
 
   nodes-are : getD (T .counts) 1 0 ≡ nodeCount L
   nodes-are = counts-held L s T w .stmts ∙ sym (nodes-total L)
@@ -75,12 +73,15 @@ module _ (L : Listing) (s : Sizes) (T : Tables) (ok : Within L) (fits : LongEnou
   pred-inside : (i : ℕ) → i < nodeCount L → predStart (T .lists) i + predCount (T .lists) i ≤ length (T .pred)
   pred-inside i h = readable .pred-in i (omega (arith, nodes-total L))
 
-  pub entry-is : (number : ℕ) → entryAt (T .counts) (T .lines) (T .entries) number ≡ askEntry L number
+  rows-are : getD (T .counts) 5 0 ≡ length (wire L .entries .rows)
+  rows-are = counts-held L s T w .rows
+
+  pub entry-is : (number : ℕ) → entryAt (T .counts) (T .entries) number ≡ askEntry L number
   unfolding entryAt askEntry wire
   entry-is number =
-      rw (le-leb (getD (T .counts) 0 0) (length (T .lines)) (omega (arith, lines-are, held .lines-fit)), le-leb (getD (T .counts) 0 0) (length (T .entries)) (omega (arith, lines-are, held .entries-fit)))
-      (ap (λ (n : ℕ). nodeIn n (entryIn (entriesIn (getD (T .counts) 0 0) (T .lines) (T .entries)) number)) nodes-are
-      ∙ ap (λ (k : ℕ). nodeIn (nodeCount L) (entryIn (entriesIn k (T .lines) (T .entries)) number)) lines-are
+      rw (le-leb (getD (T .counts) 5 0 * 2) (length (T .entries)) (omega (arith, rows-are, held .entries-fit)))
+      (ap (λ (n : ℕ). nodeIn n (entryIn (entriesIn (getD (T .counts) 5 0) (T .entries)) number)) nodes-are
+      ∙ ap (λ (k : ℕ). nodeIn (nodeCount L) (entryIn (entriesIn k (T .entries)) number)) rows-are
       ∙ ap (λ es. nodeIn (nodeCount L) (entryIn es number)) (held-entries held)
       ∙ node-in (nodeCount L) (entryOf (wire L .entries) number) (entry-fits (nodeCount L) (entry-ids L) number))
 

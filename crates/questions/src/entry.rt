@@ -5,8 +5,8 @@ ghost use mathlib.Core.Path.{_≡_};
 ghost use Rattle.adjacency.specs.EntryAt.{entryAt, enteredOf};
 
 // The node where a jump to that line number starts, or none.
-pub fn line_first(counts: &[u32; 5], lines: &[u16], entries: &[u16], number: u16) -> Entered
-    ensures { λ r. ⌜ r ≡ enteredOf (entryAt (now (counts .entry)) (now (lines .entry)) (now (entries .entry)) number) ⌝ }
+pub fn line_first(counts: &[u32; 6], entries: &[u16], number: u16) -> Entered
+    ensures { λ r. ⌜ r ≡ enteredOf (entryAt (now (counts .entry)) (now (entries .entry)) number) ⌝ }
 {
-    ask_entry(counts, lines, entries, number)
+    ask_entry(counts, entries, number)
 }

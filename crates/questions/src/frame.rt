@@ -7,7 +7,7 @@ ghost use Rattle.frame_slices.specs.Told.{FrameTold};
 
 // Header, node, name and flag: the list at the front of `out` and zeros behind, or the refusal and `out` as it was.
 pub fn frame_successors(
-    counts: &[u32; 5],
+    counts: &[u32; 6],
     stmts: &[u16],
     args: &[u64],
     falls: &[u16],

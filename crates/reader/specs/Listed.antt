@@ -32,7 +32,7 @@ argEntries L = argRows (lineRecs (L .lines))
 -- the answer and every entry, of tables with nl, ns and na entries; b: what was read
 pub record Written (b : Answer) (nl ns na : ℕ) (c l t a : List ℕ) (r : Listed) : Type 0 where
   pub answer : r ≡ listedOf (answerOf nl ns na b)
-  pub counts : c ≡ tableOf countsOf (answerOf nl ns na b) 5
+  pub counts : c ≡ tableOf countsOf (answerOf nl ns na b) 6
   pub lines : l ≡ tableOf lineEntries (answerOf nl ns na b) nl
   pub stmts : t ≡ tableOf stmtEntries (answerOf nl ns na b) ns
   pub args : a ≡ tableOf argEntries (answerOf nl ns na b) na
@@ -45,7 +45,7 @@ pub record Judged (text counts lines stmts args : List ℕ) (h : Bool) (nl ns : 
   pub handlers : h ≡ tree .handlers
   pub lineCount : nl ≡ count (tree .lines)
   pub stmtCount : ns ≡ total (tree .lines)
-  pub zeroCounts : counts ≡ replicate 5 0
+  pub zeroCounts : counts ≡ replicate 6 0
   pub zeroLines : lines ≡ replicate (length lines) 0
   pub zeroStmts : stmts ≡ replicate (length stmts) 0
   pub zeroArgs : args ≡ replicate (length args) 0
@@ -68,7 +68,7 @@ module _ (text counts lines stmts args : List ℕ) (h : Bool) (nl ns : ℕ) (j :
       let a : answerOf (length lines) (length stmts) (length args) (read text) ≡ refusal n p = ap (answerOf (length lines) (length stmts) (length args)) (j .reads) ∙ e in
       record {
         answer = sym (ap listedOf a);
-        counts = j .zeroCounts ∙ sym (ap (λ (z : Answer). tableOf countsOf z 5) a);
+        counts = j .zeroCounts ∙ sym (ap (λ (z : Answer). tableOf countsOf z 6) a);
         lines = j .zeroLines ∙ sym (ap (λ (z : Answer). tableOf lineEntries z (length lines)) a);
         stmts = j .zeroStmts ∙ sym (ap (λ (z : Answer). tableOf stmtEntries z (length stmts)) a);
         args = j .zeroArgs ∙ sym (ap (λ (z : Answer). tableOf argEntries z (length args)) a);
@@ -125,14 +125,14 @@ module _ (text counts lines stmts args : List ℕ) (h : Bool) (nl ns : ℕ) (j :
         let s : m ≤ length args / 64 = omega (arith, j .stmtCount) in
         ap (answerOf (length lines) (length stmts) (length args)) (j .reads) ∙ rw (le-leb k (length lines) p, le-leb m (length stmts / 12) q, le-leb m (length args / 64) s)
 
-    pub judged-written : (x y z : ℕ) (k n t a : List ℕ) → x ≡ nl → y ≡ ns → z ≡ handlerNumber h → k ≡ x ∷ y ∷ z ∷ 0 ∷ 0 ∷ [] → Filled text lines stmts args n t a
+    pub judged-written : (x y z : ℕ) (k n t a : List ℕ) → x ≡ nl → y ≡ ns → z ≡ handlerNumber h → k ≡ x ∷ y ∷ z ∷ 0 ∷ 0 ∷ 0 ∷ [] → Filled text lines stmts args n t a
         → Written (read text) (length lines) (length stmts) (length args) k n t a (listed.Accepted h nl ns)
     unfolding tableOf listedOf lineEntries stmtEntries argEntries padded countsOf
     judged-written x y z k n t a p q s i f =
         let g = f (j .tree) (j .reads) in
         record {
           answer = answers (j .handlers) (j .lineCount) (j .stmtCount) ∙ sym (ap listedOf fits);
-          counts = i ∙ counted x y z (j .tree) (p ∙ j .lineCount) (q ∙ j .stmtCount) (s ∙ ap handlerNumber (j .handlers)) ∙ sym (ap (λ (o : Answer). tableOf countsOf o 5) fits);
+          counts = i ∙ counted x y z (j .tree) (p ∙ j .lineCount) (q ∙ j .stmtCount) (s ∙ ap handlerNumber (j .handlers)) ∙ sym (ap (λ (o : Answer). tableOf countsOf o 6) fits);
           lines = g .lines ∙ sym (ap (λ (o : Answer). tableOf lineEntries o (length lines)) fits);
           stmts = g .stmts ∙ sym (ap (λ (o : Answer). tableOf stmtEntries o (length stmts)) fits);
           args = g .args ∙ sym (ap (λ (o : Answer). tableOf argEntries o (length args)) fits);
@@ -141,12 +141,12 @@ module _ (text counts lines stmts args : List ℕ) (h : Bool) (nl ns : ℕ) (j :
         answers : {v u : Bool} {a b c d : ℕ} → v ≡ u → a ≡ b → c ≡ d → listed.Accepted v a c ≡ listed.Accepted u b d
         answers p q r = cc
 
-        counted : (x y z : ℕ) (L : Listing) → x ≡ count (L .lines) → y ≡ total (L .lines) → z ≡ handlerNumber (L .handlers) → x ∷ y ∷ z ∷ 0 ∷ 0 ∷ [] ≡ padded 5 (countsOf L)
+        counted : (x y z : ℕ) (L : Listing) → x ≡ count (L .lines) → y ≡ total (L .lines) → z ≡ handlerNumber (L .handlers) → x ∷ y ∷ z ∷ 0 ∷ 0 ∷ 0 ∷ [] ≡ padded 6 (countsOf L)
         counted x y z L p q s = cc
 
 -- ---- zeroed tables of nl, ns and na entries
 
-module _ (text c n t a : List ℕ) (nl ns na : ℕ) (zc : c ≡ 0 ∷ 0 ∷ 0 ∷ 0 ∷ 0 ∷ []) (zn : n ≡ replicate nl 0) (zt : t ≡ replicate ns 0) (za : a ≡ replicate na 0) (v : Listed) (is : v ≡ listedOf (read text)) where
+module _ (text c n t a : List ℕ) (nl ns na : ℕ) (zc : c ≡ 0 ∷ 0 ∷ 0 ∷ 0 ∷ 0 ∷ 0 ∷ []) (zn : n ≡ replicate nl 0) (zt : t ≡ replicate ns 0) (za : a ≡ replicate na 0) (v : Listed) (is : v ≡ listedOf (read text)) where
   long : (m : ℕ) (l : List ℕ) → l ≡ replicate m 0 → length l ≡ m
   long m l e = ap length e ∙ length-replicate m 0
 
@@ -164,7 +164,7 @@ module _ (text c n t a : List ℕ) (nl ns na : ℕ) (zc : c ≡ 0 ∷ 0 ∷ 0 �
       let q : answerOf nl ns na (read text) ≡ refusal m p = ap (answerOf nl ns na) (was-refused (read text) m p (sym e ∙ is)) in
       record {
         answer = sym (ap listedOf q);
-        counts = zc ∙ sym (ap (λ (z : Answer). tableOf countsOf z 5) q);
+        counts = zc ∙ sym (ap (λ (z : Answer). tableOf countsOf z 6) q);
         lines = zn ∙ sym (ap (λ (z : Answer). tableOf lineEntries z nl) q);
         stmts = zt ∙ sym (ap (λ (z : Answer). tableOf stmtEntries z ns) q);
         args = za ∙ sym (ap (λ (z : Answer). tableOf argEntries z na) q);

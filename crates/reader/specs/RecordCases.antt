@@ -37,7 +37,7 @@ told (refusal n p) = n ∷ p ∷ []
 unfoldable right : Case → Bool
 right c =
     let r = answerOf (c .lineTable) (c .stmtTable) (c .argTable) (read (bytes (c .text))) in
-    same (told r) (c .number ∷ c .place ∷ []) && same (tableOf countsOf r 5) (c .counts) && same (tableOf lineEntries r (c .lineTable)) (padded (c .lineTable) (c .lines))
+    same (told r) (c .number ∷ c .place ∷ []) && same (tableOf countsOf r 6) (c .counts) && same (tableOf lineEntries r (c .lineTable)) (padded (c .lineTable) (c .lines))
     && same (tableOf stmtEntries r (c .stmtTable)) (padded (c .stmtTable) (c .stmts)) && same (tableOf argEntries r (c .argTable)) (padded (c .argTable) (rows (c .args)))
 
 unfoldable allRight : List Case → Bool
@@ -57,7 +57,7 @@ table =
       argTable = 320;
       number = 0;
       place = 0;
-      counts = 3 ∷ 5 ∷ 0 ∷ 0 ∷ 0 ∷ [];
+      counts = 3 ∷ 5 ∷ 0 ∷ 0 ∷ 0 ∷ 0 ∷ [];
       lines = 10 ∷ 20 ∷ 100 ∷ [];
       stmts = 8 ∷ 0 ∷ 0 ∷ 0 ∷ 1 ∷ 0 ∷ 0 ∷ 0 ∷ 0 ∷ 0 ∷ 1 ∷ 0
           ∷ 27 ∷ 0 ∷ 0 ∷ 1 ∷ 2 ∷ 0 ∷ 0 ∷ 0 ∷ 0 ∷ 0 ∷ 0 ∷ 0
@@ -73,7 +73,7 @@ table =
       argTable = 321;
       number = 0;
       place = 0;
-      counts = 1 ∷ 5 ∷ 1 ∷ 0 ∷ 0 ∷ [];
+      counts = 1 ∷ 5 ∷ 1 ∷ 0 ∷ 0 ∷ 0 ∷ [];
       lines = 20 ∷ [];
       stmts = 3 ∷ 0 ∷ 0 ∷ 0 ∷ 4 ∷ 3 ∷ 1 ∷ 0 ∷ 1 ∷ 0 ∷ 0 ∷ 0
           ∷ 27 ∷ 0 ∷ 1 ∷ 0 ∷ 2 ∷ 0 ∷ 0 ∷ 0 ∷ 0 ∷ 0 ∷ 0 ∷ 0
@@ -89,17 +89,17 @@ table =
       argTable = 192;
       number = 0;
       place = 0;
-      counts = 1 ∷ 3 ∷ 0 ∷ 0 ∷ 0 ∷ [];
+      counts = 1 ∷ 3 ∷ 0 ∷ 0 ∷ 0 ∷ 0 ∷ [];
       lines = 7 ∷ [];
       stmts = 13 ∷ 0 ∷ 0 ∷ 0 ∷ 1 ∷ 0 ∷ 0 ∷ 0 ∷ 0 ∷ 0 ∷ 1 ∷ 2
           ∷ 14 ∷ 0 ∷ 0 ∷ 1 ∷ 2 ∷ 0 ∷ 0 ∷ 0 ∷ 0 ∷ 0 ∷ 3 ∷ 1
           ∷ 11 ∷ 0 ∷ 0 ∷ 2 ∷ 3 ∷ 0 ∷ 0 ∷ 0 ∷ 0 ∷ 0 ∷ 2 ∷ 0 ∷ [];
       args = (33 ∷ []) ∷ (33 ∷ 0 ∷ 24225 ∷ []) ∷ (7 ∷ 65535 ∷ []) ∷ [];
     }
-    ∷ record { text = nested; lineTable = 0; stmtTable = 60; argTable = 320; number = 21; place = 1; counts = 0 ∷ 0 ∷ 0 ∷ 0 ∷ 0 ∷ []; lines = []; stmts = []; args = [] }
-    ∷ record { text = nested; lineTable = 1; stmtTable = 59; argTable = 320; number = 22; place = 5; counts = 0 ∷ 0 ∷ 0 ∷ 0 ∷ 0 ∷ []; lines = []; stmts = []; args = [] }
-    ∷ record { text = nested; lineTable = 1; stmtTable = 60; argTable = 319; number = 22; place = 5; counts = 0 ∷ 0 ∷ 0 ∷ 0 ∷ 0 ∷ []; lines = []; stmts = []; args = [] }
-    ∷ record { text = "(module 0\n(line 7\n(plain)\n"; lineTable = 1; stmtTable = 12; argTable = 64; number = 2; place = 3; counts = 0 ∷ 0 ∷ 0 ∷ 0 ∷ 0 ∷ []; lines = []; stmts = []; args = [] }
+    ∷ record { text = nested; lineTable = 0; stmtTable = 60; argTable = 320; number = 21; place = 1; counts = 0 ∷ 0 ∷ 0 ∷ 0 ∷ 0 ∷ 0 ∷ []; lines = []; stmts = []; args = [] }
+    ∷ record { text = nested; lineTable = 1; stmtTable = 59; argTable = 320; number = 22; place = 5; counts = 0 ∷ 0 ∷ 0 ∷ 0 ∷ 0 ∷ 0 ∷ []; lines = []; stmts = []; args = [] }
+    ∷ record { text = nested; lineTable = 1; stmtTable = 60; argTable = 319; number = 22; place = 5; counts = 0 ∷ 0 ∷ 0 ∷ 0 ∷ 0 ∷ 0 ∷ []; lines = []; stmts = []; args = [] }
+    ∷ record { text = "(module 0\n(line 7\n(plain)\n"; lineTable = 1; stmtTable = 12; argTable = 64; number = 2; place = 3; counts = 0 ∷ 0 ∷ 0 ∷ 0 ∷ 0 ∷ 0 ∷ []; lines = []; stmts = []; args = [] }
     ∷ []
 
 holds : T (allRight table)

@@ -38,7 +38,7 @@ fn handler_number(handlers: bool) -> u32
 // An accepted text with so many lines and statements, into zeroed tables.
 fn write_listing(
     text: &[u8],
-    counts: &mut [u32; 5],
+    counts: &mut [u32; 6],
     lines: &mut [u16],
     stmts: &mut [u16],
     args: &mut [u64],
@@ -79,7 +79,7 @@ fn write_listing(
 // counts: lines, statements, handlers. lines: a number each. stmts: 12 entries a statement, args: 64. A refused text leaves every entry zero.
 pub fn read_listing(
     text: &[u8],
-    counts: &mut [u32; 5],
+    counts: &mut [u32; 6],
     lines: &mut [u16],
     stmts: &mut [u16],
     args: &mut [u64],

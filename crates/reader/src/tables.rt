@@ -51,11 +51,11 @@ pub fn zero64(t: &mut [u64])
     }
 }
 
-// The used counts; those of the edges and of the return targets are not the reader's.
-pub(crate) fn put_counts(counts: &mut [u32; 5], lines: u32, stmts: u32, handlers: u32)
-    ensures { λ _. ⌜ now (counts .exit) ≡ lines ∷ stmts ∷ handlers ∷ 0 ∷ 0 ∷ [] ⌝ }
+// The used counts; those of the edges, return targets and entry rows are not the reader's.
+pub(crate) fn put_counts(counts: &mut [u32; 6], lines: u32, stmts: u32, handlers: u32)
+    ensures { λ _. ⌜ now (counts .exit) ≡ lines ∷ stmts ∷ handlers ∷ 0 ∷ 0 ∷ 0 ∷ [] ⌝ }
 {
-    *counts = [lines, stmts, handlers, 0, 0];
+    *counts = [lines, stmts, handlers, 0, 0, 0];
 }
 
 fn put_row(part: &mut [u16], e: Entry)

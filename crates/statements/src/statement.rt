@@ -129,7 +129,7 @@ fn follow(lines: usize, stmts: &[u16], n: usize, line: usize, path: &[u16]) -> S
 }
 
 // The statement at a path: a line index and numbers.
-pub fn ask_path(counts: &[u32; 5], stmts: &[u16], line: usize, path: &[u16]) -> Stated
+pub fn ask_path(counts: &[u32; 6], stmts: &[u16], line: usize, path: &[u16]) -> Stated
     ensures { λ r. ⌜ r ≡ statedOf (pathStatement (now (counts .entry)) (now (stmts .entry)) line (now (path .entry))) ⌝ }
 {
     let lines = count_of(counts[0]);
@@ -202,7 +202,7 @@ pub fn no_statement(lines: usize, stmts: &[u16], n: usize, node: usize) -> u8
 }
 
 // A node's statement: the node itself, if its record has a path.
-pub fn ask_statement(counts: &[u32; 5], stmts: &[u16], node: usize) -> Stated
+pub fn ask_statement(counts: &[u32; 6], stmts: &[u16], node: usize) -> Stated
     ensures { λ r. ⌜ r ≡ statedOf (nodeStatement (now (counts .entry)) (now (stmts .entry)) node) ⌝ }
 {
     let n = count_of(counts[1]);

@@ -8,7 +8,6 @@ use lib.ListN.{length, getD, take, drop}
 use Rattle.listings.specs.Bytes.{pick}
 use Rattle.layout.specs.Layout.{gosubWord, ongosubWord, stmtEntries, fallEntries, listEntries, lineColumn, holderColumn, indexColumn}
 use Rattle.graph_laws.specs.Adding.{decode}
-use Rattle.graph.specs.Nodes.{LineEntry}
 
 -- ---- a statement's record (12 entries), and where it falls (3 entries)
 
@@ -91,10 +90,3 @@ pub record NodesReadable (lines stmts lists succ pred : List ℕ) (n : ℕ) : Ty
 abbrev pub entryNode : ℕ → Option ℕ
 entryNode zero = none
 entryNode (suc a) = some a
-
--- the first k lines with their entries, as the tables list them
-unfoldable pub entriesIn : ℕ → List ℕ → List ℕ → List LineEntry
-entriesIn zero lines entries = []
-entriesIn (suc k) [] entries = []
-entriesIn (suc k) (n ∷ lines) [] = []
-entriesIn (suc k) (n ∷ lines) (e ∷ entries) = (n, entryNode e) ∷ entriesIn k lines entries

@@ -1,3 +1,4 @@
 pub mod Columns
+pub mod EntryRows
 pub mod Stores
 pub mod Readable

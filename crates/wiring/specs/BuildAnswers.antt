@@ -1,5 +1,5 @@
 -- What a build answers, from what it promises: every input and all tables, accepted or refused. Assumes nothing.
-use Prim.Native.Nat.{ℕ, _≤_}
+use Prim.Native.Nat.{ℕ, _/_, _≤_}
 use mathlib.Core.Path.{_≡_, refl, sym, ap, subst, _∙_}
 use mathlib.Core.Bool.{Bool, true, false, _&&_}
 use mathlib.Core.List.{List}
@@ -64,7 +64,9 @@ module _ (c : Capacity) (L : Listing) where
 -- the tables hold so many as `capacity` says
 module _ (s : Sizes) (L : Listing) where
   lines-fit : LinesFit s L ↔ (count (L .lines) ≤ capacity s .lines)
-  lines-fit = rw (capacity-is s) (λ h. le-min (h .0) (h .1), λ h. (omega (arith, h, min-le-left (s .lines) (s .entries)), omega (arith, h, min-le-right (s .lines) (s .entries))))
+  lines-fit =
+      rw (capacity-is s)
+      (λ h. le-min (h .0) (let g : count (L .lines) ≤ s .entries / 2 = omega (arith, h .1) in g), λ h. (omega (arith, h, min-le-left (s .lines) (s .entries / 2)), omega (arith, h, min-le-right (s .lines) (s .entries / 2))))
 
   nodes-fit : NodesFit s L ↔ (total (L .lines) ≤ capacity s .nodes)
   nodes-fit = rw (capacity-is s) (fits-room _ _ _ _ _ _ _, room-fits _ _ _ _ _ _ _)

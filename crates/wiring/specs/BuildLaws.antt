@@ -56,8 +56,8 @@ pub record GraphReady (handlers : Bool) (c n : ℕ) (counts lines stmts args ent
   pub listing : Listing
   pub holds : HoldsListing listing lines stmts args c n
   pub handlers-are : handlers ≡ listing .handlers
-  pub counts-are : counts ≡ padded 5 (countsOf listing)
-  pub entries-fit : c ≤ length entries
+  pub counts-are : counts ≡ padded 6 (countsOf listing)
+  pub entries-fit : c * 2 ≤ length entries
   pub fit : StmtsFit n (length stmts) (length args) (length falls) (length links) (length lists) (length returns)
   pub zero-entries : entries ≡ replicate (length entries) 0
   pub zero-falls : falls ≡ replicate (length falls) 0
@@ -76,7 +76,7 @@ GraphMade h c n lines stmts args s c′ l′ t′ a′ e′ f′ k′ i′ r′ 
 
 -- the tables of before, and all zero
 pub all-zero : (n at : ℕ) (l t a e f k i r u p : List ℕ) (c′ l′ t′ a′ e′ f′ k′ i′ r′ u′ p′ : List ℕ)
-    → (c′ ≡ replicate 5 0) × Zeroed l l′ × Zeroed t t′ × Zeroed a a′ → Zeroed e e′ × Zeroed f f′ × Zeroed k k′ → Zeroed i i′ × Zeroed r r′ × Zeroed u u′ × Zeroed p p′
+    → (c′ ≡ replicate 6 0) × Zeroed l l′ × Zeroed t t′ × Zeroed a a′ → Zeroed e e′ × Zeroed f f′ × Zeroed k k′ → Zeroed i i′ × Zeroed r r′ × Zeroed u u′ × Zeroed p p′
     → Answered (refused n at) (sizesOf l t a e f k i r u p) c′ l′ t′ a′ e′ f′ k′ i′ r′ u′ p′ (answer.Refused n at)
 all-zero n at l t a e f k i r u p c′ l′ t′ a′ e′ f′ k′ i′ r′ u′ p′ x y z =
     refusal-writes n at (sizesOf l t a e f k i r u p) (tablesOf c′ l′ t′ a′ e′ f′ k′ i′ r′ u′ p′)
@@ -101,7 +101,7 @@ module _ (q : Answer) (ok : ReadWithin q) (lines stmts args entries falls links 
   S = sizesOf lines stmts args entries falls links lists returns succ pred
 
   abbrev K : ℕ
-  K = min (length lines) (length entries)
+  K = min (length lines) (length entries / 2)
 
   abbrev N : ℕ
   N = stmtRoom (length stmts) (length args) (length falls) (length links) (length lists) (length returns)
@@ -112,7 +112,7 @@ module _ (q : Answer) (ok : ReadWithin q) (lines stmts args entries falls links 
   pub rooms-fit : (K ≤ length lines) × (N * 12 ≤ length stmts) × (N * 64 ≤ length args)
   rooms-fit =
       let f = room-fits N (length stmts) (length args) (length falls) (length links) (length lists) (length returns) (omega arith) in
-      (min-le-left (length lines) (length entries), f .in-stmts, f .in-args)
+      (min-le-left (length lines) (length entries / 2), f .in-stmts, f .in-args)
 
   module _ (c l t a e f k i r u p : List ℕ) (ze : Zeroed entries e) (zf : Zeroed falls f) (zk : Zeroed links k)
       (zi : Zeroed lists i) (zr : Zeroed returns r) (zu : Zeroed succ u) (zp : Zeroed pred p) where
@@ -123,7 +123,7 @@ module _ (q : Answer) (ok : ReadWithin q) (lines stmts args entries falls links 
         let d = was-refused (readBy K N q) n at (w .answer) in
         let b : builtOf (capacity S) q ≡ refused n at = by-reading (refusal n at) d in
         rw b (refusal-writes n at S (tablesOf c l t a e f k i r u p) (record {
-          counts = w .counts ∙ ap (λ (z : Answer). readTable countsOf z 5) d;
+          counts = w .counts ∙ ap (λ (z : Answer). readTable countsOf z 6) d;
           lines = w .lines ∙ ap (λ (z : Answer). readTable lineEntries z (length lines)) d;
           stmts = w .stmts ∙ ap (λ (z : Answer). readTable stmtEntries z (length stmts)) d;
           args = w .args ∙ ap (λ (z : Answer). readTable argEntries z (length args)) d;
@@ -153,16 +153,16 @@ module _ (q : Answer) (ok : ReadWithin q) (lines stmts args entries falls links 
       unfolding readTable argEntries
       a-is = w .args ∙ ap (λ (z : Answer). readTable argEntries z (length args)) (found .0)
 
-      c-is : c ≡ padded 5 (countsOf L₀)
+      c-is : c ≡ padded 6 (countsOf L₀)
       unfolding readTable
-      c-is = w .counts ∙ ap (λ (z : Answer). readTable countsOf z 5) (found .0)
+      c-is = w .counts ∙ ap (λ (z : Answer). readTable countsOf z 6) (found .0)
 
       room : StmtsFit N (length stmts) (length args) (length falls) (length links) (length lists) (length returns)
       room = room-fits N (length stmts) (length args) (length falls) (length links) (length lists) (length returns) (omega arith)
 
       l-long : length l ≡ length lines
       unfolding lineEntries
-      l-long = ap length l-is ∙ padded-length (length lines) (lineNumbers (L₀ .lines)) (omega (arith, fits .line-entries, fits .lines, min-le-left (length lines) (length entries)))
+      l-long = ap length l-is ∙ padded-length (length lines) (lineNumbers (L₀ .lines)) (omega (arith, fits .line-entries, fits .lines, min-le-left (length lines) (length entries / 2)))
 
       t-long : length t ≡ length stmts
       unfolding stmtEntries
@@ -188,7 +188,7 @@ module _ (q : Answer) (ok : ReadWithin q) (lines stmts args entries falls links 
             lines-are = l-is ∙ ap (λ (z : ℕ). padded z (lineNumbers (L₀ .lines))) (sym l-long);
             stmts-are = t-is ∙ ap (λ (z : ℕ). padded z (recRows (lineRecs (L₀ .lines)))) (sym t-long);
             args-are = a-is ∙ ap (λ (z : ℕ). padded z (argRows (lineRecs (L₀ .lines)))) (sym a-long);
-            lines-fit = omega (arith, found .2, fits .lines, l-long, min-le-left (length lines) (length entries));
+            lines-fit = omega (arith, found .2, fits .lines, l-long, min-le-left (length lines) (length entries / 2));
             stmts-fit = omega (arith, found .3, b, t-long, room .in-stmts);
             args-fit = omega (arith, found .3, b, a-long, room .in-args);
           }
@@ -202,7 +202,7 @@ module _ (q : Answer) (ok : ReadWithin q) (lines stmts args entries falls links 
             holds = holds;
             handlers-are = found .1;
             counts-are = c-is;
-            entries-fit = omega (arith, found .2, fits .lines, min-le-right (length lines) (length entries), zeros-long entries e ze);
+            entries-fit = omega (arith, found .2, fits .lines, min-le-right (length lines) (length entries / 2), zeros-long entries e ze);
             fit = record {
               in-stmts = omega (arith, g, b, t-long, room .in-stmts);
               in-args = omega (arith, g, b, a-long, room .in-args);
@@ -240,7 +240,7 @@ module _ (q : Answer) (ok : ReadWithin q) (lines stmts args entries falls links 
 
 -- ---- with the rooms and the reader's answer as they come
 
-module _ (b : Answer) (ok : ReadWithin b) (lines stmts args entries falls links lists returns succ pred : List ℕ) (kl kn : ℕ) (ek : kl ≡ min (length lines) (length entries))
+module _ (b : Answer) (ok : ReadWithin b) (lines stmts args entries falls links lists returns succ pred : List ℕ) (kl kn : ℕ) (ek : kl ≡ min (length lines) (length entries / 2))
     (en : kn ≡ stmtRoom (length stmts) (length args) (length falls) (length links) (length lists) (length returns)) where
   pub rooms : (kl ≤ length lines) × (kn * 12 ≤ length stmts) × (kn * 64 ≤ length args)
   rooms = rw (ek, en) (rooms-fit b ok lines stmts args entries falls links lists returns succ pred)

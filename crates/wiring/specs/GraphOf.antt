@@ -50,7 +50,7 @@ module _ {h : Bool} {c n : ℕ} {counts lines stmts args entries falls links lis
 
     held-by : (L : Listing) → HoldsListing L lines stmts args c n → h ≡ L .handlers → WireHeld L h c n counts stmts args e f k succ pred
     held-by L H g =
-        record { handlers-are = g; prepared = p .prepared L H; counts-are = r .counts-are ∙ ap (padded 5) (same-counts L H g); zero-succ = r .zero-succ; zero-pred = r .zero-pred }
+        record { handlers-are = g; prepared = p .prepared L H; counts-are = r .counts-are ∙ ap (padded 6) (same-counts L H g); zero-succ = r .zero-succ; zero-pred = r .zero-pred }
 
     pub ready-wire : WireReady h c n counts stmts args e f k lists returns succ pred
     ready-wire =
@@ -101,7 +101,7 @@ module _ {h : Bool} {c n : ℕ} {counts lines stmts args entries falls links lis
       same-sizes ea = rw (ea, ee, ef, ek, ei, er, eu, ep)
 
       pub made-refused : {number : ℕ} {c″ l″ t″ a″ e″ f″ k″ i″ r″ u″ p″ : List ℕ} → written ≡ false → length args′ ≡ length args → number ≡ 23
-          → (c″ ≡ replicate 5 0) × Zeroed lines l″ × Zeroed stmts t″ × Zeroed args′ a″ → Zeroed e e″ × Zeroed f f″ × Zeroed k k″
+          → (c″ ≡ replicate 6 0) × Zeroed lines l″ × Zeroed stmts t″ × Zeroed args′ a″ → Zeroed e e″ × Zeroed f f″ × Zeroed k k″
           → Zeroed lists′ i″ × Zeroed returns′ r″ × Zeroed succ′ u″ × Zeroed pred′ p″
           → GraphMade h c n lines stmts args (sizesOf lines stmts args entries falls links lists returns succ pred) c″ l″ t″ a″ e″ f″ k″ i″ r″ u″ p″ (answer.Refused number edges)
       made-refused {number} {c″} {l″} {t″} {a″} {e″} {f″} {k″} {i″} {r″} {u″} {p″} t ea en x y z L H g =

@@ -29,7 +29,7 @@ tableOf f (refused n p) k = replicate k 0
 -- the answer and every table
 pub record Answered (b : Built) (s : Sizes) (c l t a e f k i r u p : List ℕ) (x : BuiltAnswer) : Type 0 where
   pub answer : x ≡ answerOf b
-  pub counts : c ≡ tableOf countTable b 5
+  pub counts : c ≡ tableOf countTable b 6
   pub lines : l ≡ tableOf lineTable b (s .lines)
   pub stmts : t ≡ tableOf stmtTable b (s .stmts)
   pub args : a ≡ tableOf argTable b (s .args)

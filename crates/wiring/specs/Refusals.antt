@@ -1,6 +1,6 @@
 -- What is accepted and what is refused (00-mission.md, demand 1; document 01, "Refused because of the input", "Refused because of the state"). Statements alone.
 -- Assumes nothing.
-use Prim.Native.Nat.{ℕ, _≤_}
+use Prim.Native.Nat.{ℕ, _*_, _≤_}
 use mathlib.Core.Path.{_≡_}
 use mathlib.Core.List.{List}
 use Rattle.listings.specs.Listing.{Listing, total, count}
@@ -24,8 +24,9 @@ pub record ReadAs (Means : Listing → Type 0) (q : Answer) : Type 0 where
   pub numbers : (n p : ℕ) → q ≡ refusal n p → InputNumber n
 
 -- "A table is too short if it cannot hold its fixed number of entries .. for each of these": the tables of 21, 22 and 23 hold the lines, statements and edges of L
+-- a line has 1 entry of lines and 2 of entries
 abbrev pub LinesFit : Sizes → Listing → Type 0
-LinesFit s L = (count (L .lines) ≤ s .lines) × (count (L .lines) ≤ s .entries)
+LinesFit s L = (count (L .lines) ≤ s .lines) × (count (L .lines) * 2 ≤ s .entries)
 
 -- a statement has 12 entries of stmts, 64 of args, 3 of falls, 64 of links, 4 of lists, and 1 of returns
 abbrev pub NodesFit : Sizes → Listing → Type 0

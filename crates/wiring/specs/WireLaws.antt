@@ -75,7 +75,7 @@ module _ {handlers : Bool} {c n d : ℕ} {counts stmts args entries falls links 
 
   pub wired-yes : {counts′ args′ lists′ succ′ pred′ : List ℕ} (x : Bool) → x ≡ (leb edges (min (length succ) (length pred)) && leb edges 32768) → x ≡ true → length succ′ ≡ length succ
       → length pred′ ≡ length pred → n * 4 ≤ length lists₁
-      → WrittenGraph handlers stmts args₁ falls links n counts lists₁ scratch₁ returns₁ targets succ pred counts′ args′ lists′ succ′ pred′
+      → WrittenGraph handlers stmts args₁ falls links n c counts lists₁ scratch₁ returns₁ targets succ pred counts′ args′ lists′ succ′ pred′
       → (L : Listing) → WireHeld L handlers c n counts stmts args entries falls links succ pred → WiringDone L args counts′ args′ lists′ returns₁ succ′ pred′ true edges
   wired-yes {succ′ = succ′} {pred′ = pred′} x q t es ep rows f L w =
       record {
@@ -93,7 +93,7 @@ module _ {handlers : Bool} {c n d : ℕ} {counts stmts args entries falls links 
     (r : WireReady handlers c n counts stmts args entries falls links lists returns succ pred) (m : FramesMade stmts falls frames dispatched n d) where
   pub write-ready : {args₁ lists₁ scratch₁ returns₁ : List ℕ} {edges targets : ℕ} → CountedTo handlers stmts args entries falls links frames dispatched c n d args₁ lists₁ scratch₁ returns₁ edges targets
       → (x : Bool) → x ≡ (leb edges (min (length succ) (length pred)) && leb edges 32768) → x ≡ true → length lists₁ ≡ length lists → (room : ℕ) → room ≡ 4096
-      → WriteReady handlers stmts args₁ falls links n lists₁ scratch₁ returns₁ targets succ pred room
+      → WriteReady handlers stmts args₁ falls links n c lists₁ scratch₁ returns₁ targets succ pred room
   write-ready {edges = edges} g x q t e room eb =
       write-table (write-held g m (r .held) (omega (arith, r .lists-fit, e)) (fit-yes x edges (length succ) (length pred) q t)) eb
 

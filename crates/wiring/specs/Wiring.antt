@@ -15,7 +15,7 @@ use Rattle.passes.specs.TableForms.{countTable, listTable, returnTable, succTab
 pub record WireHeld (L : Listing) (handlers : Bool) (c n : ℕ) (counts stmts args entries falls links succ pred : List ℕ) : Type 0 where
   pub handlers-are : handlers ≡ L .handlers
   pub prepared : LinksPrepared L stmts args entries falls links c n
-  pub counts-are : counts ≡ padded 5 (countsOf L)
+  pub counts-are : counts ≡ padded 6 (countsOf L)
   pub zero-succ : succ ≡ replicate (length succ) 0
   pub zero-pred : pred ≡ replicate (length pred) 0
 
@@ -30,7 +30,7 @@ pub record WireReady (handlers : Bool) (c n : ℕ) (counts stmts args entries fa
 
 -- the lists of L are written
 pub record WiredGraph (L : Listing) (ks counts args lists returns succ pred : List ℕ) : Type 0 where
-  pub counts-are : counts ≡ countTable L 5
+  pub counts-are : counts ≡ countTable L 6
   pub args-are : args ≡ ks
   pub lists-are : lists ≡ listTable L (length lists)
   pub returns-are : returns ≡ returnTable L (length returns)

@@ -4,11 +4,14 @@ use mathlib.Core.Path.{_≡_, sym, ap, _∙_}
 use mathlib.Core.Bool.{Bool}
 use mathlib.Core.List.{List, _++_}
 use mathlib.Core.Logic.{_⊎_, inl, inr}
+use mathlib.Core.Option.{none}
 use native.Mathlib.Omega.{arith}
 use lib.ListN.{length, length-append, length-drop, getD, getD-replicate, set, drop, replicate}
 use lib.Seq.{ext-getD}
-use Rattle.listings.specs.Listing.{Listing}
+use Rattle.listings.specs.Listing.{Listing, count}
 use Rattle.listings.specs.Records.{padded, countsOf}
+use Rattle.graph.specs.Nodes.{entries}
+use Rattle.passes.specs.LineEntries.{entries-length}
 use Rattle.reader.specs.Tables.{drop-zeros}
 use Rattle.graph.specs.Graph.{Wired, wire, skipSteps, allSuccessors, returnTargets}
 use Rattle.graph_laws.specs.GraphLaws.{nodeCount}
@@ -67,19 +70,20 @@ pub record EdgesWritten (handlers : Bool) (stmts args falls links : List ℕ) (n
 -- what the whole stage needs
 pub record WriteHeld (L : Listing) (ks : List ℕ) (handlers : Bool) (stmts args entries falls links frames dispatched : List ℕ) (lines n d : ℕ) (counts lists scratch returns : List ℕ) (targets : ℕ) (succ pred : List ℕ) : Type 0 where
   pub edges : EdgesHeld L ks handlers stmts args entries falls links frames dispatched lines n d lists scratch returns targets succ pred
-  pub counts-are : counts ≡ padded 5 (countsOf L)
+  pub counts-are : counts ≡ padded 6 (countsOf L)
   pub returns-are : returns ≡ padded (length returns) (returnTargets (wire L))
   pub targets-are : targets ≡ length (returnTargets (wire L))
 
-pub record WriteReady (handlers : Bool) (stmts args falls links : List ℕ) (n : ℕ) (lists scratch returns : List ℕ) (targets : ℕ) (succ pred : List ℕ) (room : ℕ) : Type 0 where
+pub record WriteReady (handlers : Bool) (stmts args falls links : List ℕ) (n rows : ℕ) (lists scratch returns : List ℕ) (targets : ℕ) (succ pred : List ℕ) (room : ℕ) : Type 0 where
   pub edges : EdgesReady handlers stmts args falls links n lists scratch returns targets succ pred room
   pub few-targets : targets < 65536
+  pub few-rows : rows < 65536
 
-pub record WrittenGraph (handlers : Bool) (stmts args falls links : List ℕ) (n : ℕ) (counts lists scratch returns : List ℕ) (targets : ℕ) (succ pred counts′ args′ lists′ succ′ pred′ : List ℕ) : Type 0 where
+pub record WrittenGraph (handlers : Bool) (stmts args falls links : List ℕ) (n rows : ℕ) (counts lists scratch returns : List ℕ) (targets : ℕ) (succ pred counts′ args′ lists′ succ′ pred′ : List ℕ) : Type 0 where
   pub total : ℕ
   pub edges : EdgesWritten handlers stmts args falls links n lists lists′ scratch returns targets succ succ′ pred pred′ total
   pub cleared : ClearTold stmts n args args′
-  pub counted : counts′ ≡ set (set counts 3 total) 4 targets
+  pub counted : counts′ ≡ set (set (set counts 3 total) 4 targets) 5 rows
 
 -- ---- zeros
 
@@ -196,10 +200,15 @@ args-back {ks = ks} {stmts = stmts} {args = args} {n = n} {args′ = args′} t 
 
 -- ---- the counts
 
-counts-written : (L : Listing) (counts counts′ : List ℕ) (edges targets : ℕ) → counts ≡ padded 5 (countsOf L) → edges ≡ edgeCount L → targets ≡ length (returnTargets (wire L))
-    → counts′ ≡ set (set counts 3 edges) 4 targets → counts′ ≡ countTable L 5
+-- a row of entries for each line
+pub rows-are : (L : Listing) → length (wire L .entries .rows) ≡ count (L .lines)
+unfolding wire entries
+rows-are L = entries-length none (L .lines)
+
+counts-written : (L : Listing) (counts counts′ : List ℕ) (edges targets rows : ℕ) → counts ≡ padded 6 (countsOf L) → edges ≡ edgeCount L → targets ≡ length (returnTargets (wire L)) → rows ≡ length (wire L .entries .rows)
+    → counts′ ≡ set (set (set counts 3 edges) 4 targets) 5 rows → counts′ ≡ countTable L 6
 unfolding padded countsOf
-counts-written L counts counts′ edges targets c e t p = p ∙ ap (λ (x : List ℕ). set (set x 3 edges) 4 targets) c ∙ rw (e, t) (sym (count-table L 5))
+counts-written L counts counts′ edges targets rows c e t r p = p ∙ ap (λ (x : List ℕ). set (set (set x 3 edges) 4 targets) 5 rows) c ∙ rw (e, t, r) (sym (count-table L 6))
 
 -- ---- the whole stage
 
@@ -210,17 +219,17 @@ module _ {L : Listing} {ks : List ℕ} {handlers : Bool} {stmts args entries fal
       let t = q .edges .tables in
       s .fitting (read-sets stmts n args (record { few = t .prepared .few; in-stmts = t .prepared .stmts-fit; in-sets = omega (arith, t .prepared .args-fit, t .args-size) }))
 
-  pub write-table : {room : ℕ} → room ≡ 4096 → WriteReady handlers stmts args falls links n lists scratch returns targets succ pred room
+  pub write-table : {room : ℕ} → room ≡ 4096 → WriteReady handlers stmts args falls links n lines lists scratch returns targets succ pred room
   write-table b =
       let p = q .edges .tables .prepared in
-      record { edges = edges-ready (q .edges) b; few-targets = omega (arith, q .targets-are, few-through L, p .nodes-are, p .few) }
+      record { edges = edges-ready (q .edges) b; few-targets = omega (arith, q .targets-are, few-through L, p .nodes-are, p .few); few-rows = omega (arith, p .few-lines) }
 
-  pub graph-written : {counts′ args′ lists′ succ′ pred′ : List ℕ} → WrittenGraph handlers stmts args falls links n counts lists scratch returns targets succ pred counts′ args′ lists′ succ′ pred′
+  pub graph-written : {counts′ args′ lists′ succ′ pred′ : List ℕ} → WrittenGraph handlers stmts args falls links n lines counts lists scratch returns targets succ pred counts′ args′ lists′ succ′ pred′
       → WiredGraph L ks counts′ args′ lists′ returns succ′ pred′
   graph-written {counts′} w =
       let e = edges-written (q .edges) (w .edges) in
       record {
-        counts-are = counts-written L counts counts′ (w .total) targets (q .counts-are) (e .counted) (q .targets-are) (w .counted);
+        counts-are = counts-written L counts counts′ (w .total) targets lines (q .counts-are) (e .counted) (q .targets-are) (q .edges .tables .prepared .lines-are ∙ sym (rows-are L)) (w .counted);
         args-are = args-back (q .edges .tables) (cleared (w .cleared));
         lists-are = e .lists-are;
         returns-are = q .returns-are ∙ sym (return-table L (length returns));

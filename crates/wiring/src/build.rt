@@ -40,10 +40,10 @@ fn clear_lists(lists: &mut [u16], returns: &mut [u16], succ: &mut [u16], pred: &
 }
 
 // The reader's records become zero.
-fn clear_records(counts: &mut [u32; 5], lines: &mut [u16], stmts: &mut [u16], args: &mut [u64])
-    ensures { λ _. ⌜ (now (counts .exit) ≡ replicate 5 0) × Zeroed (now (lines .entry)) (now (lines .exit)) × Zeroed (now (stmts .entry)) (now (stmts .exit)) × Zeroed (now (args .entry)) (now (args .exit)) ⌝ }
+fn clear_records(counts: &mut [u32; 6], lines: &mut [u16], stmts: &mut [u16], args: &mut [u64])
+    ensures { λ _. ⌜ (now (counts .exit) ≡ replicate 6 0) × Zeroed (now (lines .entry)) (now (lines .exit)) × Zeroed (now (stmts .entry)) (now (stmts .exit)) × Zeroed (now (args .entry)) (now (args .exit)) ⌝ }
 {
-    *counts = [0u32; 5];
+    *counts = [0u32; 6];
     zero16(lines);
     zero16(stmts);
     zero64(args);
@@ -54,7 +54,7 @@ fn graph_of(
     handlers: bool,
     count: usize,
     n: usize,
-    counts: &mut [u32; 5],
+    counts: &mut [u32; 6],
     lines: &mut [u16],
     stmts: &mut [u16],
     args: &mut [u64],
@@ -98,11 +98,11 @@ fn graph_of(
     }
 }
 
-// Reads the text and writes its graph: counts (lines, statements, handlers, edges, return targets), the reader's records, and what docs/DECISIONS.md
+// Reads the text and writes its graph: counts (lines, statements, handlers, edges, return targets, entry rows), the reader's records, and what docs/DECISIONS.md
 // says of each other table. A refused build leaves every entry zero.
 pub fn build(
     text: &[u8],
-    counts: &mut [u32; 5],
+    counts: &mut [u32; 6],
     lines: &mut [u16],
     stmts: &mut [u16],
     args: &mut [u64],

@@ -2,6 +2,8 @@
 use crate::entries::entry_of;
 use crate::widths::narrow;
 use layout::columns::END;
+use layout::columns::ENTRY_ENTRIES;
+use layout::columns::ENTRY_NODE;
 use layout::columns::FALL_ENTRIES;
 use layout::columns::FIRST_BRANCH;
 use layout::columns::FORM1;
@@ -52,21 +54,21 @@ fn out_of_order(depth: usize, first: usize, middle: usize, last: usize) -> bool
     false
 }
 
-// Where a branch leads: to its line's entry, to its first statement, or, without one, to where its IF falls. `lines` ends with the last line.
+// Where a branch leads: to its line's entry, to its first statement, or, without one, to where its IF falls.
 fn branch_target(
-    lines: &[u16],
     entries: &[u16],
+    count: usize,
     form: u16,
     number: u16,
     from: usize,
     end: usize,
     next: u16,
 ) -> u16
-    requires { ⌜ (length (now lines) ≤ length (now entries)) × (from < 65535) ⌝ }
-    ensures { λ r. ⌜ BranchLed (now (lines .entry)) (now (entries .entry)) form number from end next r ⌝ }
+    requires { ⌜ (count * 2 ≤ length (now entries)) × (from < 65535) ⌝ }
+    ensures { λ r. ⌜ BranchLed (now (entries .entry)) count form number from end next r ⌝ }
 {
     if form == TO_BRANCH {
-        return entry_of(lines, entries, lines.len(), number);
+        return entry_of(entries, count, number);
     }
     if form == NO_BRANCH {
         return next;
@@ -85,8 +87,8 @@ fn put_row(falls: &mut [u16], i: usize, fall: u16, first: u16, second: u16)
 
 // The row of an IF whose second branch begins at m and that ends at `end`.
 fn connect_row(
-    lines: &[u16],
     entries: &[u16],
+    count: usize,
     stmts: &[u16],
     falls: &mut [u16],
     i: usize,
@@ -94,14 +96,14 @@ fn connect_row(
     end: usize,
     next: u16,
 )
-    requires { ⌜ (length (now lines) ≤ length (now entries)) × (i < 4096) × (m ≤ 4096) ⌝ }
+    requires { ⌜ (count * 2 ≤ length (now entries)) × (i < 4096) × (m ≤ 4096) ⌝ }
     requires { ⌜ (i * 12 + 12 ≤ length (now stmts)) × (i * 3 + 3 ≤ length (now falls)) ⌝ }
-    ensures { λ r. ⌜ RowConnected (now (lines .entry)) (now (entries .entry)) (now (stmts .entry)) i m end next (now (falls .entry)) (now (falls .exit)) ⌝ }
+    ensures { λ r. ⌜ RowConnected (now (entries .entry)) count (now (stmts .entry)) i m end next (now (falls .entry)) (now (falls .exit)) ⌝ }
 {
     let row = i * STMT_ENTRIES;
     let first = branch_target(
-        lines,
         entries,
+        count,
         stmts[row + FORM1],
         stmts[row + NUMBER1],
         i + 1,
@@ -109,8 +111,8 @@ fn connect_row(
         next,
     );
     let second = branch_target(
-        lines,
         entries,
+        count,
         stmts[row + FORM2],
         stmts[row + NUMBER2],
         m,
@@ -122,8 +124,8 @@ fn connect_row(
 
 // Statement i, which ends at `end`, and those in its branches fall to `next`; false if its record does not say where they are (27).
 pub(crate) fn connect_stmt(
-    lines: &[u16],
     entries: &[u16],
+    count: usize,
     stmts: &[u16],
     falls: &mut [u16],
     depth: usize,
@@ -131,9 +133,9 @@ pub(crate) fn connect_stmt(
     end: usize,
     next: u16,
 ) -> bool
-    requires { ⌜ (length (now lines) ≤ length (now entries)) × (i < end) × (end ≤ 4096) ⌝ }
+    requires { ⌜ (count * 2 ≤ length (now entries)) × (i < end) × (end ≤ 4096) ⌝ }
     requires { ⌜ (end * 12 ≤ length (now stmts)) × (end * 3 ≤ length (now falls)) ⌝ }
-    ensures { λ r. ⌜ StmtConnected (now (lines .entry)) (now (entries .entry)) (now (stmts .entry)) depth i end next (now (falls .entry)) (now (falls .exit)) r ⌝ }
+    ensures { λ r. ⌜ StmtConnected (now (entries .entry)) count (now (stmts .entry)) depth i end next (now (falls .entry)) (now (falls .exit)) r ⌝ }
 {
     let row = i * STMT_ENTRIES;
     if stmts[row + FORM1] == NO_BRANCH {
@@ -144,17 +146,17 @@ pub(crate) fn connect_stmt(
     if out_of_order(depth, i + 1, m, end) {
         return false;
     }
-    connect_row(lines, entries, stmts, falls, i, m, end, next);
-    if !connect_then_branch(lines, entries, stmts, falls, depth - 1, i + 1, m, next) {
+    connect_row(entries, count, stmts, falls, i, m, end, next);
+    if !connect_then_branch(entries, count, stmts, falls, depth - 1, i + 1, m, next) {
         return false;
     }
-    connect_then_branch(lines, entries, stmts, falls, depth - 1, m, end, next)
+    connect_then_branch(entries, count, stmts, falls, depth - 1, m, end, next)
 }
 
 // The statements from `from` up to `end`: each falls to the one after it, the last to `next`.
 pub(crate) fn connect_then_branch(
-    lines: &[u16],
     entries: &[u16],
+    count: usize,
     stmts: &[u16],
     falls: &mut [u16],
     depth: usize,
@@ -162,9 +164,9 @@ pub(crate) fn connect_then_branch(
     end: usize,
     next: u16,
 ) -> bool
-    requires { ⌜ (length (now lines) ≤ length (now entries)) × (from ≤ end) × (end ≤ 4096) ⌝ }
+    requires { ⌜ (count * 2 ≤ length (now entries)) × (from ≤ end) × (end ≤ 4096) ⌝ }
     requires { ⌜ (end * 12 ≤ length (now stmts)) × (end * 3 ≤ length (now falls)) ⌝ }
-    ensures { λ r. ⌜ BranchConnected (now (lines .entry)) (now (entries .entry)) (now (stmts .entry)) depth from end next (now (falls .entry)) (now (falls .exit)) r ⌝ }
+    ensures { λ r. ⌜ BranchConnected (now (entries .entry)) count (now (stmts .entry)) depth from end next (now (falls .entry)) (now (falls .exit)) r ⌝ }
 {
     let mut i = from;
     while i < end {
@@ -173,7 +175,7 @@ pub(crate) fn connect_then_branch(
             return false;
         }
         let target = target_of(e, end, next);
-        if !connect_stmt(lines, entries, stmts, falls, depth, i, e, target) {
+        if !connect_stmt(entries, count, stmts, falls, depth, i, e, target) {
             return false;
         }
         i = e;
@@ -199,26 +201,26 @@ fn start_of(stmts: &[u16], l: usize, end: usize) -> usize
 
 // Each line's statements fall to the next line's entry. From the last line up, where that entry is at hand.
 fn connect_from_last(
-    lines: &[u16],
     entries: &[u16],
+    count: usize,
     stmts: &[u16],
     falls: &mut [u16],
     n: usize,
 ) -> bool
-    requires { ⌜ (length (now lines) ≤ length (now entries)) × (n ≤ 4096) ⌝ }
+    requires { ⌜ (count * 2 ≤ length (now entries)) × (n ≤ 4096) ⌝ }
     requires { ⌜ (n * 12 ≤ length (now stmts)) × (n * 3 ≤ length (now falls)) ⌝ }
-    ensures { λ r. ⌜ AllLines (now (lines .entry)) (now (entries .entry)) (now (stmts .entry)) n (now (falls .entry)) (now (falls .exit)) r ⌝ }
+    ensures { λ r. ⌜ AllLines (now (entries .entry)) (now (stmts .entry)) count n (now (falls .entry)) (now (falls .exit)) r ⌝ }
 {
     let mut next: u16 = 0;
     let mut end = n;
-    let mut l = lines.len();
+    let mut l = count;
     while 0 < l {
         l -= 1;
         let from = start_of(stmts, l, end);
-        if !connect_then_branch(lines, entries, stmts, falls, DEPTHS, from, end, next) {
+        if !connect_then_branch(entries, count, stmts, falls, DEPTHS, from, end, next) {
             return false;
         }
-        next = entries[l];
+        next = entries[l * ENTRY_ENTRIES + ENTRY_NODE];
         end = from;
     }
     true
@@ -226,16 +228,15 @@ fn connect_from_last(
 
 // Where the n statements of `count` lines fall, and where their branches lead; false if a record does not say where statements are (27).
 pub(crate) fn connect_lines(
-    lines: &[u16],
     entries: &[u16],
+    count: usize,
     stmts: &[u16],
     falls: &mut [u16],
-    count: usize,
     n: usize,
 ) -> bool
-    requires { ⌜ (count ≤ length (now lines)) × (count ≤ length (now entries)) × (n ≤ 4096) ⌝ }
+    requires { ⌜ (count * 2 ≤ length (now entries)) × (n ≤ 4096) ⌝ }
     requires { ⌜ (n * 12 ≤ length (now stmts)) × (n * 3 ≤ length (now falls)) ⌝ }
-    ensures { λ r. ⌜ LinesConnected (now (lines .entry)) (now (entries .entry)) (now (stmts .entry)) count n (now (falls .entry)) (now (falls .exit)) r ⌝ }
+    ensures { λ r. ⌜ LinesConnected (now (entries .entry)) (now (stmts .entry)) count n (now (falls .entry)) (now (falls .exit)) r ⌝ }
 {
-    connect_from_last(&lines[..count], entries, stmts, falls, n)
+    connect_from_last(entries, count, stmts, falls, n)
 }

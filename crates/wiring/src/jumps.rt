@@ -40,32 +40,31 @@ fn jump_count(word: u16, count: u16) -> usize
 }
 
 // The entry of the line that an argument names; a number above 65535 is no line's.
-fn entry_of_argument(lines: &[u16], entries: &[u16], count: usize, number: u64) -> u16
-    requires { ⌜ (count ≤ length (now lines)) × (count ≤ length (now entries)) ⌝ }
-    ensures { λ r. ⌜ EntryFound (now (lines .entry)) (now (entries .entry)) count number r ⌝ }
+fn entry_of_argument(entries: &[u16], count: usize, number: u64) -> u16
+    requires { ⌜ count * 2 ≤ length (now entries) ⌝ }
+    ensures { λ r. ⌜ EntryFound (now (entries .entry)) count number r ⌝ }
 {
     if 65535 < number {
         return 0;
     }
-    entry_of(lines, entries, count, number as u16)
+    entry_of(entries, count, number as u16)
 }
 
 // One statement's row: where its first c arguments lead.
-fn link_row(lines: &[u16], entries: &[u16], count: usize, args: &[u64], links: &mut [u16], c: usize)
-    requires { ⌜ (count ≤ length (now lines)) × (count ≤ length (now entries)) ⌝ }
+fn link_row(entries: &[u16], count: usize, args: &[u64], links: &mut [u16], c: usize)
+    requires { ⌜ count * 2 ≤ length (now entries) ⌝ }
     requires { ⌜ (c ≤ length (now args)) × (c ≤ length (now links)) ⌝ }
-    ensures { λ r. ⌜ RowLinked (now (lines .entry)) (now (entries .entry)) count (now (args .entry)) c (now (links .entry)) (now (links .exit)) ⌝ }
+    ensures { λ r. ⌜ RowLinked (now (entries .entry)) count (now (args .entry)) c (now (links .entry)) (now (links .exit)) ⌝ }
 {
     let mut j: usize = 0;
     while j < c {
-        links[j] = entry_of_argument(lines, entries, count, args[j]);
+        links[j] = entry_of_argument(entries, count, args[j]);
         j += 1;
     }
 }
 
 // Where the line numbers of n statements lead; the row of a statement that names no lines stays as it is.
 pub(crate) fn link_jumps(
-    lines: &[u16],
     entries: &[u16],
     count: usize,
     stmts: &[u16],
@@ -73,9 +72,9 @@ pub(crate) fn link_jumps(
     links: &mut [u16],
     n: usize,
 )
-    requires { ⌜ (count ≤ length (now lines)) × (count ≤ length (now entries)) × (n ≤ 4096) ⌝ }
+    requires { ⌜ (count * 2 ≤ length (now entries)) × (n ≤ 4096) ⌝ }
     requires { ⌜ (n * 12 ≤ length (now stmts)) × (n * 64 ≤ length (now args)) × (n * 64 ≤ length (now links)) ⌝ }
-    ensures { λ r. ⌜ JumpsLinked (now (lines .entry)) (now (entries .entry)) count (now (stmts .entry)) (now (args .entry)) n (now (links .entry)) (now (links .exit)) ⌝ }
+    ensures { λ r. ⌜ JumpsLinked (now (entries .entry)) count (now (stmts .entry)) (now (args .entry)) n (now (links .entry)) (now (links .exit)) ⌝ }
 {
     let mut i: usize = 0;
     while i < n {
@@ -85,14 +84,7 @@ pub(crate) fn link_jumps(
         );
         let at = i * ARG_ENTRIES;
         let end = at + ARG_ENTRIES;
-        link_row(
-            lines,
-            entries,
-            count,
-            &args[at..end],
-            &mut links[at..end],
-            c,
-        );
+        link_row(entries, count, &args[at..end], &mut links[at..end], c);
         i += 1;
     }
 }

@@ -6,6 +6,8 @@ use crate::nexts::add_orphan;
 use crate::nexts::add_popped;
 use layout::columns::ARG_ENTRIES;
 use layout::columns::COUNT;
+use layout::columns::ENTRY_ENTRIES;
+use layout::columns::ENTRY_NODE;
 use layout::columns::FALL_ENTRIES;
 use layout::columns::FIRST_BRANCH;
 use layout::columns::FRAME_ENTRIES;
@@ -27,6 +29,7 @@ ghost use Prim.Native.Nat.{_+_, _*_, _≤_};
 ghost use lib.ListN.{length, take, getD};
 ghost use Rattle.graph.specs.Lists.{each};
 ghost use Rattle.graph_laws.specs.Adding.{decode};
+ghost use Rattle.tables.specs.EntryRows.{entryColumn};
 ghost use Rattle.passes.specs.Growing.{Grows};
 ghost use Rattle.passes.specs.NextBodies.{PoppedRoom};
 ghost use Rattle.passes.specs.AddRoom.{RoomToAdd};
@@ -48,14 +51,14 @@ fn add_targets(row: &[u16], part: &mut [u16], n: usize) -> usize
 }
 
 // Adds the first line's entry.
-fn add_first(row: &[u16], part: &mut [u16]) -> usize
-    requires { ⌜ RoomToAdd (now part) 0 (each decode (take 1 (now row))) ⌝ }
-    ensures { λ r. ⌜ Grows (now (part .entry)) 0 (now (part .exit)) r (each decode (take 1 (now (row .entry)))) ⌝ }
+fn add_first(entries: &[u16], rows: usize, part: &mut [u16]) -> usize
+    requires { ⌜ (rows * 2 ≤ length (now entries)) × RoomToAdd (now part) 0 (each decode (take 1 (entryColumn 1 rows (now entries)))) ⌝ }
+    ensures { λ r. ⌜ Grows (now (part .entry)) 0 (now (part .exit)) r (each decode (take 1 (entryColumn 1 rows (now (entries .entry))))) ⌝ }
 {
-    if row.len() == 0 {
+    if rows == 0 {
         return 0;
     }
-    add_node(part, 0, row[0])
+    add_node(part, 0, entries[ENTRY_NODE])
 }
 
 // Adds the entry e after the entry `last`: if it is another one, it is not there yet.
@@ -71,15 +74,15 @@ fn add_entry(part: &mut [u16], n: usize, e: u16, last: u16) -> usize
 }
 
 // Adds all line entries. They ascend, so each is compared with the last one only, and nothing is searched for.
-fn add_entries(row: &[u16], part: &mut [u16]) -> usize
-    requires { ⌜ RoomToAdd (now part) 0 (each decode (now row)) × Rises 0 (now row) ⌝ }
-    ensures { λ r. ⌜ Grows (now (part .entry)) 0 (now (part .exit)) r (each decode (now (row .entry))) ⌝ }
+fn add_entries(entries: &[u16], rows: usize, part: &mut [u16]) -> usize
+    requires { ⌜ (rows * 2 ≤ length (now entries)) × RoomToAdd (now part) 0 (each decode (entryColumn 1 rows (now entries))) × Rises 0 (entryColumn 1 rows (now entries)) ⌝ }
+    ensures { λ r. ⌜ Grows (now (part .entry)) 0 (now (part .exit)) r (each decode (entryColumn 1 rows (now (entries .entry)))) ⌝ }
 {
     let mut n: usize = 0;
     let mut last: u16 = 0;
     let mut k: usize = 0;
-    while k < row.len() {
-        let e = row[k];
+    while k < rows {
+        let e = entries[k * ENTRY_ENTRIES + ENTRY_NODE];
         if e == 0 {
             return n;
         }
@@ -99,13 +102,13 @@ fn add_run(
     i: usize,
     part: &mut [u16],
 ) -> usize
-    requires { ⌜ (i * 12 + 12 ≤ length (now stmts)) × (lines ≤ length (now entries)) × (i * 64 + 64 ≤ length (now links)) × (getD (now stmts) (i * 12 + 10) 0 ≤ 64) ⌝ }
+    requires { ⌜ (i * 12 + 12 ≤ length (now stmts)) × (lines * 2 ≤ length (now entries)) × (i * 64 + 64 ≤ length (now links)) × (getD (now stmts) (i * 12 + 10) 0 ≤ 64) ⌝ }
     requires { ⌜ RoomToAdd (now part) 0 (runEdges (now stmts) (now entries) (now links) lines i) ⌝ }
     ensures { λ r. ⌜ Grows (now (part .entry)) 0 (now (part .exit)) r (runEdges (now (stmts .entry)) (now (entries .entry)) (now (links .entry)) lines i) ⌝ }
 {
     let count = wide(stmts[i * STMT_ENTRIES + COUNT]);
     if count == 0 {
-        return add_first(&entries[..lines], part);
+        return add_first(entries, lines, part);
     }
     let at = i * ARG_ENTRIES;
     let end = at + count;
@@ -218,7 +221,7 @@ fn add_own(
         return add_next(stmts, falls, links, i, part);
     }
     if word == ANY {
-        return add_entries(&entries[..lines], part);
+        return add_entries(entries, lines, part);
     }
     add_block(word, falls, frames, i, part)
 }

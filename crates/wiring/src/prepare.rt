@@ -19,11 +19,11 @@ pub(crate) fn prepare(
     requires { ⌜ PrepareReady (now lines) (now stmts) (now args) (now entries) (now falls) (now links) count n ⌝ }
     ensures { λ r. ⌜ PreparedTo (now (lines .entry)) (now (stmts .entry)) (now (args .entry)) (now (entries .exit)) (now (falls .exit)) (now (links .exit)) count n r ⌝ }
 {
-    compute_line_after(stmts, entries, count, n);
-    if !connect_lines(lines, entries, stmts, falls, count, n) {
+    compute_line_after(lines, stmts, entries, count, n);
+    if !connect_lines(entries, count, stmts, falls, n) {
         return false;
     }
-    link_jumps(lines, entries, count, stmts, args, links, n);
+    link_jumps(entries, count, stmts, args, links, n);
     link_fors(stmts, args, n, links);
     true
 }

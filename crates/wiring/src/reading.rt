@@ -30,7 +30,7 @@ fn clear_words_behind(t: &mut [u64], at: usize)
 // What stands behind the front parts becomes zero.
 pub(crate) fn read_fitting(
     text: &[u8],
-    counts: &mut [u32; 5],
+    counts: &mut [u32; 6],
     lines: &mut [u16],
     stmts: &mut [u16],
     args: &mut [u64],

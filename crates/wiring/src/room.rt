@@ -1,10 +1,11 @@
 // How much the lent tables have room for.
 use layout::columns::ARG_ENTRIES;
+use layout::columns::ENTRY_ENTRIES;
 use layout::columns::FALL_ENTRIES;
 use layout::columns::LIST_ENTRIES;
 use layout::columns::STMT_ENTRIES;
 ghost use mathlib.Core.Path.{_≡_};
-ghost use Prim.Native.Nat.{min};
+ghost use Prim.Native.Nat.{_/_, min};
 ghost use Rattle.passes.specs.Room.{stmtRoom};
 
 fn least(a: usize, b: usize) -> usize
@@ -16,11 +17,11 @@ fn least(a: usize, b: usize) -> usize
     b
 }
 
-// How many lines the tables hold that have an entry for each line, by their lengths.
+// How many lines the tables hold that have one or two entries for each line, by their lengths.
 pub(crate) fn line_room(lines: usize, entries: usize) -> usize
-    ensures { λ r. ⌜ r ≡ min lines entries ⌝ }
+    ensures { λ r. ⌜ r ≡ min lines (entries / 2) ⌝ }
 {
-    least(lines, entries)
+    least(lines, entries / ENTRY_ENTRIES)
 }
 
 // How many statements the tables hold that have entries for each statement, by their lengths.

@@ -45,15 +45,16 @@ fn write_edges(
 }
 
 // The counts that are not the reader's.
-fn put_edge_counts(counts: &mut [u32; 5], edges: usize, targets: usize)
-    requires { ⌜ (edges < 65536) × (targets < 65536) ⌝ }
-    ensures { λ _. ⌜ now (counts .exit) ≡ set (set (now (counts .entry)) 3 edges) 4 targets ⌝ }
+fn put_edge_counts(counts: &mut [u32; 6], edges: usize, targets: usize, rows: usize)
+    requires { ⌜ (edges < 65536) × (targets < 65536) × (rows < 65536) ⌝ }
+    ensures { λ _. ⌜ now (counts .exit) ≡ set (set (set (now (counts .entry)) 3 edges) 4 targets) 5 rows ⌝ }
 {
     counts[3] = edges as u32;
     counts[4] = targets as u32;
+    counts[5] = rows as u32;
 }
 
-// The graph of n nodes goes into its tables: lists and successors, predecessors, counts; the RETURNs' sets are cleared.
+// The graph of n nodes and so many rows of entries goes into its tables: lists and successors, predecessors, counts; the RETURNs' sets are cleared.
 pub(crate) fn write_graph(
     handlers: bool,
     stmts: &[u16],
@@ -61,7 +62,8 @@ pub(crate) fn write_graph(
     falls: &[u16],
     links: &[u16],
     n: usize,
-    counts: &mut [u32; 5],
+    rows: usize,
+    counts: &mut [u32; 6],
     lists: &mut [u16],
     scratch: &[u16],
     returns: &[u16],
@@ -70,8 +72,8 @@ pub(crate) fn write_graph(
     pred: &mut [u16],
     buffer: &mut [u16],
 )
-    requires { ⌜ WriteReady handlers (now stmts) (now args) (now falls) (now links) n (now lists) (now scratch) (now returns) targets (now succ) (now pred) (length (now buffer)) ⌝ }
-    ensures { λ _. ⌜ WrittenGraph handlers (now (stmts .entry)) (now (args .entry)) (now (falls .entry)) (now (links .entry)) n (now (counts .entry)) (now (lists .entry)) (now (scratch .entry)) (now (returns .entry)) targets (now (succ .entry)) (now (pred .entry)) (now (counts .exit)) (now (args .exit)) (now (lists .exit)) (now (succ .exit)) (now (pred .exit)) ⌝ }
+    requires { ⌜ WriteReady handlers (now stmts) (now args) (now falls) (now links) n rows (now lists) (now scratch) (now returns) targets (now succ) (now pred) (length (now buffer)) ⌝ }
+    ensures { λ _. ⌜ WrittenGraph handlers (now (stmts .entry)) (now (args .entry)) (now (falls .entry)) (now (links .entry)) n rows (now (counts .entry)) (now (lists .entry)) (now (scratch .entry)) (now (returns .entry)) targets (now (succ .entry)) (now (pred .entry)) (now (counts .exit)) (now (args .exit)) (now (lists .exit)) (now (succ .exit)) (now (pred .exit)) ⌝ }
 {
     let total = write_edges(
         handlers,
@@ -89,5 +91,5 @@ pub(crate) fn write_graph(
         buffer,
     );
     clear_sets(stmts, args, n);
-    put_edge_counts(counts, total, targets);
+    put_edge_counts(counts, total, targets, rows);
 }

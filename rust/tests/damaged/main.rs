@@ -121,7 +121,7 @@ fn built(text: &str, spare: usize) -> Tables {
     let text = text.as_bytes();
     let mut tables = Tables::at_limits();
     tables.build(text).expect("a graph");
-    let [lines, statements, _, edges, _] = tables.counts.map(|n| n as usize);
+    let [lines, statements, _, edges, _, _] = tables.counts.map(|n| n as usize);
     let mut tables = Tables::with_room(lines + spare, statements + spare, edges + spare);
     tables.build(text).expect("a graph");
     // The memory ends where the table does.
@@ -180,7 +180,7 @@ fn each_count() {
         for spare in [0, 3] {
             let mut t = built(text, spare);
             let questions = Questions::new(&t);
-            for i in 0..5 {
+            for i in 0..6 {
                 let old = t.counts[i];
                 let near = [old.wrapping_sub(1), old + 1, old + 2, old + 3, old + 4, 0, 1];
                 let far = [4096, 4097, 65535, 65536, 1 << 26, 0x1555_5555, 0x1555_5556, 0x4000_0000, u32::MAX - 1, u32::MAX];
@@ -258,7 +258,7 @@ fn entries_that_point_outside() {
         for value in [65535, n as u16 + 1] {
             for line in 0..t.lines.len() {
                 let mut t = t.clone();
-                t.entries[line] = value;
+                t.entries[2 * line + 1] = value;
                 outside(&t, &|t| t.line_first(t.lines[line]).err(), "entry");
             }
             for node in 0..n {
@@ -364,7 +364,7 @@ fn many_entries() {
             }
         }
         if random.chance(20) {
-            t.counts[random.below(2)] = random.below(small) as u32;
+            t.counts[*random.pick(&[0, 1, 5])] = random.below(small) as u32;
         }
         questions.ask(&t, &mut tally);
     }
@@ -380,7 +380,7 @@ fn builds_into_any_tables() {
         let mut due = Tables::for_listing(text);
         let answer = due.build(text);
         let mut full = Tables::for_listing(text);
-        full.counts = [u32::MAX; 5];
+        full.counts = [u32::MAX; 6];
         (0..TABLES).for_each(|i| table(&mut full, i).fill(65535));
         full.args.fill(u64::MAX);
         assert_eq!(full.build(text), answer);
@@ -388,7 +388,7 @@ fn builds_into_any_tables() {
     }
     for text in LISTINGS {
         let exact = built(text, 0);
-        let [lines, statements, _, edges, _] = exact.counts.map(|n| n as usize);
+        let [lines, statements, _, edges, _, _] = exact.counts.map(|n| n as usize);
         for i in 0..=TABLES {
             let mut short = exact.clone();
             let popped = if i == TABLES { short.args.pop().is_some() } else { table(&mut short, i).pop().is_some() };
@@ -402,7 +402,7 @@ fn builds_into_any_tables() {
             };
             assert_eq!(short.build(text.as_bytes()), Err(Refusal { number, place }), "table {i}");
             let zero = short.args.iter().all(|&e| e == 0) && (0..TABLES).all(|i| table(&mut short, i).iter().all(|&e| e == 0));
-            assert!(zero && short.counts == [0; 5], "table {i}: a refused build leaves an entry");
+            assert!(zero && short.counts == [0; 6], "table {i}: a refused build leaves an entry");
         }
     }
 }

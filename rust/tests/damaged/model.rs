@@ -59,12 +59,11 @@ pub fn predecessors(t: &Tables, node: usize) -> Result<Vec<u16>, Refused> {
     edges_of(t, &t.pred, node, 2)
 }
 
-/// "Lines are searched from the front"; "25 a line's entry if it is no node".
+/// "Rows of entries are searched from the front"; "25 a line's entry if it is no node".
 pub fn entry(t: &Tables, number: u16) -> Result<Option<usize>, Refused> {
-    holds(t.lines.len(), 1, t.counts[0])?;
-    holds(t.entries.len(), 1, t.counts[0])?;
-    let lines = t.lines.iter().zip(&t.entries).take(t.counts[0] as usize);
-    let found = lines.clone().find(|(&n, _)| n == number).map_or(0, |(_, &entry)| entry);
+    holds(t.entries.len(), 2, t.counts[5])?;
+    let mut rows = t.entries.chunks_exact(2).take(t.counts[5] as usize);
+    let found = rows.find(|row| row[0] == number).map_or(0, |row| row[1]);
     let Some(node) = usize::from(found).checked_sub(1) else {
         return Ok(None);
     };

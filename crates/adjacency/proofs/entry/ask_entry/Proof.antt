@@ -1,7 +1,7 @@
--- `ask_entry`: the five answers in the order of the tests. Assumes nothing.
+-- `ask_entry`: the four answers in the order of the tests. Assumes nothing.
 use mathlib.Core.Path.{ap, _∙_}
 use Rattle.tables.specs.Columns.{entryNode}
-use Rattle.adjacency.specs.EntryAtLaws.{lines-outside, entries-outside, entered-nowhere, entry-outside, entered-node}
+use Rattle.adjacency.specs.EntryAtLaws.{rows-outside, entered-nowhere, entry-outside, entered-node}
 use borrow.Author.Needs.{needs}
 use Rattle.adjacency.proofs.entry.ask_entry.Statement.{statement}
 use Rattle.adjacency.proofs.entry.ask_entry.Tie as tie
@@ -12,11 +12,11 @@ element-copy-out-count-of c = search needs
 count-of-requires : tie.Need-count-of-requires
 count-of-requires c κs = search needs
 
-returns : tie.Need-returns
-returns c = lines-outside _ _ _ _ _ (c .before .count-of .ensures .0) (c .if1 .taken)
+mul-if1 : tie.Need-mul-if1
+mul-if1 c = search needs
 
-returns-2 : tie.Need-returns-2
-returns-2 c = entries-outside _ _ _ _ _ (c .before .before .count-of .ensures .0) (c .before .if1 .left) (c .if2 .taken)
+returns : tie.Need-returns
+returns c = let at-rows : tie.After-count-of = search in rows-outside _ _ _ _ (at-rows .count-of .ensures .0) (c .if1 .taken)
 
 first-entry-requires : tie.Need-first-entry-requires
 first-entry-requires c κs = search needs
@@ -24,8 +24,13 @@ first-entry-requires c κs = search needs
 entry-of-requires : tie.Need-entry-of-requires
 entry-of-requires c κs = search needs
 
-returns-3 : tie.Need-returns-3
-returns-3 c = entered-nowhere _ _ _ _ _ (c .before .before .before .before .before .count-of .ensures .0) (c .before .before .before .before .if1 .left) (c .before .before .before .if2 .left) _ (ap entryNode (c .before .entry-of .ensures .0) ∙ c .before .before .first-entry .ensures) (c .if3 .taken)
+returns-2 : tie.Need-returns-2
+returns-2 c =
+    let at-entry-of : tie.After-entry-of = search in
+    let at-first-entry : tie.After-first-entry = search in
+    let at-else1 : tie.Else1 = search in
+    let at-rows : tie.After-count-of = search in
+    entered-nowhere _ _ _ _ (at-rows .count-of .ensures .0) (at-else1 .if1 .left) _ (ap entryNode (at-entry-of .entry-of .ensures .0) ∙ at-first-entry .first-entry .ensures) (c .if2 .taken)
 
 sub-id : tie.Need-sub-id
 sub-id c = search needs
@@ -36,11 +41,25 @@ element-copy-out-count-of-2 c = search needs
 count-of-requires-2 : tie.Need-count-of-requires-2
 count-of-requires-2 c κs = search needs
 
-returns-4 : tie.Need-returns-4
-returns-4 c = entry-outside _ _ _ _ _ (c .before .before .before .before .before .before .before .before .count-of .ensures .0) (c .before .before .before .before .before .before .before .if1 .left) (c .before .before .before .before .before .before .if2 .left) _ (ap entryNode (c .before .before .before .before .entry-of .ensures .0) ∙ c .before .before .before .before .before .first-entry .ensures) (c .before .before .before .if3 .left) _ (c .before .count-of2 .ensures .0) (c .if4 .taken)
+returns-3 : tie.Need-returns-3
+returns-3 c =
+    let at-nodes : tie.After-count-of2 = search in
+    let at-else2 : tie.Else2 = search in
+    let at-entry-of : tie.After-entry-of = search in
+    let at-first-entry : tie.After-first-entry = search in
+    let at-else1 : tie.Else1 = search in
+    let at-rows : tie.After-count-of = search in
+    entry-outside _ _ _ _ (at-rows .count-of .ensures .0) (at-else1 .if1 .left) _ (ap entryNode (at-entry-of .entry-of .ensures .0) ∙ at-first-entry .first-entry .ensures) (at-else2 .if2 .left) _ (at-nodes .count-of2 .ensures .0) (c .if3 .taken)
 
-returns-5 : tie.Need-returns-5
-returns-5 c = entered-node _ _ _ _ _ (c .before .before .before .before .before .before .before .before .count-of .ensures .0) (c .before .before .before .before .before .before .before .if1 .left) (c .before .before .before .before .before .before .if2 .left) _ (ap entryNode (c .before .before .before .before .entry-of .ensures .0) ∙ c .before .before .before .before .before .first-entry .ensures) (c .before .before .before .if3 .left) _ (c .before .count-of2 .ensures .0) (c .if4 .left)
+returns-4 : tie.Need-returns-4
+returns-4 c =
+    let at-nodes : tie.After-count-of2 = search in
+    let at-else2 : tie.Else2 = search in
+    let at-entry-of : tie.After-entry-of = search in
+    let at-first-entry : tie.After-first-entry = search in
+    let at-else1 : tie.Else1 = search in
+    let at-rows : tie.After-count-of = search in
+    entered-node _ _ _ _ (at-rows .count-of .ensures .0) (at-else1 .if1 .left) _ (ap entryNode (at-entry-of .entry-of .ensures .0) ∙ at-first-entry .first-entry .ensures) (at-else2 .if2 .left) _ (at-nodes .count-of2 .ensures .0) (c .if3 .left)
 
 pub ask-entry-spec : {M : Type 1} → statement M
 ask-entry-spec =
@@ -48,13 +67,13 @@ ask-entry-spec =
     (tie.spec
     element-copy-out-count-of
     count-of-requires
+    mul-if1
     returns
-    returns-2
     first-entry-requires
     entry-of-requires
-    returns-3
+    returns-2
     sub-id
     element-copy-out-count-of-2
     count-of-requires-2
-    returns-4
-    returns-5)
+    returns-3
+    returns-4)

@@ -85,7 +85,7 @@ returns-4 c =
     let at-start : tie.Start = search in
     let a = at-start .args in
     rw (ne-eqb _ _ (at-else1 .if1 .left), ne-eqb _ _ (at-else2 .if2 .left), ne-eqb _ _ (at-else3 .if3 .left))
-    (puts-is (ap enteredRow (c .before .before .before .line-first .ensures) ∙ entered-row (entryAt (a .counts .now) (a .lines .now) (a .entries .now) (a .n))) (c .before .before .put-entered .ensures))
+    (puts-is (ap enteredRow (c .before .before .before .line-first .ensures) ∙ entered-row (entryAt (a .counts .now) (a .entries .now) (a .n))) (c .before .before .put-entered .ensures))
 
 pub put-by-number-spec : {M : Type 1} → statement M
 put-by-number-spec =

@@ -24,22 +24,22 @@ count-of-requires-3 c κs = search needs
 
 print-graph-requires : tie.Need-print-graph-requires
 print-graph-requires c κs =
-    let lines : tie.After-count-of = search in
+    let rows : tie.After-count-of = search in
     let nodes : tie.After-count-of2 = search in
     let targets : tie.After-count-of3 = search in
     let at-start : tie.Start = search in
-    let h = at-start .pre in ((h .0, held-as _ _ _ (lines .count-of .ensures .0) (nodes .count-of2 .ensures .0) (targets .count-of3 .ensures .0) (h .1)), nodes .count-of2 .ensures .0)
+    let h = at-start .pre in ((h .0, held-as _ _ _ (rows .count-of .ensures .0) (nodes .count-of2 .ensures .0) (targets .count-of3 .ensures .0) (h .1)), nodes .count-of2 .ensures .0)
 
 same-length : tie.Need-same-length
 same-length c = search needs
 
 returns : tie.Need-returns
 returns c =
-    let lines : tie.After-count-of = search in
+    let rows : tie.After-count-of = search in
     let nodes : tie.After-count-of2 = search in
     let targets : tie.After-count-of3 = search in
     let at-print : tie.After-print-graph = search in
-    λ L g. at-print .print-graph .ensures L (held-as _ _ _ (lines .count-of .ensures .0) (nodes .count-of2 .ensures .0) (targets .count-of3 .ensures .0) g)
+    λ L g. at-print .print-graph .ensures L (held-as _ _ _ (rows .count-of .ensures .0) (nodes .count-of2 .ensures .0) (targets .count-of3 .ensures .0) g)
 
 pub print-counted-spec : {M : Type 1} → statement M
 print-counted-spec =

@@ -25,7 +25,7 @@ put-nodes-requires : tie.Need-put-nodes-requires
 put-nodes-requires c κs = let at-start : tie.Start = search in (nodes-readable (at-start .pre .0 .1), at-start .pre .1)
 
 put-entries-requires : tie.Need-put-entries-requires
-put-entries-requires c κs = let at-start : tie.Start = search in let g = at-start .pre .0 .1 in (g .lines-fit, g .entries-fit)
+put-entries-requires c κs = let at-start : tie.Start = search in at-start .pre .0 .1 .entries-fit
 
 -- Ways back from a place to an earlier one. `search` finds each by its type.
 abbrev start-of-put-pair : tie.After-put-pair → tie.Start

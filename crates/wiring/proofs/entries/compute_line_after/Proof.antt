@@ -17,7 +17,7 @@ returns : tie.Need-returns
 returns c =
     let at-store-first-nodes : tie.After-store-first-nodes = search in
     let at-start : tie.Start = search in
-    entries-both _ _ _ _ _ _ (at-start .pre .2) (at-store-first-nodes .store-first-nodes .ensures) (c .before .before .fill-empty-lines .ensures)
+    entries-both _ _ _ _ _ _ _ (at-start .pre .3) (at-store-first-nodes .store-first-nodes .ensures) (c .before .before .fill-empty-lines .ensures)
 
 pub compute-line-after-spec : {M : Type 1} → statement M
 compute-line-after-spec =

@@ -24,20 +24,17 @@ loop-holds c = (search needs, refl, λ rs rest e k. first-start _ rs _ k)
 sub-i : tie.Need-sub-i Inv-loop μ-loop
 sub-i c = search needs
 
-mul-wide : tie.Need-mul-wide Inv-loop μ-loop
-mul-wide c = search needs
+mul-l : tie.Need-mul-l Inv-loop μ-loop
+mul-l c = search needs
 
-add-wide : tie.Need-add-wide Inv-loop μ-loop
-add-wide c = search needs
+add-l : tie.Need-add-l Inv-loop μ-loop
+add-l c = search needs
 
-mul-wide-2 : tie.Need-mul-wide-2 Inv-loop μ-loop
-mul-wide-2 c = search needs
+mul-l-2 : tie.Need-mul-l-2 Inv-loop μ-loop
+mul-l-2 c = search needs
 
-shared-slice-read-wide : tie.Need-shared-slice-read-wide Inv-loop μ-loop
-shared-slice-read-wide c = search needs
-
-wide-requires : tie.Need-wide-requires Inv-loop μ-loop
-wide-requires c κs = search needs
+shared-slice-read-l : tie.Need-shared-slice-read-l Inv-loop μ-loop
+shared-slice-read-l c = search needs
 
 add-narrow : tie.Need-add-narrow Inv-loop μ-loop
 add-narrow c = search needs
@@ -53,7 +50,6 @@ loop-less c = search needs
 
 loop-again : tie.Need-loop-again Inv-loop μ-loop
 loop-again c =
-    let at-wide : tie.After-wide Inv-loop μ-loop = search in
     let in-loop : tie.In-loop Inv-loop μ-loop = search in
     let at-loop : tie.At-loop Inv-loop μ-loop = search in
     let l = at-loop .loop in (
@@ -61,7 +57,7 @@ loop-again c =
       c .before .before .store .kept .0 ∙ l .inv .1,
       λ rs rest e k.
           c .before .before .store .ensures
-          ∙ first-down rs _ rest _ _ (l .i) _ _ (in-loop .loop-test .taken) (omega (arith, l .inv .0)) e (at-wide .wide .ensures) (c .before .before .before .narrow .ensures) (l .inv .2 rs rest e k),
+          ∙ first-down rs _ rest _ _ (l .i) _ _ (in-loop .loop-test .taken) (omega (arith, l .inv .0)) e refl (c .before .before .before .narrow .ensures) (l .inv .2 rs rest e k),
     )
 
 same-length : tie.Need-same-length Inv-loop μ-loop
@@ -78,11 +74,10 @@ store-first-nodes-spec =
     μ-loop
     loop-holds
     sub-i
-    mul-wide
-    add-wide
-    mul-wide-2
-    shared-slice-read-wide
-    wide-requires
+    mul-l
+    add-l
+    mul-l-2
+    shared-slice-read-l
     add-narrow
     narrow-requires
     store-requires

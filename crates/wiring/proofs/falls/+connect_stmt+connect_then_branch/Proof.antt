@@ -27,38 +27,38 @@ use Rattle.tables.proofs.widths.wide.Reads as wide-reads
 use Rattle.wiring.proofs.falls.+connect_stmt+connect_then_branch.{statement}
 use Rattle.wiring.proofs.falls.+connect_stmt+connect_then_branch.Tie.{close}
 
-abbrev μ-connect-stmt : Measures 4 connect-stmt-kinds.ps ℕ
+abbrev μ-connect-stmt : Measures 3 connect-stmt-kinds.ps ℕ
 μ-connect-stmt κs a = 2 * a .1 .1 .1 .1 .0
 
-abbrev μ-connect-then-branch : Measures 4 connect-then-branch-kinds.ps ℕ
+abbrev μ-connect-then-branch : Measures 3 connect-then-branch-kinds.ps ℕ
 μ-connect-then-branch κs a = 2 * a .1 .1 .1 .1 .0 + 1
 
-abbrev connect-stmt-at : ℕ → In 4 connect-stmt-kinds.ps
+abbrev connect-stmt-at : ℕ → In 3 connect-stmt-kinds.ps
 connect-stmt-at t =
-    and 4 connect-stmt-kinds.ps (is 4 connect-stmt-kinds.ps μ-connect-stmt t) connect-stmt.Pre
+    and 3 connect-stmt-kinds.ps (is 3 connect-stmt-kinds.ps μ-connect-stmt t) connect-stmt.Pre
 
-abbrev connect-stmt-below : ℕ → In 4 connect-stmt-kinds.ps
+abbrev connect-stmt-below : ℕ → In 3 connect-stmt-kinds.ps
 connect-stmt-below t =
     and
-    4
+    3
     connect-stmt-kinds.ps
-    (falls 4 connect-stmt-kinds.ps _<_ μ-connect-stmt t)
+    (falls 3 connect-stmt-kinds.ps _<_ μ-connect-stmt t)
     connect-stmt.Pre
 
-abbrev connect-then-branch-at : ℕ → In 4 connect-then-branch-kinds.ps
+abbrev connect-then-branch-at : ℕ → In 3 connect-then-branch-kinds.ps
 connect-then-branch-at t =
     and
-    4
+    3
     connect-then-branch-kinds.ps
-    (is 4 connect-then-branch-kinds.ps μ-connect-then-branch t)
+    (is 3 connect-then-branch-kinds.ps μ-connect-then-branch t)
     connect-then-branch.Pre
 
-abbrev connect-then-branch-below : ℕ → In 4 connect-then-branch-kinds.ps
+abbrev connect-then-branch-below : ℕ → In 3 connect-then-branch-kinds.ps
 connect-then-branch-below t =
     and
-    4
+    3
     connect-then-branch-kinds.ps
-    (falls 4 connect-then-branch-kinds.ps _<_ μ-connect-then-branch t)
+    (falls 3 connect-then-branch-kinds.ps _<_ μ-connect-then-branch t)
     connect-then-branch.Pre
 
 -- what each of the two calls
@@ -90,7 +90,7 @@ connect-stmt-returns : (t : ℕ) → connect-stmt-lts.Need-returns (stmt-claims 
 connect-stmt-returns t c =
     let at-start : connect-stmt-lts.Start (stmt-claims t) (connect-stmt-at t) connect-stmt.Post = search in
     let a = at-start .args in
-    stmt-leaf (a .lines .now) (a .entries .now) (a .stmts .now) (a .depth) (a .i) (a .end) (a .next) (a .falls .now) _ (c .before .before .before .before .if1 .taken) (c .before .before .put-row .ensures)
+    stmt-leaf (a .entries .now) (a .count) (a .stmts .now) (a .depth) (a .i) (a .end) (a .next) (a .falls .now) _ (c .before .before .before .before .if1 .taken) (c .before .before .put-row .ensures)
 
 connect-stmt-add-wide : (t : ℕ) → connect-stmt-lts.Need-add-wide (stmt-claims t) (connect-stmt-at t) connect-stmt.Post
 connect-stmt-add-wide t c = search needs
@@ -114,7 +114,7 @@ connect-stmt-returns-2 : (t : ℕ) → connect-stmt-lts.Need-returns-2 (stmt-cla
 connect-stmt-returns-2 t c =
     let at-start : connect-stmt-lts.Start (stmt-claims t) (connect-stmt-at t) connect-stmt.Post = search in
     let a = at-start .args in
-    stmt-false (a .lines .now) (a .entries .now) (a .stmts .now) (a .depth) (a .i) (a .end) (a .next) (a .falls .now) (c .before .before .before .before .if1 .left) _ (c .before .before .wide .ensures) _
+    stmt-false (a .entries .now) (a .count) (a .stmts .now) (a .depth) (a .i) (a .end) (a .next) (a .falls .now) (c .before .before .before .before .if1 .left) _ (c .before .before .wide .ensures) _
     (c .before .out-of-order .ensures .1 (c .if2 .taken))
 
 connect-stmt-connect-row-requires : (t : ℕ) → connect-stmt-lts.Need-connect-row-requires (stmt-claims t) (connect-stmt-at t) connect-stmt.Post
@@ -143,7 +143,7 @@ connect-stmt-connect-then-branch-requires :
     ) (connect-stmt-at t) connect-stmt.Post
 connect-stmt-connect-then-branch-requires t c κs =
     let io = c .before .before .before .before .before .before .out-of-order .ensures .0 (c .before .before .before .before .before .if2 .left) in
-    omega (arith, io, c .before .before .before .before .before .before .before .before .before .before .before .before .before .before .before .pre, c .before .before .before .connect-row .kept .1 .1 .1 .0)
+    omega (arith, io, c .before .before .before .before .before .before .before .before .before .before .before .before .before .before .pre, c .before .before .before .connect-row .kept .1 .1 .1 .0)
 
 connect-stmt-same-length-2 : (t : ℕ) → connect-stmt-lts.Need-same-length-2 (stmt-claims t) (connect-stmt-at t) connect-stmt.Post
 connect-stmt-same-length-2 t c = search needs
@@ -157,7 +157,7 @@ connect-stmt-returns-3 t c =
     let at-start : connect-stmt-lts.Start (stmt-claims t) (connect-stmt-at t) connect-stmt.Post = search in
     let a = at-start .args in
     let io = at-out-of-order .out-of-order .ensures .0 (at-else2 .if2 .left) in
-    stmt-first (a .lines .now) (a .entries .now) (a .stmts .now) (a .depth) (a .i) (a .end) (a .next) (a .falls .now) (at-else1 .if1 .left) _ (at-wide .wide .ensures) _ _ _ (io .0)
+    stmt-first (a .entries .now) (a .count) (a .stmts .now) (a .depth) (a .i) (a .end) (a .next) (a .falls .now) (at-else1 .if1 .left) _ (at-wide .wide .ensures) _ _ _ (io .0)
     (c .before .before .before .connect-then-branch .ensures) (c .if3 .taken)
 
 connect-stmt-sub-connect-then-branch-2 : (t : ℕ) → connect-stmt-lts.Need-sub-connect-then-branch-2 (stmt-claims t) (connect-stmt-at t) connect-stmt.Post
@@ -181,7 +181,7 @@ connect-stmt-connect-then-branch-requires-2 :
     ) (connect-stmt-at t) connect-stmt.Post
 connect-stmt-connect-then-branch-requires-2 t c κs =
     let io = c .before .before .before .before .before .before .before .before .before .before .before .out-of-order .ensures .0 (c .before .before .before .before .before .before .before .before .before .before .if2 .left) in
-    omega (arith, io, c .before .before .before .before .before .before .before .before .before .before .before .before .before .before .before .before .before .before .before .before .pre, c .before .before .before .before .before .before .before .before .connect-row .kept .1 .1 .1 .0, c .before .before .before .before .connect-then-branch .kept .1 .1 .1 .0)
+    omega (arith, io, c .before .before .before .before .before .before .before .before .before .before .before .before .before .before .before .before .before .before .before .pre, c .before .before .before .before .before .before .before .before .connect-row .kept .1 .1 .1 .0, c .before .before .before .before .connect-then-branch .kept .1 .1 .1 .0)
 
 connect-stmt-same-length-3 : (t : ℕ) → connect-stmt-lts.Need-same-length-3 (stmt-claims t) (connect-stmt-at t) connect-stmt.Post
 connect-stmt-same-length-3 t c = search needs
@@ -202,17 +202,17 @@ connect-stmt-returns-4 t c =
     let at-start : connect-stmt-lts.Start (stmt-claims t) (connect-stmt-at t) connect-stmt.Post = search ways in
     let a = at-start .args in
     let io = at-out-of-order .out-of-order .ensures .0 (at-else2 .if2 .left) in
-    stmt-both (a .lines .now) (a .entries .now) (a .stmts .now) (a .depth) (a .i) (a .end) (a .next) (a .falls .now) (at-else1 .if1 .left) _ (at-wide .wide .ensures) _ _ _ _ _ (io .0)
+    stmt-both (a .entries .now) (a .count) (a .stmts .now) (a .depth) (a .i) (a .end) (a .next) (a .falls .now) (at-else1 .if1 .left) _ (at-wide .wide .ensures) _ _ _ _ _ (io .0)
     (at-connect-row .connect-row .ensures) (c .before .before .before .before .before .before .before .connect-then-branch .ensures) (c .before .before .connect-then-branch2 .ensures)
 
 abbrev connect-then-branch-Inv-loop : connect-then-branch-lts.InvT-loop
-connect-then-branch-Inv-loop lines entries stmts falls₀ depth from end next i₀ falls i =
+connect-then-branch-Inv-loop entries count stmts falls₀ depth from end next i₀ falls i =
     (from ≤ i) × (i ≤ end) × (length falls ≡ length falls₀)
-    × ((es : Entries) → EntryTable es lines entries (length lines) → (d : ℕ) → d + depth ≡ 17 → (s : Stmts) → Spans stmts from s → StmtsOk d s → end ≡ from + size s
+    × ((es : Entries) → EntryTable es entries count → (d : ℕ) → d + depth ≡ 17 → (s : Stmts) → Spans stmts from s → StmtsOk d s → end ≡ from + size s
     → Gone es from end next falls₀ falls i s)
 
 abbrev connect-then-branch-μ-loop : connect-then-branch-lts.MeasureT-loop
-connect-then-branch-μ-loop lines entries stmts falls₀ depth from end next i₀ falls i = end - i
+connect-then-branch-μ-loop entries count stmts falls₀ depth from end next i₀ falls i = end - i
 
 connect-then-branch-loop-holds : (t : ℕ) → connect-then-branch-lts.Need-loop-holds (branch-claims t)
     (connect-then-branch-at t)
@@ -220,12 +220,12 @@ connect-then-branch-loop-holds : (t : ℕ) → connect-then-branch-lts.Need-loop
     connect-then-branch-Inv-loop
     connect-then-branch-μ-loop
 connect-then-branch-loop-holds t c =
-    let a = c .before .before .before .before .args in (
+    let a = c .before .before .before .args in (
       omega arith,
       omega arith,
       refl,
       λ es et d dd s sp ok q.
-          branch-start (a .lines .now) (a .entries .now) (a .stmts .now) (a .depth) (a .from) (a .end) (a .next) (a .falls .now) es et d dd s sp ok q,
+          branch-start (a .entries .now) (a .count) (a .stmts .now) (a .depth) (a .from) (a .end) (a .next) (a .falls .now) es et d dd s sp ok q,
     )
 
 connect-then-branch-mul-wide : (t : ℕ) → connect-then-branch-lts.Need-mul-wide (branch-claims t)
@@ -310,10 +310,10 @@ connect-then-branch-returns : (t : ℕ) → connect-then-branch-lts.Need-returns
     connect-then-branch-Inv-loop
     connect-then-branch-μ-loop
 connect-then-branch-returns t c =
-    let a = c .before .before .before .before .before .before .before .before .before .before .args in
+    let a = c .before .before .before .before .before .before .before .before .before .args in
     let l = c .before .before .before .before .before .loop in
     λ es et d dd s sp ok q.
-    let r = branch-in (a .lines .now) (a .entries .now) (a .stmts .now) (a .depth) (a .from) (a .end) (a .next) (a .falls .now) es et d dd s sp ok q _ (l .i) (c .before .before .before .before .loop-test .taken)
+    let r = branch-in (a .entries .now) (a .count) (a .stmts .now) (a .depth) (a .from) (a .end) (a .next) (a .falls .now) es et d dd s sp ok q _ (l .i) (c .before .before .before .before .loop-test .taken)
     (l .inv .3 es et d dd s sp ok q) in
     absurd (c .before .out-of-order .ensures .1 (c .if1 .taken) (omega arith, omega (arith, c .before .before .wide .ensures, r .0), omega (arith, c .before .before .wide .ensures, r .1)))
 
@@ -322,7 +322,7 @@ connect-then-branch-target-of-requires : (t : ℕ) → connect-then-branch-lts.N
     connect-then-branch.Post
     connect-then-branch-Inv-loop
     connect-then-branch-μ-loop
-connect-then-branch-target-of-requires t c κs = omega (arith, c .before .out-of-order .ensures .0 (c .if1 .left), c .before .before .before .before .before .before .before .before .before .before .pre)
+connect-then-branch-target-of-requires t c κs = omega (arith, c .before .out-of-order .ensures .0 (c .if1 .left), c .before .before .before .before .before .before .before .before .before .pre)
 
 connect-then-branch-connect-stmt-requires :
     (t : ℕ) → connect-then-branch-lts.Need-connect-stmt-requires (
@@ -340,7 +340,7 @@ connect-then-branch-connect-stmt-requires :
     connect-then-branch-Inv-loop
     connect-then-branch-μ-loop
 connect-then-branch-connect-stmt-requires t c κs =
-    omega (arith, c .before .before .before .out-of-order .ensures .0 (c .before .before .if1 .left), c .before .before .before .before .before .before .before .before .before .before .before .before .pre, c .before .before .before .before .before .before .before .loop .inv .2)
+    omega (arith, c .before .before .before .out-of-order .ensures .0 (c .before .before .if1 .left), c .before .before .before .before .before .before .before .before .before .before .before .pre, c .before .before .before .before .before .before .before .loop .inv .2)
 
 connect-then-branch-same-length-2 : (t : ℕ) → connect-then-branch-lts.Need-same-length-2 (branch-claims t)
     (connect-then-branch-at t)
@@ -355,10 +355,10 @@ connect-then-branch-returns-2 : (t : ℕ) → connect-then-branch-lts.Need-retur
     connect-then-branch-Inv-loop
     connect-then-branch-μ-loop
 connect-then-branch-returns-2 t c =
-    let a = c .before .before .before .before .before .before .before .before .before .before .before .before .before .before .before .before .args in
+    let a = c .before .before .before .before .before .before .before .before .before .before .before .before .before .before .before .args in
     let l = c .before .before .before .before .before .before .before .before .before .before .before .loop in
     λ es et d dd s sp ok q.
-    let r = branch-step (a .lines .now) (a .entries .now) (a .stmts .now) (a .depth) (a .from) (a .end) (a .next) (a .falls .now) es et d dd s sp ok q _ (l .i) (c .before .before .before .before .before .before .before .before .before .before .loop-test .taken)
+    let r = branch-step (a .entries .now) (a .count) (a .stmts .now) (a .depth) (a .from) (a .end) (a .next) (a .falls .now) es et d dd s sp ok q _ (l .i) (c .before .before .before .before .before .before .before .before .before .before .loop-test .taken)
     (l .inv .3 es et d dd s sp ok q) _ _ _ _ (c .before .before .before .before .before .before .before .before .wide .ensures) (c .before .before .before .before .before .target-of .ensures) (c .before .before .before .connect-stmt .ensures) in
     not-both (c .before .before .before .connect-stmt .result) (r .0) (c .if2 .taken)
 
@@ -375,14 +375,14 @@ connect-then-branch-loop-again : (t : ℕ) → connect-then-branch-lts.Need-loop
     connect-then-branch-Inv-loop
     connect-then-branch-μ-loop
 connect-then-branch-loop-again t c =
-    let a = c .before .before .before .before .before .before .before .before .before .before .before .before .before .before .before .before .args in
+    let a = c .before .before .before .before .before .before .before .before .before .before .before .before .before .before .before .args in
     let l = c .before .before .before .before .before .before .before .before .before .before .before .loop in
     let io = c .before .before .before .before .before .before .before .out-of-order .ensures .0 (c .before .before .before .before .before .before .if1 .left) in (
       omega (arith, io, l .inv .0),
       io .2,
       c .before .before .before .connect-stmt .kept .1 .1 .1 .0 ∙ l .inv .2,
       λ es et d dd s sp ok q.
-          branch-step (a .lines .now) (a .entries .now) (a .stmts .now) (a .depth) (a .from) (a .end) (a .next) (a .falls .now) es et d dd s sp ok q _ (l .i) (c .before .before .before .before .before .before .before .before .before .before .loop-test .taken)
+          branch-step (a .entries .now) (a .count) (a .stmts .now) (a .depth) (a .from) (a .end) (a .next) (a .falls .now) es et d dd s sp ok q _ (l .i) (c .before .before .before .before .before .before .before .before .before .before .loop-test .taken)
           (l .inv .3 es et d dd s sp ok q) _ _ _ _ (c .before .before .before .before .before .before .before .before .wide .ensures) (c .before .before .before .before .before .target-of .ensures) (c .before .before .before .connect-stmt .ensures) .1,
     )
 
@@ -399,9 +399,9 @@ connect-then-branch-returns-3 : (t : ℕ) → connect-then-branch-lts.Need-retur
     connect-then-branch-Inv-loop
     connect-then-branch-μ-loop
 connect-then-branch-returns-3 t c =
-    let a = c .before .before .before .before .before .before .args in
+    let a = c .before .before .before .before .before .args in
     λ es et d dd s sp ok q.
-    branch-end (a .lines .now) (a .entries .now) (a .stmts .now) (a .depth) (a .from) (a .end) (a .next) (a .falls .now) es et d dd s sp ok q _ _ (c .loop-test .left)
+    branch-end (a .entries .now) (a .count) (a .stmts .now) (a .depth) (a .from) (a .end) (a .next) (a .falls .now) es et d dd s sp ok q _ _ (c .loop-test .left)
     (c .before .loop .inv .3 es et d dd s sp ok q)
 
 pub +connect-stmt+connect-then-branch-spec : {M : Type 1} → statement M

@@ -5,7 +5,7 @@ use Rattle.wiring.proofs.jumps.entry_of_argument.Statement.{statement}
 use Rattle.wiring.proofs.jumps.entry_of_argument.Tie as tie
 
 returns : tie.Need-returns
-returns c = large-number _ _ _ _ (c .if1 .taken)
+returns c = large-number _ _ _ (c .if1 .taken)
 
 cast-entry-of : tie.Need-cast-entry-of
 cast-entry-of c = search needs

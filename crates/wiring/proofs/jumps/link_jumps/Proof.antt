@@ -6,24 +6,25 @@ use borrow.Author.Needs.{needs}
 use lib.ListN.{length, take, length-take, length-drop}
 use Rattle.passes.specs.JumpLaws.{count-few, lent-length, jumps-start, jumps-lent, jumps-end}
 use Rattle.passes.specs.Jumps.{linked}
-use Rattle.passes.specs.LineSearch.{EntriesHeld}
-use Rattle.passes.specs.Held.{LinesHeld, StmtsHeld, ArgsHeld}
+use Rattle.passes.specs.LineSearch.{EntryTable}
+use Rattle.passes.specs.Held.{StmtsHeld, ArgsHeld}
 use Rattle.graph.specs.Nodes as definition
 use Rattle.listings.specs.Listing.{Lines}
+use Rattle.listings.specs.ListingText.{LinesOk}
 use Rattle.wiring.proofs.jumps.link_jumps.Statement.{statement}
 use Rattle.wiring.proofs.jumps.link_jumps.Tie as tie
 
 abbrev Inv-loop : tie.InvT-loop
-Inv-loop lines entries count stmts args links₀ n i₀ links i =
+Inv-loop entries count stmts args links₀ n i₀ links i =
     (i ≤ n) × (length links ≡ length links₀)
-    × ((ls : Lines) → LinesHeld ls lines count → EntriesHeld ls entries → StmtsHeld ls stmts n → ArgsHeld ls args
+    × ((ls : Lines) → LinesOk ls → EntryTable (definition.entries ls) entries count → StmtsHeld ls stmts n → ArgsHeld ls args
     → links ≡ linked (definition.entries ls) links₀ 0 (take i (definition.nodes ls)))
 
 abbrev μ-loop : tie.MeasureT-loop
-μ-loop lines entries count stmts args links₀ n i₀ links i = n - i
+μ-loop entries count stmts args links₀ n i₀ links i = n - i
 
 loop-holds : tie.Need-loop-holds Inv-loop μ-loop
-loop-holds c = (search needs, refl, λ ls lh eh sh ah. jumps-start (definition.entries ls) _ (definition.nodes ls))
+loop-holds c = (search needs, refl, λ ls ok et sh ah. jumps-start (definition.entries ls) _ (definition.nodes ls))
 
 mul-jump-count : tie.Need-mul-jump-count Inv-loop μ-loop
 mul-jump-count c = search needs
@@ -89,7 +90,7 @@ link-row-requires c κs =
     let a = at-start .args in
     let l = at-loop .loop in
     let few : c .before .before .jump-count .result ≤ 64 = rw (c .before .before .jump-count .ensures) (count-few _ _) in
-    simp (length-take, length-drop) ((at-start .pre .0 .0, at-start .pre .0 .1), (omega (arith, few), omega (arith, few, l .inv .1)))
+    simp (length-take, length-drop) (at-start .pre .0 .0, (omega (arith, few), omega (arith, few, l .inv .1)))
 
 add-i : tie.Need-add-i Inv-loop μ-loop
 add-i c = search needs
@@ -108,17 +109,17 @@ loop-again c =
     let w : l .i * 64 + 64 - l .i * 64 ≡ 64 = omega arith in
     let room : l .i * 64 + 64 ≤ length (l .links) = omega (arith, l .inv .1) in (
       omega arith,
-      lent-length (l .links) (c .before .before .link-row .last .1 .1 .1 .1 .0) (l .i * 64) (l .i * 64 + 64 - l .i * 64) (omega (arith, room)) (c .before .before .link-row .kept .1 .1 .1 .1 .0) ∙ l .inv .1,
-      λ ls lh eh sh ah.
-          jumps-lent (a .lines .now) (a .entries .now) (a .count) (a .stmts .now) (a .args .now) (a .n) ls lh eh sh ah _ (l .links) _ (l .i) _ _ w (in-loop .loop-test .taken) room
-          (at-jump-count .jump-count .ensures) (c .before .before .link-row .ensures) (l .inv .2 ls lh eh sh ah),
+      lent-length (l .links) (c .before .before .link-row .last .1 .1 .1 .0) (l .i * 64) (l .i * 64 + 64 - l .i * 64) (omega (arith, room)) (c .before .before .link-row .kept .1 .1 .1 .0) ∙ l .inv .1,
+      λ ls ok et sh ah.
+          jumps-lent (a .entries .now) (a .count) (a .stmts .now) (a .args .now) (a .n) ls ok et sh ah _ (l .links) _ (l .i) _ _ w (in-loop .loop-test .taken) room
+          (at-jump-count .jump-count .ensures) (c .before .before .link-row .ensures) (l .inv .2 ls ok et sh ah),
     )
 
 same-length : tie.Need-same-length Inv-loop μ-loop
 same-length c = c .before .loop .inv .1
 
 returns : tie.Need-returns Inv-loop μ-loop
-returns c = λ ls lh eh sh ah. jumps-end ls _ _ _ _ (sh .counted) (c .loop-test .left) (c .before .loop .inv .2 ls lh eh sh ah)
+returns c = λ ls ok et sh ah. jumps-end ls _ _ _ _ (sh .counted) (c .loop-test .left) (c .before .loop .inv .2 ls ok et sh ah)
 
 pub link-jumps-spec : {M : Type 1} → statement M
 link-jumps-spec =

@@ -13,14 +13,14 @@ use Rattle.wiring.proofs.jumps.link_row.Statement.{statement}
 use Rattle.wiring.proofs.jumps.link_row.Tie as tie
 
 abbrev Inv-loop : tie.InvT-loop
-Inv-loop lines entries count args links₀ c j₀ links j =
-    (j ≤ c) × (length links ≡ length links₀) × ((es : Entries) → EntryTable es lines entries count → links ≡ sets links₀ 0 (linkRow es (take j args)))
+Inv-loop entries count args links₀ c j₀ links j =
+    (j ≤ c) × (length links ≡ length links₀) × ((es : Entries) → EntryTable es entries count → links ≡ sets links₀ 0 (linkRow es (take j args)))
 
 abbrev μ-loop : tie.MeasureT-loop
-μ-loop lines entries count args links₀ c j₀ links j = c - j
+μ-loop entries count args links₀ c j₀ links j = c - j
 
 loop-holds : tie.Need-loop-holds Inv-loop μ-loop
-loop-holds c = (search needs, refl, λ es et. link-start es (c .before .before .before .before .args .args .now) _)
+loop-holds c = let at-start : tie.Start Inv-loop μ-loop = search in (search needs, refl, λ es et. link-start es (at-start .args .args .now) _)
 
 mul-entry-of-argument : tie.Need-mul-entry-of-argument Inv-loop μ-loop
 mul-entry-of-argument c = search needs

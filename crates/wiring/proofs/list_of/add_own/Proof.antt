@@ -1,7 +1,5 @@
 -- `add_own`: by the word. Assumes nothing.
 use borrow.Author.Needs.{needs}
-use mathlib.Core.Path.{sym}
-use lib.Seq.{length-take-le}
 use Rattle.passes.specs.AddRoom.{room-as, grows-as}
 use Rattle.passes.specs.NodeListLaws.{own-branches, own-run, own-jump, own-next, own-any, own-block}
 use Rattle.wiring.proofs.list_of.add_own.Statement.{statement}
@@ -96,17 +94,15 @@ returns-4 c =
     let at-start : tie.Start = search in
     let a = at-start .args in grows-as (own-next (a .stmts .now) (a .entries .now) (a .falls .now) (a .links .now) (a .frames .now) (a .lines) (a .i) (at-else1 .if1 .left) (at-else2 .if2 .left) (at-else3 .if3 .left) (c .before .before .before .before .if4 .taken)) (c .before .before .add-next .ensures)
 
-slice-aggregate-add-entries : tie.Need-slice-aggregate-add-entries
-slice-aggregate-add-entries c =
-    let at-start : tie.Start = search in
-    sym (length-take-le (at-start .args .lines) (at-start .args .entries .now) (at-start .pre .entries))
-
 add-entries-requires : tie.Need-add-entries-requires
 add-entries-requires c κs =
+    let at-then5 : tie.Then5 = search in
+    let at-else3 : tie.Else3 = search in
     let at-else2 : tie.Else2 = search in
     let at-else1 : tie.Else1 = search in
     let at-start : tie.Start = search in
-    (room-as (own-any (at-start .args .stmts .now) (at-start .args .entries .now) (at-start .args .falls .now) (at-start .args .links .now) (at-start .args .frames .now) (at-start .args .lines) (at-start .args .i) (at-else1 .if1 .left) (at-else2 .if2 .left) (c .before .before .before .before .if3 .left) (c .before .before .if5 .taken)) (at-start .pre .room), at-start .pre .rises)
+    let a = at-start .args in
+    (at-start .pre .entries, room-as (own-any (a .stmts .now) (a .entries .now) (a .falls .now) (a .links .now) (a .frames .now) (a .lines) (a .i) (at-else1 .if1 .left) (at-else2 .if2 .left) (at-else3 .if3 .left) (at-then5 .if5 .taken)) (at-start .pre .room), at-start .pre .rises)
 
 same-length-5 : tie.Need-same-length-5
 same-length-5 c = c .before .part5 .given
@@ -173,7 +169,6 @@ add-own-spec =
     add-next-requires
     same-length-4
     returns-4
-    slice-aggregate-add-entries
     add-entries-requires
     same-length-5
     returns-5

@@ -1,7 +1,5 @@
 -- `add_run`: the first line's entry, or the target. Assumes nothing.
 use borrow.Author.Needs.{needs}
-use mathlib.Core.Path.{sym}
-use lib.Seq.{length-take-le}
 use Rattle.passes.specs.AddRoom.{room-as, grows-as}
 use Rattle.passes.specs.NodeListLaws.{run-first, run-target}
 use Rattle.wiring.proofs.list_of.add_run.Statement.{statement}
@@ -22,15 +20,13 @@ shared-slice-read-wide c = search needs
 wide-requires : tie.Need-wide-requires
 wide-requires c κs = search needs
 
-slice-aggregate-add-first : tie.Need-slice-aggregate-add-first
-slice-aggregate-add-first c =
-    let at-start : tie.Start = search in
-    sym (length-take-le (at-start .args .lines) (at-start .args .entries .now) (at-start .pre .0 .1))
-
 add-first-requires : tie.Need-add-first-requires
 add-first-requires c κs =
+    let at-then1 : tie.Then1 = search in
+    let at-wide : tie.After-wide = search in
     let at-start : tie.Start = search in
-    room-as (run-first (at-start .args .stmts .now) (at-start .args .entries .now) (at-start .args .links .now) (at-start .args .lines) (at-start .args .i) (c .before .before .before .wide .result) (c .before .before .before .wide .ensures) (c .before .before .if1 .taken)) (at-start .pre .1)
+    let a = at-start .args in
+    (at-start .pre .0 .1, room-as (run-first (a .stmts .now) (a .entries .now) (a .links .now) (a .lines) (a .i) (at-wide .wide .result) (at-wide .wide .ensures) (at-then1 .if1 .taken)) (at-start .pre .1))
 
 same-length : tie.Need-same-length
 same-length c = search needs
@@ -86,7 +82,6 @@ add-run-spec =
     mul-wide-2
     shared-slice-read-wide
     wide-requires
-    slice-aggregate-add-first
     add-first-requires
     same-length
     returns

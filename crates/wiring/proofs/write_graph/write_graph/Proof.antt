@@ -20,7 +20,7 @@ put-edge-counts-requires : tie.Need-put-edge-counts-requires
 put-edge-counts-requires c κs =
     let at-write-edges : tie.After-write-edges = search in
     let at-start : tie.Start = search ways in
-    (total-few (at-start .pre .edges) (at-write-edges .write-edges .ensures .stored), at-start .pre .few-targets)
+    (total-few (at-start .pre .edges) (at-write-edges .write-edges .ensures .stored), at-start .pre .few-targets, at-start .pre .few-rows)
 
 same-length : tie.Need-same-length
 same-length c = c .before .before .before .args2 .given
