@@ -11,37 +11,37 @@ tell-built-requires : tie.Need-tell-built-requires
 tell-built-requires c κs = search needs
 
 same-length : tie.Need-same-length
-same-length c = c .before .before .before .before .before .before .before .before .before .before .before .before .before .before .before .before .before .before .before .before .before .lines .given
+same-length c = search
 
 same-length-2 : tie.Need-same-length-2
-same-length-2 c = c .before .before .before .before .before .before .before .before .before .before .before .before .before .before .before .before .before .before .before .stmts .given
+same-length-2 c = search
 
 same-length-3 : tie.Need-same-length-3
-same-length-3 c = c .before .before .before .before .before .before .before .before .before .before .before .before .before .before .before .before .before .args2 .given
+same-length-3 c = search
 
 same-length-4 : tie.Need-same-length-4
-same-length-4 c = c .before .before .before .before .before .before .before .before .before .before .before .before .before .before .before .entries .given
+same-length-4 c = search
 
 same-length-5 : tie.Need-same-length-5
-same-length-5 c = c .before .before .before .before .before .before .before .before .before .before .before .before .before .falls .given
+same-length-5 c = search
 
 same-length-6 : tie.Need-same-length-6
-same-length-6 c = c .before .before .before .before .before .before .before .before .before .before .before .links .given
+same-length-6 c = search
 
 same-length-7 : tie.Need-same-length-7
-same-length-7 c = c .before .before .before .before .before .before .before .before .before .lists .given
+same-length-7 c = search
 
 same-length-8 : tie.Need-same-length-8
-same-length-8 c = c .before .before .before .before .before .before .before .returns .given
+same-length-8 c = search
 
 same-length-9 : tie.Need-same-length-9
-same-length-9 c = c .before .before .before .before .before .succ .given
+same-length-9 c = search
 
 same-length-10 : tie.Need-same-length-10
 same-length-10 c = c .before .before .before .pred .given
 
 returns : tie.Need-returns
-returns c = build-told (c .before .before .before .before .before .before .before .before .before .before .before .before .before .before .before .before .before .before .before .before .before .before .build .ensures) (c .tell-built .ensures)
+returns c = let at-build : tie.After-build = search in build-told (at-build .build .ensures) (c .tell-built .ensures)
 
 pub flow-build-spec : {M : Type 1} → statement M
 flow-build-spec =

@@ -68,6 +68,25 @@ stmt-claims t = (put-row-reads.Asked, put-row-reads.Learnt, wide-reads.Asked, wi
 abbrev branch-claims : ℕ → connect-then-branch-lts.Claims
 branch-claims t = (wide-reads.Asked, wide-reads.Learnt, out-of-order-reads.Asked, out-of-order-reads.Learnt, target-of-reads.Asked, target-of-reads.Learnt, connect-stmt-below t, connect-stmt.Post)
 
+-- the places of the first that proofs go back to
+abbrev stmt-Start : ℕ → Type 0
+stmt-Start t = connect-stmt-lts.Start (stmt-claims t) (connect-stmt-at t) connect-stmt.Post
+
+abbrev stmt-Else1 : ℕ → Type 0
+stmt-Else1 t = connect-stmt-lts.Else1 (stmt-claims t) (connect-stmt-at t) connect-stmt.Post
+
+abbrev stmt-Else2 : ℕ → Type 0
+stmt-Else2 t = connect-stmt-lts.Else2 (stmt-claims t) (connect-stmt-at t) connect-stmt.Post
+
+abbrev stmt-After-out-of-order : ℕ → Type 0
+stmt-After-out-of-order t = connect-stmt-lts.After-out-of-order (stmt-claims t) (connect-stmt-at t) connect-stmt.Post
+
+abbrev stmt-After-wide : ℕ → Type 0
+stmt-After-wide t = connect-stmt-lts.After-wide (stmt-claims t) (connect-stmt-at t) connect-stmt.Post
+
+abbrev stmt-After-connect-row : ℕ → Type 0
+stmt-After-connect-row t = connect-stmt-lts.After-connect-row (stmt-claims t) (connect-stmt-at t) connect-stmt.Post
+
 connect-stmt-mul-row : (t : ℕ) → connect-stmt-lts.Need-mul-row (stmt-claims t) (connect-stmt-at t) connect-stmt.Post
 connect-stmt-mul-row t c = search needs
 
@@ -88,7 +107,7 @@ connect-stmt-same-length t c = search needs
 
 connect-stmt-returns : (t : ℕ) → connect-stmt-lts.Need-returns (stmt-claims t) (connect-stmt-at t) connect-stmt.Post
 connect-stmt-returns t c =
-    let at-start : connect-stmt-lts.Start (stmt-claims t) (connect-stmt-at t) connect-stmt.Post = search in
+    let at-start : stmt-Start t = search in
     let a = at-start .args in
     stmt-leaf (a .entries .now) (a .count) (a .stmts .now) (a .depth) (a .i) (a .end) (a .next) (a .falls .now) _ (c .before .before .before .before .if1 .taken) (c .before .before .put-row .ensures)
 
@@ -112,14 +131,14 @@ connect-stmt-out-of-order-requires t c κs = search needs
 
 connect-stmt-returns-2 : (t : ℕ) → connect-stmt-lts.Need-returns-2 (stmt-claims t) (connect-stmt-at t) connect-stmt.Post
 connect-stmt-returns-2 t c =
-    let at-start : connect-stmt-lts.Start (stmt-claims t) (connect-stmt-at t) connect-stmt.Post = search in
+    let at-start : stmt-Start t = search in
     let a = at-start .args in
     stmt-false (a .entries .now) (a .count) (a .stmts .now) (a .depth) (a .i) (a .end) (a .next) (a .falls .now) (c .before .before .before .before .if1 .left) _ (c .before .before .wide .ensures) _
     (c .before .out-of-order .ensures .1 (c .if2 .taken))
 
 connect-stmt-connect-row-requires : (t : ℕ) → connect-stmt-lts.Need-connect-row-requires (stmt-claims t) (connect-stmt-at t) connect-stmt.Post
 connect-stmt-connect-row-requires t c κs =
-    let at-start : connect-stmt-lts.Start (stmt-claims t) (connect-stmt-at t) connect-stmt.Post = search in
+    let at-start : stmt-Start t = search in
     let io = c .before .before .out-of-order .ensures .0 (c .before .if2 .left) in omega (arith, io, at-start .pre)
 
 connect-stmt-sub-connect-then-branch : (t : ℕ) → connect-stmt-lts.Need-sub-connect-then-branch (stmt-claims t) (connect-stmt-at t) connect-stmt.Post
@@ -129,32 +148,22 @@ connect-stmt-add-connect-then-branch : (t : ℕ) → connect-stmt-lts.Need-add-c
 connect-stmt-add-connect-then-branch t c = search needs
 
 connect-stmt-connect-then-branch-requires :
-    (t : ℕ) → connect-stmt-lts.Need-connect-then-branch-requires (
-      put-row-reads.Asked,
-      put-row-reads.Learnt,
-      wide-reads.Asked,
-      wide-reads.Learnt,
-      out-of-order-reads.Asked,
-      out-of-order-reads.Learnt,
-      connect-row-reads.Asked,
-      connect-row-reads.Learnt,
-      connect-then-branch-below t,
-      connect-then-branch.Post,
-    ) (connect-stmt-at t) connect-stmt.Post
+    (t : ℕ) → connect-stmt-lts.Need-connect-then-branch-requires (stmt-claims t) (connect-stmt-at t) connect-stmt.Post
 connect-stmt-connect-then-branch-requires t c κs =
+    let at-start : stmt-Start t = search in
     let io = c .before .before .before .before .before .before .out-of-order .ensures .0 (c .before .before .before .before .before .if2 .left) in
-    omega (arith, io, c .before .before .before .before .before .before .before .before .before .before .before .before .before .before .pre, c .before .before .before .connect-row .kept .1 .1 .1 .0)
+    omega (arith, io, at-start .pre, c .before .before .before .connect-row .kept .1 .1 .1 .0)
 
 connect-stmt-same-length-2 : (t : ℕ) → connect-stmt-lts.Need-same-length-2 (stmt-claims t) (connect-stmt-at t) connect-stmt.Post
 connect-stmt-same-length-2 t c = search needs
 
 connect-stmt-returns-3 : (t : ℕ) → connect-stmt-lts.Need-returns-3 (stmt-claims t) (connect-stmt-at t) connect-stmt.Post
 connect-stmt-returns-3 t c =
-    let at-else2 : connect-stmt-lts.Else2 (stmt-claims t) (connect-stmt-at t) connect-stmt.Post = search in
-    let at-out-of-order : connect-stmt-lts.After-out-of-order (stmt-claims t) (connect-stmt-at t) connect-stmt.Post = search in
-    let at-wide : connect-stmt-lts.After-wide (stmt-claims t) (connect-stmt-at t) connect-stmt.Post = search in
-    let at-else1 : connect-stmt-lts.Else1 (stmt-claims t) (connect-stmt-at t) connect-stmt.Post = search in
-    let at-start : connect-stmt-lts.Start (stmt-claims t) (connect-stmt-at t) connect-stmt.Post = search in
+    let at-else2 : stmt-Else2 t = search in
+    let at-out-of-order : stmt-After-out-of-order t = search in
+    let at-wide : stmt-After-wide t = search in
+    let at-else1 : stmt-Else1 t = search in
+    let at-start : stmt-Start t = search in
     let a = at-start .args in
     let io = at-out-of-order .out-of-order .ensures .0 (at-else2 .if2 .left) in
     stmt-first (a .entries .now) (a .count) (a .stmts .now) (a .depth) (a .i) (a .end) (a .next) (a .falls .now) (at-else1 .if1 .left) _ (at-wide .wide .ensures) _ _ _ (io .0)
@@ -162,44 +171,37 @@ connect-stmt-returns-3 t c =
 
 connect-stmt-sub-connect-then-branch-2 : (t : ℕ) → connect-stmt-lts.Need-sub-connect-then-branch-2 (stmt-claims t) (connect-stmt-at t) connect-stmt.Post
 connect-stmt-sub-connect-then-branch-2 t c =
-    let at-else2 : connect-stmt-lts.Else2 (stmt-claims t) (connect-stmt-at t) connect-stmt.Post = search in
-    let at-out-of-order : connect-stmt-lts.After-out-of-order (stmt-claims t) (connect-stmt-at t) connect-stmt.Post = search in
+    let at-else2 : stmt-Else2 t = search in
+    let at-out-of-order : stmt-After-out-of-order t = search in
     omega (arith, at-out-of-order .out-of-order .ensures .0 (at-else2 .if2 .left))
 
 connect-stmt-connect-then-branch-requires-2 :
-    (t : ℕ) → connect-stmt-lts.Need-connect-then-branch-requires-2 (
-      put-row-reads.Asked,
-      put-row-reads.Learnt,
-      wide-reads.Asked,
-      wide-reads.Learnt,
-      out-of-order-reads.Asked,
-      out-of-order-reads.Learnt,
-      connect-row-reads.Asked,
-      connect-row-reads.Learnt,
-      connect-then-branch-below t,
-      connect-then-branch.Post,
-    ) (connect-stmt-at t) connect-stmt.Post
+    (t : ℕ) → connect-stmt-lts.Need-connect-then-branch-requires-2 (stmt-claims t) (connect-stmt-at t) connect-stmt.Post
 connect-stmt-connect-then-branch-requires-2 t c κs =
-    let io = c .before .before .before .before .before .before .before .before .before .before .before .out-of-order .ensures .0 (c .before .before .before .before .before .before .before .before .before .before .if2 .left) in
-    omega (arith, io, c .before .before .before .before .before .before .before .before .before .before .before .before .before .before .before .before .before .before .before .pre, c .before .before .before .before .before .before .before .before .connect-row .kept .1 .1 .1 .0, c .before .before .before .before .connect-then-branch .kept .1 .1 .1 .0)
+    let at-connect-row : stmt-After-connect-row t = search in
+    let at-else2 : stmt-Else2 t = search in
+    let at-out-of-order : stmt-After-out-of-order t = search in
+    let at-start : stmt-Start t = search in
+    let io = at-out-of-order .out-of-order .ensures .0 (at-else2 .if2 .left) in
+    omega (arith, io, at-start .pre, at-connect-row .connect-row .kept .1 .1 .1 .0, c .before .before .before .before .connect-then-branch .kept .1 .1 .1 .0)
 
 connect-stmt-same-length-3 : (t : ℕ) → connect-stmt-lts.Need-same-length-3 (stmt-claims t) (connect-stmt-at t) connect-stmt.Post
 connect-stmt-same-length-3 t c = search needs
 
 -- Ways back from a place to an earlier one. `search` finds each by its type.
-abbrev connect-stmt-start-of-out-of-order : (t : ℕ) → connect-stmt-lts.After-out-of-order (stmt-claims t) (connect-stmt-at t) connect-stmt.Post → connect-stmt-lts.Start (stmt-claims t) (connect-stmt-at t) connect-stmt.Post
+abbrev connect-stmt-start-of-out-of-order : (t : ℕ) → stmt-After-out-of-order t → stmt-Start t
 connect-stmt-start-of-out-of-order t c = search
 
 ruleset ways = (connect-stmt-start-of-out-of-order)
 
 connect-stmt-returns-4 : (t : ℕ) → connect-stmt-lts.Need-returns-4 (stmt-claims t) (connect-stmt-at t) connect-stmt.Post
 connect-stmt-returns-4 t c =
-    let at-connect-row : connect-stmt-lts.After-connect-row (stmt-claims t) (connect-stmt-at t) connect-stmt.Post = search in
-    let at-else2 : connect-stmt-lts.Else2 (stmt-claims t) (connect-stmt-at t) connect-stmt.Post = search in
-    let at-out-of-order : connect-stmt-lts.After-out-of-order (stmt-claims t) (connect-stmt-at t) connect-stmt.Post = search in
-    let at-wide : connect-stmt-lts.After-wide (stmt-claims t) (connect-stmt-at t) connect-stmt.Post = search in
-    let at-else1 : connect-stmt-lts.Else1 (stmt-claims t) (connect-stmt-at t) connect-stmt.Post = search in
-    let at-start : connect-stmt-lts.Start (stmt-claims t) (connect-stmt-at t) connect-stmt.Post = search ways in
+    let at-connect-row : stmt-After-connect-row t = search in
+    let at-else2 : stmt-Else2 t = search in
+    let at-out-of-order : stmt-After-out-of-order t = search in
+    let at-wide : stmt-After-wide t = search in
+    let at-else1 : stmt-Else1 t = search in
+    let at-start : stmt-Start t = search ways in
     let a = at-start .args in
     let io = at-out-of-order .out-of-order .ensures .0 (at-else2 .if2 .left) in
     stmt-both (a .entries .now) (a .count) (a .stmts .now) (a .depth) (a .i) (a .end) (a .next) (a .falls .now) (at-else1 .if1 .left) _ (at-wide .wide .ensures) _ _ _ _ _ (io .0)
@@ -213,6 +215,31 @@ connect-then-branch-Inv-loop entries count stmts falls₀ depth from end next i�
 
 abbrev connect-then-branch-μ-loop : connect-then-branch-lts.MeasureT-loop
 connect-then-branch-μ-loop entries count stmts falls₀ depth from end next i₀ falls i = end - i
+
+-- the places of the second
+abbrev branch-Start : ℕ → Type 0
+branch-Start t = connect-then-branch-lts.Start (branch-claims t) (connect-then-branch-at t) connect-then-branch.Post connect-then-branch-Inv-loop connect-then-branch-μ-loop
+
+abbrev branch-At-loop : ℕ → Type 0
+branch-At-loop t = connect-then-branch-lts.At-loop (branch-claims t) (connect-then-branch-at t) connect-then-branch.Post connect-then-branch-Inv-loop connect-then-branch-μ-loop
+
+abbrev branch-In-loop : ℕ → Type 0
+branch-In-loop t = connect-then-branch-lts.In-loop (branch-claims t) (connect-then-branch-at t) connect-then-branch.Post connect-then-branch-Inv-loop connect-then-branch-μ-loop
+
+abbrev branch-After-out-of-order : ℕ → Type 0
+branch-After-out-of-order t = connect-then-branch-lts.After-out-of-order (branch-claims t) (connect-then-branch-at t) connect-then-branch.Post connect-then-branch-Inv-loop connect-then-branch-μ-loop
+
+abbrev branch-Else1 : ℕ → Type 0
+branch-Else1 t = connect-then-branch-lts.Else1 (branch-claims t) (connect-then-branch-at t) connect-then-branch.Post connect-then-branch-Inv-loop connect-then-branch-μ-loop
+
+abbrev branch-After-wide : ℕ → Type 0
+branch-After-wide t = connect-then-branch-lts.After-wide (branch-claims t) (connect-then-branch-at t) connect-then-branch.Post connect-then-branch-Inv-loop connect-then-branch-μ-loop
+
+abbrev branch-After-target-of : ℕ → Type 0
+branch-After-target-of t = connect-then-branch-lts.After-target-of (branch-claims t) (connect-then-branch-at t) connect-then-branch.Post connect-then-branch-Inv-loop connect-then-branch-μ-loop
+
+abbrev branch-After-connect-stmt : ℕ → Type 0
+branch-After-connect-stmt t = connect-then-branch-lts.After-connect-stmt (branch-claims t) (connect-then-branch-at t) connect-then-branch.Post connect-then-branch-Inv-loop connect-then-branch-μ-loop
 
 connect-then-branch-loop-holds : (t : ℕ) → connect-then-branch-lts.Need-loop-holds (branch-claims t)
     (connect-then-branch-at t)
@@ -250,16 +277,7 @@ connect-then-branch-mul-wide-2 : (t : ℕ) → connect-then-branch-lts.Need-mul-
 connect-then-branch-mul-wide-2 t c = search needs
 
 connect-then-branch-shared-slice-read-wide :
-    (t : ℕ) → connect-then-branch-lts.Need-shared-slice-read-wide (
-      wide-reads.Asked,
-      wide-reads.Learnt,
-      out-of-order-reads.Asked,
-      out-of-order-reads.Learnt,
-      target-of-reads.Asked,
-      target-of-reads.Learnt,
-      connect-stmt-below t,
-      connect-stmt.Post,
-    )
+    (t : ℕ) → connect-then-branch-lts.Need-shared-slice-read-wide (branch-claims t)
     (connect-then-branch-at t)
     connect-then-branch.Post
     connect-then-branch-Inv-loop
@@ -281,16 +299,7 @@ connect-then-branch-add-out-of-order : (t : ℕ) → connect-then-branch-lts.Nee
 connect-then-branch-add-out-of-order t c = search needs
 
 connect-then-branch-out-of-order-requires :
-    (t : ℕ) → connect-then-branch-lts.Need-out-of-order-requires (
-      wide-reads.Asked,
-      wide-reads.Learnt,
-      out-of-order-reads.Asked,
-      out-of-order-reads.Learnt,
-      target-of-reads.Asked,
-      target-of-reads.Learnt,
-      connect-stmt-below t,
-      connect-stmt.Post,
-    )
+    (t : ℕ) → connect-then-branch-lts.Need-out-of-order-requires (branch-claims t)
     (connect-then-branch-at t)
     connect-then-branch.Post
     connect-then-branch-Inv-loop
@@ -325,29 +334,24 @@ connect-then-branch-target-of-requires : (t : ℕ) → connect-then-branch-lts.N
 connect-then-branch-target-of-requires t c κs = omega (arith, c .before .out-of-order .ensures .0 (c .if1 .left), c .before .before .before .before .before .before .before .before .before .pre)
 
 connect-then-branch-connect-stmt-requires :
-    (t : ℕ) → connect-then-branch-lts.Need-connect-stmt-requires (
-      wide-reads.Asked,
-      wide-reads.Learnt,
-      out-of-order-reads.Asked,
-      out-of-order-reads.Learnt,
-      target-of-reads.Asked,
-      target-of-reads.Learnt,
-      connect-stmt-below t,
-      connect-stmt.Post,
-    )
+    (t : ℕ) → connect-then-branch-lts.Need-connect-stmt-requires (branch-claims t)
     (connect-then-branch-at t)
     connect-then-branch.Post
     connect-then-branch-Inv-loop
     connect-then-branch-μ-loop
 connect-then-branch-connect-stmt-requires t c κs =
-    omega (arith, c .before .before .before .out-of-order .ensures .0 (c .before .before .if1 .left), c .before .before .before .before .before .before .before .before .before .before .before .pre, c .before .before .before .before .before .before .before .loop .inv .2)
+    let at-start : branch-Start t = search in
+    let at-loop : branch-At-loop t = search in
+    omega (arith, c .before .before .before .out-of-order .ensures .0 (c .before .before .if1 .left), at-start .pre, at-loop .loop .inv .2)
 
 connect-then-branch-same-length-2 : (t : ℕ) → connect-then-branch-lts.Need-same-length-2 (branch-claims t)
     (connect-then-branch-at t)
     connect-then-branch.Post
     connect-then-branch-Inv-loop
     connect-then-branch-μ-loop
-connect-then-branch-same-length-2 t c = c .before .before .before .connect-stmt .kept .1 .1 .1 .0 ∙ c .before .before .before .before .before .before .before .before .before .before .before .loop .inv .2
+connect-then-branch-same-length-2 t c =
+    let at-loop : branch-At-loop t = search in
+    c .before .before .before .connect-stmt .kept .1 .1 .1 .0 ∙ at-loop .loop .inv .2
 
 connect-then-branch-returns-2 : (t : ℕ) → connect-then-branch-lts.Need-returns-2 (branch-claims t)
     (connect-then-branch-at t)
@@ -355,12 +359,20 @@ connect-then-branch-returns-2 : (t : ℕ) → connect-then-branch-lts.Need-retur
     connect-then-branch-Inv-loop
     connect-then-branch-μ-loop
 connect-then-branch-returns-2 t c =
-    let a = c .before .before .before .before .before .before .before .before .before .before .before .before .before .before .before .args in
-    let l = c .before .before .before .before .before .before .before .before .before .before .before .loop in
+    let at-start : branch-Start t = search in
+    let at-loop : branch-At-loop t = search in
+    let in-loop : branch-In-loop t = search in
+    let at-wide : branch-After-wide t = search in
+    let at-out-of-order : branch-After-out-of-order t = search in
+    let at-else1 : branch-Else1 t = search in
+    let at-target-of : branch-After-target-of t = search in
+    let at-connect-stmt : branch-After-connect-stmt t = search in
+    let a = at-start .args in
+    let l = at-loop .loop in
     λ es et d dd s sp ok q.
-    let r = branch-step (a .entries .now) (a .count) (a .stmts .now) (a .depth) (a .from) (a .end) (a .next) (a .falls .now) es et d dd s sp ok q _ (l .i) (c .before .before .before .before .before .before .before .before .before .before .loop-test .taken)
-    (l .inv .3 es et d dd s sp ok q) _ _ _ _ (c .before .before .before .before .before .before .before .before .wide .ensures) (c .before .before .before .before .before .target-of .ensures) (c .before .before .before .connect-stmt .ensures) in
-    not-both (c .before .before .before .connect-stmt .result) (r .0) (c .if2 .taken)
+    let r = branch-step (a .entries .now) (a .count) (a .stmts .now) (a .depth) (a .from) (a .end) (a .next) (a .falls .now) es et d dd s sp ok q _ (l .i) (in-loop .loop-test .taken)
+    (l .inv .3 es et d dd s sp ok q) _ _ _ _ (at-wide .wide .ensures) (at-target-of .target-of .ensures) (at-connect-stmt .connect-stmt .ensures) in
+    not-both (at-connect-stmt .connect-stmt .result) (r .0) (c .if2 .taken)
 
 connect-then-branch-loop-less : (t : ℕ) → connect-then-branch-lts.Need-loop-less (branch-claims t)
     (connect-then-branch-at t)
@@ -375,15 +387,23 @@ connect-then-branch-loop-again : (t : ℕ) → connect-then-branch-lts.Need-loop
     connect-then-branch-Inv-loop
     connect-then-branch-μ-loop
 connect-then-branch-loop-again t c =
-    let a = c .before .before .before .before .before .before .before .before .before .before .before .before .before .before .before .args in
-    let l = c .before .before .before .before .before .before .before .before .before .before .before .loop in
-    let io = c .before .before .before .before .before .before .before .out-of-order .ensures .0 (c .before .before .before .before .before .before .if1 .left) in (
+    let at-start : branch-Start t = search in
+    let at-loop : branch-At-loop t = search in
+    let in-loop : branch-In-loop t = search in
+    let at-wide : branch-After-wide t = search in
+    let at-out-of-order : branch-After-out-of-order t = search in
+    let at-else1 : branch-Else1 t = search in
+    let at-target-of : branch-After-target-of t = search in
+    let at-connect-stmt : branch-After-connect-stmt t = search in
+    let a = at-start .args in
+    let l = at-loop .loop in
+    let io = at-out-of-order .out-of-order .ensures .0 (at-else1 .if1 .left) in (
       omega (arith, io, l .inv .0),
       io .2,
-      c .before .before .before .connect-stmt .kept .1 .1 .1 .0 ∙ l .inv .2,
+      at-connect-stmt .connect-stmt .kept .1 .1 .1 .0 ∙ l .inv .2,
       λ es et d dd s sp ok q.
-          branch-step (a .entries .now) (a .count) (a .stmts .now) (a .depth) (a .from) (a .end) (a .next) (a .falls .now) es et d dd s sp ok q _ (l .i) (c .before .before .before .before .before .before .before .before .before .before .loop-test .taken)
-          (l .inv .3 es et d dd s sp ok q) _ _ _ _ (c .before .before .before .before .before .before .before .before .wide .ensures) (c .before .before .before .before .before .target-of .ensures) (c .before .before .before .connect-stmt .ensures) .1,
+          branch-step (a .entries .now) (a .count) (a .stmts .now) (a .depth) (a .from) (a .end) (a .next) (a .falls .now) es et d dd s sp ok q _ (l .i) (in-loop .loop-test .taken)
+          (l .inv .3 es et d dd s sp ok q) _ _ _ _ (at-wide .wide .ensures) (at-target-of .target-of .ensures) (at-connect-stmt .connect-stmt .ensures) .1,
     )
 
 connect-then-branch-same-length-3 : (t : ℕ) → connect-then-branch-lts.Need-same-length-3 (branch-claims t)
