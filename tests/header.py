@@ -16,7 +16,7 @@ import sys
 HERE = os.path.dirname(os.path.abspath(__file__))
 HEADER, RUST, WORDS = "include/flowgraph.h", "rust/src/ffi.rs", "rust/src/word.rs"
 LIBRARY = "crates/flowgraph/src"
-DECISIONS, ROOM, SIZES = "docs/DECISIONS.md", "crates/wiring/src/room.rt", "crates/flowlist/src/main.rt"
+DECISIONS, ROOM, SIZES = "docs/DECISIONS.md", "crates/wiring/src/room.rt", "crates/at_limits/src/list.rt"
 COLUMNS, LIMIT_CONSTANTS, OPENING = "crates/layout/src/columns.rt", "crates/layout/src/limits.rt", "crates/tokens/src/words.rt"
 LIMITS = {"MAX_BYTES": "MAX_BYTES", "MAX_LINES": "MAX_LINES", "MAX_STATEMENTS": "MAX_STMTS", "MAX_EDGES": "MAX_EDGES", "MAX_DEPTH": "MAX_DEPTH"}
 TABLES = ["lines", "stmts", "args", "entries", "falls", "links", "lists", "returns", "succ", "pred"]

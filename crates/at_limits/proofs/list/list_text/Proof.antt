@@ -4,8 +4,8 @@ use Prim.Native.Nat.{ℕ}
 use mathlib.Core.Path.{sym}
 use lib.ListN.{length-replicate}
 use Rattle.printing.specs.Limits.{listed-limits}
-use Rattle.flowlist.proofs.list_text.Statement.{statement}
-use Rattle.flowlist.proofs.list_text.Tie as tie
+use Rattle.at_limits.proofs.list.list_text.Statement.{statement}
+use Rattle.at_limits.proofs.list.list_text.Tie as tie
 
 slice-aggregate-list-graph : tie.Need-slice-aggregate-list-graph
 slice-aggregate-list-graph c = sym (length-replicate {0} {A = ℕ} _ 0)
