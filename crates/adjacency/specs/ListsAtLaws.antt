@@ -83,15 +83,8 @@ unfolding askedOf
 part-back (answer d) a n e = let x : d .0 ≡ a = cc in let y : d .1 ≡ n = cc in rw (x, y) refl
 part-back (refused k p) a n e = let z : _≡_ {A = ℕ} 0 1 = cc in absurd (omega arith)
 
-pub successors-inside : (counts lists : List ℕ) (size node a n : ℕ) → askedOf (successorsAt counts lists size node) ≡ Part a n → a + n ≤ size
-unfolding successorsAt
-successors-inside counts lists size node a n e =
-    list-inside counts lists size node (succStart lists node) (succCount lists node) (a, n) (part-back (successorsAt counts lists size node) a n e)
-
-pub predecessors-inside : (counts lists : List ℕ) (size node a n : ℕ) → askedOf (predecessorsAt counts lists size node) ≡ Part a n → a + n ≤ size
-unfolding predecessorsAt
-predecessors-inside counts lists size node a n e =
-    list-inside counts lists size node (predStart lists node) (predCount lists node) (a, n) (part-back (predecessorsAt counts lists size node) a n e)
+pub asked-inside : (counts lists : List ℕ) (size node start count a n : ℕ) → askedOf (listAt counts lists size node start count) ≡ Part a n → a + n ≤ size
+asked-inside counts lists size node start count a n e = list-inside counts lists size node start count (a, n) (part-back (listAt counts lists size node start count) a n e)
 
 -- as it is lent, from a start to an end
 pub part-lent : (r : Reply (ℕ × ℕ)) (a n : ℕ) (table : List ℕ) → askedOf r ≡ Part a n → take (a + n - a) (drop a table) ≡ partOf r table

@@ -3,7 +3,7 @@ use crate::successors::entry_of;
 use layout::columns::ENTRY_ENTRIES;
 use layout::columns::ENTRY_NODE;
 use layout::columns::ENTRY_NUMBER;
-use tables::widths::count_of;
+use layout::widths::count_of;
 ghost use mathlib.Core.Path.{_≡_};
 ghost use Prim.Native.Nat.{_*_, _<_, _≤_};
 ghost use lib.ListN.{length};

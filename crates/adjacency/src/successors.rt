@@ -1,6 +1,6 @@
 // A node's successors and predecessors, read off tables that any caller may have written.
 use layout::columns::LIST_ENTRIES;
-use tables::widths::count_of;
+use layout::widths::count_of;
 ghost use mathlib.Core.Path.{_≡_};
 ghost use Prim.Native.Nat.{_+_, _*_, _<_, _≤_};
 ghost use lib.ListN.{length, getD};
@@ -63,33 +63,39 @@ pub fn ask_predecessors(counts: &[u32; 6], lists: &[u16], pred: &[u16], node: us
     ask_list(counts, lists, pred.len(), node, 2)
 }
 
-// The successors themselves: that part of the caller's table; empty where the question is refused.
-pub fn successors<'a>(counts: &[u32; 6], lists: &[u16], succ: &'a [u16], node: usize) -> &'a [u16]
-    ensures { λ r. ⌜ now r ≡ partOf (successorsAt (now (counts .entry)) (now (lists .entry)) (length (now (succ .entry))) node) (now (succ .entry)) ⌝ }
+// That part of the caller's table; empty where the question is refused.
+fn list_part<'a>(
+    counts: &[u32; 6],
+    lists: &[u16],
+    table: &'a [u16],
+    node: usize,
+    column: usize,
+) -> &'a [u16]
+    requires { ⌜ column ≤ 2 ⌝ }
+    ensures { λ r. ⌜ now r ≡ partOf (listAt (now (counts .entry)) (now (lists .entry)) (length (now (table .entry))) node (getD (now (lists .entry)) (node * 4 + column) 0) (getD (now (lists .entry)) (node * 4 + (column + 1)) 0)) (now (table .entry)) ⌝ }
 {
-    match ask_successors(counts, lists, succ, node) {
+    match ask_list(counts, lists, table.len(), node, column) {
         Asked::Part { start, len } => {
             let end = start + len;
-            &succ[start..end]
+            &table[start..end]
         }
         Asked::Refused {
             number: _,
             place: _,
-        } => &succ[0..0],
+        } => &table[0..0],
     }
 }
 
+// The successors themselves, as they stand in the caller's table.
+pub fn successors<'a>(counts: &[u32; 6], lists: &[u16], succ: &'a [u16], node: usize) -> &'a [u16]
+    ensures { λ r. ⌜ now r ≡ partOf (successorsAt (now (counts .entry)) (now (lists .entry)) (length (now (succ .entry))) node) (now (succ .entry)) ⌝ }
+{
+    list_part(counts, lists, succ, node, 0)
+}
+
+// The predecessors, whose columns come after.
 pub fn predecessors<'a>(counts: &[u32; 6], lists: &[u16], pred: &'a [u16], node: usize) -> &'a [u16]
     ensures { λ r. ⌜ now r ≡ partOf (predecessorsAt (now (counts .entry)) (now (lists .entry)) (length (now (pred .entry))) node) (now (pred .entry)) ⌝ }
 {
-    match ask_predecessors(counts, lists, pred, node) {
-        Asked::Part { start, len } => {
-            let end = start + len;
-            &pred[start..end]
-        }
-        Asked::Refused {
-            number: _,
-            place: _,
-        } => &pred[0..0],
-    }
+    list_part(counts, lists, pred, node, 2)
 }

@@ -48,7 +48,7 @@ entryAnswer c e n = replyRow (λ d. listRow (bytes "(entry") (list d)) (entryAt 
 unfoldable pub frameAnswer : (counts stmts args falls lists succ : List ℕ) → (header node : ℕ) → Name → Bool → List ℕ
 frameAnswer c t a f i u h n v flag = replyRow (listRow (bytes "(frame")) (frameAt (getD c 0 0) (getD c 1 0) t a f i u h n v flag 4096)
 
-unfoldable pub answerAt : (counts lines stmts args entries falls lists succ pred : List ℕ) → Question → List ℕ
+unfoldable pub answerAt : (counts stmts args entries falls lists succ pred : List ℕ) → Question → List ℕ
 answerAt c l t a e f i u p (ofSuccessors n) = successorsAnswer c i u n
 answerAt c l t a e f i u p (ofPredecessors n) = predecessorsAnswer c i p n
 answerAt c l t a e f i u p (ofStatement n) = statementAnswer c t n
@@ -60,7 +60,7 @@ answerAt c l t a e f i u p (ofFrame h n v flag) = frameAnswer c t a f i u h n v 
 unfoldable pub numberQuestion : (word n : ℕ) → Question
 numberQuestion w n = pick (eqb w 0) (ofSuccessors n) (pick (eqb w 1) (ofPredecessors n) (pick (eqb w 2) (ofStatement n) (ofEntry n)))
 
-unfoldable pub numberAnswer : (counts lines stmts entries lists succ pred : List ℕ) → (word n : ℕ) → List ℕ
+unfoldable pub numberAnswer : (counts stmts entries lists succ pred : List ℕ) → (word n : ℕ) → List ℕ
 numberAnswer c l t e i u p w n =
     pick (eqb w 0) (successorsAnswer c i u n) (pick (eqb w 1) (predecessorsAnswer c i p n) (pick (eqb w 2) (statementAnswer c t n) (entryAnswer c e n)))
 

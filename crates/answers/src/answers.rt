@@ -15,6 +15,7 @@ use crate::words::open_row;
 use formatting::print_rows::put_refusal;
 use frame_slices::slices::Framed;
 use layout::limits::MAX_STMTS;
+use layout::widths::wide;
 use questions::entry::line_first;
 use questions::frame::frame_successors;
 use questions::statement::resolve_path;
@@ -23,7 +24,6 @@ use questions::successors::ask_predecessors;
 use questions::successors::ask_successors;
 use questions::successors::predecessors;
 use questions::successors::successors;
-use tables::widths::wide;
 use tokens::arguments::check_all;
 use tokens::arguments::single_number;
 use tokens::numbers::ParsedNumber;
@@ -79,14 +79,13 @@ fn put_by_number(
     word: usize,
     n: u16,
     counts: &[u32; 6],
-    lines: &[u16],
     stmts: &[u16],
     entries: &[u16],
     lists: &[u16],
     succ: &[u16],
     pred: &[u16],
 ) -> usize
-    ensures { λ r. ⌜ Puts (now (out .entry)) at (now (out .exit)) r (numberAnswer (now (counts .entry)) (now (lines .entry)) (now (stmts .entry)) (now (entries .entry)) (now (lists .entry)) (now (succ .entry)) (now (pred .entry)) word n) ⌝ }
+    ensures { λ r. ⌜ Puts (now (out .entry)) at (now (out .exit)) r (numberAnswer (now (counts .entry)) (now (stmts .entry)) (now (entries .entry)) (now (lists .entry)) (now (succ .entry)) (now (pred .entry)) word n) ⌝ }
 {
     if word == SUCCESSORS {
         return put_successors(out, at, counts, lists, succ, wide(n));
@@ -266,7 +265,6 @@ fn answer_words(
     word: usize,
     s: &[u8],
     counts: &[u32; 6],
-    lines: &[u16],
     stmts: &[u16],
     args: &[u64],
     entries: &[u16],
@@ -275,7 +273,7 @@ fn answer_words(
     succ: &[u16],
     pred: &[u16],
 ) -> usize
-    ensures { λ r. ⌜ Puts (now (out .entry)) at (now (out .exit)) r (outcomeRow (answerAt (now (counts .entry)) (now (lines .entry)) (now (stmts .entry)) (now (args .entry)) (now (entries .entry)) (now (falls .entry)) (now (lists .entry)) (now (succ .entry)) (now (pred .entry))) k (orRefused (wordQuestion (formAt word) (split 32 (now (s .entry)))) short)) ⌝ }
+    ensures { λ r. ⌜ Puts (now (out .entry)) at (now (out .exit)) r (outcomeRow (answerAt (now (counts .entry)) (now (stmts .entry)) (now (args .entry)) (now (entries .entry)) (now (falls .entry)) (now (lists .entry)) (now (succ .entry)) (now (pred .entry))) k (orRefused (wordQuestion (formAt word) (split 32 (now (s .entry)))) short)) ⌝ }
 {
     if word == PATH {
         return answer_path(out, at, k, s, counts, stmts);
@@ -294,7 +292,6 @@ fn answer_words(
             word,
             n,
             counts,
-            lines,
             stmts,
             entries,
             lists,
@@ -311,7 +308,6 @@ pub(crate) fn answer_row(
     k: usize,
     w: &[u8],
     counts: &[u32; 6],
-    lines: &[u16],
     stmts: &[u16],
     args: &[u64],
     entries: &[u16],
@@ -320,7 +316,7 @@ pub(crate) fn answer_row(
     succ: &[u16],
     pred: &[u16],
 ) -> usize
-    ensures { λ r. ⌜ Puts (now (out .entry)) at (now (out .exit)) r (rowAnswer (answerAt (now (counts .entry)) (now (lines .entry)) (now (stmts .entry)) (now (args .entry)) (now (entries .entry)) (now (falls .entry)) (now (lists .entry)) (now (succ .entry)) (now (pred .entry))) k (now (w .entry))) ⌝ }
+    ensures { λ r. ⌜ Puts (now (out .entry)) at (now (out .exit)) r (rowAnswer (answerAt (now (counts .entry)) (now (stmts .entry)) (now (args .entry)) (now (entries .entry)) (now (falls .entry)) (now (lists .entry)) (now (succ .entry)) (now (pred .entry))) k (now (w .entry))) ⌝ }
 {
     match open_row(w) {
         Opened::NoQuestion => put_refusal(out, at, 2, k),
@@ -333,7 +329,6 @@ pub(crate) fn answer_row(
                 word,
                 &w[from..last],
                 counts,
-                lines,
                 stmts,
                 args,
                 entries,

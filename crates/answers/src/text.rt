@@ -33,7 +33,6 @@ pub fn answer_rows(
     out: &mut [u8],
     text: &[u8],
     counts: &[u32; 6],
-    lines: &[u16],
     stmts: &[u16],
     args: &[u64],
     entries: &[u16],
@@ -42,7 +41,7 @@ pub fn answer_rows(
     succ: &[u16],
     pred: &[u16],
 ) -> usize
-    ensures { λ r. ⌜ Puts (now (out .entry)) 0 (now (out .exit)) r (answerRows (answerAt (now (counts .entry)) (now (lines .entry)) (now (stmts .entry)) (now (args .entry)) (now (entries .entry)) (now (falls .entry)) (now (lists .entry)) (now (succ .entry)) (now (pred .entry))) 0 (split 10 (now (text .entry)))) ⌝ }
+    ensures { λ r. ⌜ Puts (now (out .entry)) 0 (now (out .exit)) r (answerRows (answerAt (now (counts .entry)) (now (stmts .entry)) (now (args .entry)) (now (entries .entry)) (now (falls .entry)) (now (lists .entry)) (now (succ .entry)) (now (pred .entry))) 0 (split 10 (now (text .entry)))) ⌝ }
 {
     let mut r: usize = 0;
     let mut k: usize = 0;
@@ -65,7 +64,6 @@ pub fn answer_rows(
             k,
             &text[at..to],
             counts,
-            lines,
             stmts,
             args,
             entries,

@@ -88,7 +88,7 @@ path-row i l p (n ∷ ns) = go (eqb (n .line) l && same (n .path) p) (path-row (
 -- ---- on tables that a build wrote the answers are those of the listing's graph
 
 module _ (L : Listing) (T : Tables) (m : Questions L T) where
-  answer-is : (q : Question) → answerAt (T .counts) (T .lines) (T .stmts) (T .args) (T .entries) (T .falls) (T .lists) (T .succ) (T .pred) q ≡ answerRow L q
+  answer-is : (q : Question) → answerAt (T .counts) (T .stmts) (T .args) (T .entries) (T .falls) (T .lists) (T .succ) (T .pred) q ≡ answerRow L q
   unfolding answerAt answerRow successorsAnswer predecessorsAnswer statementAnswer pathAnswer entryAnswer frameAnswer askStatement askPath
   answer-is (ofSuccessors i) = ap (replyRow _) (m .successors i)
   answer-is (ofPredecessors i) = ap (replyRow _) (m .predecessors i)
@@ -98,7 +98,7 @@ module _ (L : Listing) (T : Tables) (m : Questions L T) where
   answer-is (ofFrame a i v flag) = ap (replyRow _) (m .frame a i v flag 4096)
 
 pub build-answers : (text : List ℕ) (s : Sizes) (T : Tables) (x : BuiltAnswer) → BuildWrote (read text) s T x → x ≡ built.Graph
-    → (L : Listing) × (build (capacity s) text ≡ graph L) × ((q : Question) → answerAt (T .counts) (T .lines) (T .stmts) (T .args) (T .entries) (T .falls) (T .lists) (T .succ) (T .pred) q ≡ answerRow L q)
+    → (L : Listing) × (build (capacity s) text ≡ graph L) × ((q : Question) → answerAt (T .counts) (T .stmts) (T .args) (T .entries) (T .falls) (T .lists) (T .succ) (T .pred) q ≡ answerRow L q)
 build-answers text s T x wrote e =
     let M = mission text s T x wrote in
     let d = M .first .graph-of e in

@@ -15,7 +15,6 @@ fn answer_questions(
     text: &[u8],
     n: usize,
     counts: &[u32; 6],
-    lines: &[u16],
     stmts: &[u16],
     args: &[u64],
     entries: &[u16],
@@ -25,7 +24,7 @@ fn answer_questions(
     pred: &[u16],
 ) -> usize
     requires { ⌜ CutAt (now text) n ⌝ }
-    ensures { λ r. ⌜ QuestionsAnswered (now (text .entry)) (answerAt (now (counts .entry)) (now (lines .entry)) (now (stmts .entry)) (now (args .entry)) (now (entries .entry)) (now (falls .entry)) (now (lists .entry)) (now (succ .entry)) (now (pred .entry))) (now (out .entry)) (now (out .exit)) r ⌝ }
+    ensures { λ r. ⌜ QuestionsAnswered (now (text .entry)) (answerAt (now (counts .entry)) (now (stmts .entry)) (now (args .entry)) (now (entries .entry)) (now (falls .entry)) (now (lists .entry)) (now (succ .entry)) (now (pred .entry))) (now (out .entry)) (now (out .exit)) r ⌝ }
 {
     if n == text.len() {
         return 0;
@@ -36,7 +35,6 @@ fn answer_questions(
         out,
         &text[from..],
         counts,
-        lines,
         stmts,
         args,
         entries,
@@ -87,7 +85,6 @@ pub fn ask_text(
             text,
             n,
             counts,
-            lines,
             stmts,
             args,
             entries,

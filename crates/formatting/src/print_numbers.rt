@@ -1,5 +1,5 @@
 // Bytes and numbers for a lent part. Bytes that do not fit are dropped; each routine answers where the next byte would go.
-use tables::widths::wide;
+use layout::widths::wide;
 ghost use mathlib.Core.Path.{_≡_};
 ghost use mathlib.Core.List.{[], _∷_, _++_};
 ghost use Prim.Native.Nat.{_+_, _<_};

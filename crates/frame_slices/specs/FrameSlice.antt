@@ -13,7 +13,7 @@ use Rattle.listings.specs.Records.{padded}
 use Rattle.reader.specs.Tables.{padded-nil}
 use Rattle.graph.specs.Lists.{has, keep}
 use Rattle.graph_laws.specs.Adding.{decode}
-use Rattle.tables.specs.Stores.{clearedBehind}
+use Rattle.layout.specs.Zeroed.{clearedBehind}
 use Rattle.graph.specs.Questions.{Reply, answer, refused, kept, ifRoom}
 use Rattle.frame_slices.specs.Told.{FrameTold, framedOf, sliceAfter}
 use Rattle.frame_slices.specs.declared.slices.Framed.{Framed}

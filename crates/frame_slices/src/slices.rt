@@ -1,10 +1,10 @@
 // A list goes into the slice lent for it, or is refused 28 if it is too long.
-use reader::tables::zero16;
+use layout::zeroing::clear_behind;
+use layout::zeroing::zero16;
 ghost use mathlib.Core.Path.{_≡_};
 ghost use mathlib.Core.List.{[], _++_};
 ghost use Prim.Native.Nat.{_≤_};
 ghost use lib.ListN.{length, drop};
-ghost use Rattle.tables.specs.Stores.{clearedBehind};
 ghost use Rattle.graph_laws.specs.Adding.{decode};
 ghost use Rattle.graph.specs.Questions.{kept, ifRoom};
 ghost use Rattle.frame_slices.specs.Told.{FrameTold};
@@ -56,14 +56,6 @@ fn store_list(list: &[u16], out: &mut [u16])
         out[at] = list[at];
         at += 1;
     }
-}
-
-// The entries from `at` on become zero.
-fn clear_behind(out: &mut [u16], at: usize)
-    requires { ⌜ at ≤ length (now out) ⌝ }
-    ensures { λ _. ⌜ now (out .exit) ≡ clearedBehind at (now (out .entry)) ⌝ }
-{
-    zero16(&mut out[at..]);
 }
 
 pub fn copy_list(list: &[u16], out: &mut [u16]) -> Framed

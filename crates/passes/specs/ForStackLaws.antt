@@ -15,7 +15,7 @@ use Rattle.passes.specs.FrameStacks.{topOf, pushed, topMark, under, Hold
 use Rattle.passes.specs.FrameStackLaws.{top-held, under-held}
 use Rattle.passes.specs.ForStack.{findKey, foundNumber, underFound, popKey, keyLinks, keysLeft, pushKey, movesFors, forsOpen, forsLinked, Sought, SlotFound, SlotPopped, ForPushed, SlotsPopped, NodeLinked}
 use Rattle.passes.specs.ListedNodes.{keysAt}
-use Rattle.tables.specs.Stores.{clearedBehind}
+use Rattle.layout.specs.Zeroed.{clearedBehind}
 
 pub open-wider : {ws : List ℕ} (i j : ℕ) → i ≤ j → HoldsBelow ws i → HoldsBelow ws j
 open-wider i j h o = record { openers = o .openers; held = o .held; below = omega (arith, o .below) }

@@ -21,7 +21,7 @@ use borrow.Author.Tests.{leb-true}
 use Rattle.reader.specs.Answer.{listedOf}
 use Rattle.reader.specs.Listed.{lineEntries, stmtEntries, argEntries, Written}
 use Rattle.reader.specs.declared.listing.Listed.{Listed}
-use Rattle.tables.specs.Stores.{clearedBehind, cleared-length}
+use Rattle.layout.specs.Zeroed.{clearedBehind, cleared-length}
 
 -- ---- a wider table
 

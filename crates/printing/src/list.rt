@@ -1,7 +1,7 @@
 // A text's graph, printed.
 use crate::print::print_graph;
 use formatting::print_rows::put_refusal;
-use tables::widths::count_of;
+use layout::widths::count_of;
 use wiring::build::Built;
 use wiring::build::build;
 ghost use lib.ListN.{getD};

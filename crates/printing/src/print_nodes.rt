@@ -11,7 +11,7 @@ use layout::columns::INDEX;
 use layout::columns::LINE;
 use layout::columns::STMT_ENTRIES;
 use layout::limits::MAX_DEPTH;
-use tables::widths::wide;
+use layout::widths::wide;
 ghost use mathlib.Core.Path.{_≡_};
 ghost use mathlib.Core.List.{_++_};
 ghost use Prim.Native.Nat.{_+_, _*_, _<_, _≤_};

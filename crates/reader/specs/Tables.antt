@@ -18,12 +18,6 @@ drop-zeros n zero = let e : n ≡ n - 0 = omega arith in ap (λ (k : ℕ). repli
 drop-zeros zero (suc k) = let e : 0 ≡ 0 - suc k = omega arith in ap (λ (n : ℕ). replicate {A = ℕ} n 0) e
 drop-zeros (suc n) (suc k) = let e : n - k ≡ suc n - suc k = omega arith in drop-zeros n k ∙ ap (λ (m : ℕ). replicate {A = ℕ} m 0) e
 
--- one entry more is zero
-pub zero-next : (t : List ℕ) (i : ℕ) → i < length t → set (replicate i 0 ++ drop i t) i 0 ≡ replicate (suc i) 0 ++ drop (suc i) t
-zero-next [] i h = absurd (not-suc-le-zero h)
-zero-next (a ∷ t) zero h = refl
-zero-next (a ∷ t) (suc i) h = ap (λ (l : List ℕ). 0 ∷ l) (zero-next t i (le-of-suc-le-suc h))
-
 -- ---- a table filled from its start
 
 pub padded-length : (n : ℕ) (l : List ℕ) → length l ≤ n → length (padded n l) ≡ n

@@ -1,4 +1,4 @@
-// The lent tables: zeroed, and statement records of 12 entries one after the other.
+// The lent tables: used counts, and statement records of 12 entries one after the other.
 use layout::columns::COUNT;
 use layout::columns::DETAIL;
 use layout::columns::END;
@@ -27,28 +27,6 @@ pub(crate) struct Entry {
     pub(crate) end: u16,
     pub(crate) count: u16,
     pub(crate) detail: u16,
-}
-
-// Every entry 0.
-pub fn zero16(t: &mut [u16])
-    ensures { λ _. ⌜ now (t .exit) ≡ replicate (length (now (t .entry))) 0 ⌝ }
-{
-    let mut i: usize = 0;
-    while i < t.len() {
-        t[i] = 0;
-        i += 1;
-    }
-}
-
-// The same of an argument table.
-pub fn zero64(t: &mut [u64])
-    ensures { λ _. ⌜ now (t .exit) ≡ replicate (length (now (t .entry))) 0 ⌝ }
-{
-    let mut i: usize = 0;
-    while i < t.len() {
-        t[i] = 0;
-        i += 1;
-    }
 }
 
 // The used counts; those of the edges, return targets and entry rows are not the reader's.
@@ -97,12 +75,6 @@ pub(crate) fn fetch(t: &[u16], i: usize, c: usize) -> u16
     ensures { λ r. ⌜ r ≡ getD (now (t .entry)) (i * 12 + c) 0 ⌝ }
 {
     t[i * STMT_ENTRIES + c]
-}
-
-pub(crate) fn wide(x: u16) -> usize
-    ensures { λ r. ⌜ r ≡ x ⌝ }
-{
-    x as usize
 }
 
 pub(crate) fn narrow(x: usize) -> u16

@@ -8,21 +8,6 @@ use native.Mathlib.Numerals.{add-one}
 use lib.ListN.{length, getD, set, replicate, take, drop, length-append, length-replicate, length-drop, drop-of-length-le}
 use lib.Seq.{sets, length-take-le, drop-cons, set-at, append-snoc, take-suc}
 
--- zeros from entry k on
-unfoldable pub clearedBehind : ℕ → List ℕ → List ℕ
-clearedBehind k t = take k t ++ replicate (length t - k) 0
-
-pub cleared-behind : (t : List ℕ) (k : ℕ) (p : List ℕ) → k ≤ length t → p ≡ replicate (length (take (length t - k) (drop k t))) 0 → take k t ++ (p ++ drop (length t - k) (drop k t)) ≡ clearedBehind k t
-unfolding clearedBehind
-cleared-behind t k p h e =
-    let z : drop (length t - k) (drop k t) ≡ [] = drop-of-length-le (drop k t) {i = length t - k} (omega (arith, length-drop k t)) in
-    let q : length (take (length t - k) (drop k t)) ≡ length t - k = length-take-le (length t - k) (drop k t) (omega (arith, length-drop k t)) in
-    rw (z, append-nil p, e, q)
-
-pub cleared-length : (t : List ℕ) (k : ℕ) → k ≤ length t → length (clearedBehind k t) ≡ length t
-unfolding clearedBehind
-cleared-length t k h = simp (length-append, length-replicate) (omega (arith, length-take-le k t h))
-
 -- a turn of the loop that copies s to the front of d
 pub copy-more : (s d t : List ℕ) (i : ℕ) → i < length s → i < length d → t ≡ take i s ++ drop i d → set t i (getD s i 0) ≡ take (i + 1) s ++ drop (i + 1) d
 copy-more s d t i hs hd e =

@@ -2,4 +2,3 @@
 pub mod calls;
 pub mod lists;
 pub mod readable;
-pub mod widths;

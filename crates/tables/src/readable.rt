@@ -1,8 +1,8 @@
 // Whether tables can be read, whoever wrote them; where they cannot, a call is refused 25.
-use crate::widths::wide;
 use layout::columns::LIST_ENTRIES;
 use layout::columns::SUCC_COUNT;
 use layout::limits::MAX_STMTS;
+use layout::widths::wide;
 ghost use mathlib.Core.Path.{_≡_};
 ghost use Prim.Native.Nat.{_+_, _*_, _≤_, _<_};
 ghost use lib.ListN.{length};

@@ -3,7 +3,7 @@ use crate::readable::sets_fit;
 use layout::columns::ARG_ENTRIES;
 use layout::columns::STMT_ENTRIES;
 use layout::words::RETURN;
-use reader::tables::zero64;
+use layout::zeroing::zero64;
 ghost use Prim.Native.Nat.{_+_, _*_, _≤_, _<_};
 ghost use lib.ListN.{length};
 ghost use Rattle.passes.specs.Clearing.{SetCleared, SetsCleared, ClearTold};

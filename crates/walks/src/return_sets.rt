@@ -2,8 +2,8 @@
 use crate::sets::join;
 use layout::columns::ARG_ENTRIES;
 use layout::columns::STMT_ENTRIES;
+use layout::widths::wide;
 use layout::words::RETURN;
-use tables::widths::wide;
 ghost use mathlib.Core.Path.{_≡_};
 ghost use mathlib.Core.List.{[], _∷_};
 ghost use Prim.Native.Nat.{_*_, _≤_};

@@ -4,7 +4,7 @@ use crate::widths::narrow;
 use layout::columns::ARG_ENTRIES;
 use layout::columns::COUNT;
 use layout::columns::STMT_ENTRIES;
-use tables::widths::wide;
+use layout::widths::wide;
 ghost use mathlib.Core.Path.{_≡_};
 ghost use Prim.Native.Nat.{ℕ, _≤_, _<_};
 ghost use lib.ListN.{length, replicate};

@@ -8,7 +8,7 @@ use crate::regions::list_calls;
 use crate::spans::no_spans;
 use crate::spans::span_calls;
 use crate::walk::no_work;
-use tables::widths::wide;
+use layout::widths::wide;
 ghost use mathlib.Core.Path.{_≡_};
 ghost use Prim.Native.Nat.{_*_, _≤_, _<_};
 ghost use lib.ListN.{length};

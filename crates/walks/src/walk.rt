@@ -3,7 +3,7 @@ use crate::widths::narrow;
 use layout::columns::LIST_ENTRIES;
 use layout::columns::SUCC_COUNT;
 use layout::limits::MAX_STMTS;
-use tables::widths::wide;
+use layout::widths::wide;
 ghost use mathlib.Core.Path.{_≡_};
 ghost use mathlib.Core.Bool.{false};
 ghost use Prim.Native.Nat.{_<_, _≤_};

@@ -5,7 +5,7 @@ use layout::columns::ENTRY_NODE;
 use layout::columns::ENTRY_NUMBER;
 use layout::columns::LINE;
 use layout::columns::STMT_ENTRIES;
-use tables::widths::wide;
+use layout::widths::wide;
 ghost use mathlib.Core.Path.{_≡_};
 ghost use Prim.Native.Nat.{_+_, _*_, _≤_};
 ghost use lib.ListN.{length, set};

@@ -17,7 +17,7 @@ use layout::columns::SECOND_BRANCH;
 use layout::columns::STMT_ENTRIES;
 use layout::columns::TO_BRANCH;
 use layout::limits::MAX_DEPTH;
-use tables::widths::wide;
+use layout::widths::wide;
 ghost use mathlib.Core.Path.{_≡_};
 ghost use mathlib.Core.Bool.{true, false};
 ghost use mathlib.Core.List.{[], _∷_};

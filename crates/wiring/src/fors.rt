@@ -1,5 +1,4 @@
 // The FOR stack in reading order, and the dispatched FORs.
-use crate::reading::clear_behind;
 use crate::stacks::FrameStack;
 use crate::stacks::below;
 use crate::stacks::newest;
@@ -10,9 +9,10 @@ use layout::columns::DETAIL;
 use layout::columns::DISPATCHED;
 use layout::columns::FALL_ENTRIES;
 use layout::columns::STMT_ENTRIES;
+use layout::widths::wide;
 use layout::words::FOR;
 use layout::words::NEXT;
-use tables::widths::wide;
+use layout::zeroing::clear_behind;
 use walks::sets::insert;
 ghost use mathlib.Core.Path.{_≡_};
 ghost use mathlib.Core.Bool.{true};

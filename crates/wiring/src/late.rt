@@ -13,7 +13,7 @@ ghost use lib.ListN.{length};
 ghost use Rattle.graph_laws.specs.Adding.{Added};
 ghost use Rattle.passes.specs.Late.{FitsPart, fallFrom, FallFitsFrom, ElsesFit, ElsesAdded, DoifFits, DoifAdded, closerFrom, CloserFits, joinsWord, LateReady, LateAdded};
 use crate::growing::add_node;
-use tables::widths::wide;
+use layout::widths::wide;
 
 // Adds where the node c - 1 falls, where c is not 0.
 fn add_fall(falls: &[u16], c: usize, part: &mut [u16], n: usize) -> usize

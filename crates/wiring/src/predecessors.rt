@@ -3,7 +3,7 @@ use layout::columns::LIST_ENTRIES;
 use layout::columns::PRED_COUNT;
 use layout::columns::PRED_START;
 use layout::columns::SUCC_COUNT;
-use tables::widths::wide;
+use layout::widths::wide;
 ghost use Prim.Native.Nat.{_*_, _<_, _≤_};
 ghost use lib.ListN.{length};
 ghost use Rattle.tables.specs.Columns.{predCount};

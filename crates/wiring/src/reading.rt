@@ -1,31 +1,15 @@
 // The text into the front parts of the reader's tables, as far as the other tables hold as many lines and statements.
 use layout::columns::ARG_ENTRIES;
 use layout::columns::STMT_ENTRIES;
+use layout::zeroing::clear_behind;
+use layout::zeroing::clear_words_behind;
 use reader::listing::Listed;
 use reader::listing::read_listing;
-use reader::tables::zero16;
-use reader::tables::zero64;
 ghost use mathlib.Core.Path.{_≡_};
 ghost use Prim.Native.Nat.{_*_, _≤_};
 ghost use lib.ListN.{length};
 ghost use Rattle.listings.specs.Read.{read};
-ghost use Rattle.tables.specs.Stores.{clearedBehind};
 ghost use Rattle.passes.specs.Reading.{FittingRead};
-
-// The entries from `at` on become zero.
-pub(crate) fn clear_behind(t: &mut [u16], at: usize)
-    requires { ⌜ at ≤ length (now t) ⌝ }
-    ensures { λ _. ⌜ now (t .exit) ≡ clearedBehind at (now (t .entry)) ⌝ }
-{
-    zero16(&mut t[at..]);
-}
-
-fn clear_words_behind(t: &mut [u64], at: usize)
-    requires { ⌜ at ≤ length (now t) ⌝ }
-    ensures { λ _. ⌜ now (t .exit) ≡ clearedBehind at (now (t .entry)) ⌝ }
-{
-    zero64(&mut t[at..]);
-}
 
 // What stands behind the front parts becomes zero.
 pub(crate) fn read_fitting(

@@ -2,8 +2,8 @@
 use layout::columns::FALL_ENTRIES;
 use layout::columns::STMT_ENTRIES;
 use layout::limits::MAX_STMTS;
+use layout::widths::wide;
 use tables::calls::is_call;
-use tables::widths::wide;
 use walks::walk::no_marks;
 ghost use mathlib.Core.Path.{_≡_};
 ghost use Prim.Native.Nat.{_+_, _*_, _≤_, _<_};

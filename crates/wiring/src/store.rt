@@ -1,7 +1,7 @@
 // A node's list goes into its own part of the edge table.
 use layout::columns::LIST_ENTRIES;
 use layout::columns::SUCC_COUNT;
-use tables::widths::wide;
+use layout::widths::wide;
 ghost use mathlib.Core.Path.{_≡_};
 ghost use mathlib.Core.List.{_++_};
 ghost use Prim.Native.Nat.{_+_, _*_, _<_, _≤_};

@@ -1,70 +1,20 @@
--- `successors`: the part that the question answers, or an empty one. Assumes nothing.
-use Prim.Native.Nat.{_+_, _≤_}
-use mathlib.Core.Path.{sym, _∙_}
-use native.Mathlib.Omega.{arith}
-use lib.ListN.{length}
-use Rattle.adjacency.specs.ListsAtLaws.{successors-inside, part-lent, refused-empty}
+-- `successors`: the columns of its record. Assumes nothing.
+use Prim.Native.Nat.{ℕ}
+use mathlib.Core.Path.{ap, _∙_}
 use borrow.Author.Needs.{needs}
+use Rattle.graph.specs.Questions.{Reply}
+use Rattle.adjacency.specs.ListsAt.{partOf}
+use Rattle.adjacency.specs.ListsAtLaws.{successors-columns}
 use Rattle.adjacency.proofs.successors.successors.Statement.{statement}
 use Rattle.adjacency.proofs.successors.successors.Tie as tie
 
--- the part lies in the table
-inside : (c : tie.After-known-told) → c .before .start .given .0 .0 + c .before .start .given .0 .1 .0 ≤ length (c .before .before .before .before .before .before .args .succ .now)
-inside c = successors-inside _ _ _ _ _ _ (sym (c .before .before .before .ask-successors .ensures) ∙ c .before .start .given .1)
-
-ask-successors-requires : tie.Need-ask-successors-requires
-ask-successors-requires c κs = search needs
-
-enum-known-start : tie.Need-enum-known-start
-enum-known-start c = search needs
-
-add-end : tie.Need-add-end
-add-end c = omega (arith, inside c)
-
-mul-result : tie.Need-mul-result
-mul-result c = omega (arith, inside c, c .before .before .before .before .before .before .good .1 .1 .0 .1)
-
-sub-result : tie.Need-sub-result
-sub-result c = search needs
-
-part-result-start : tie.Need-part-result-start
-part-result-start c = search needs
-
-part-result-end : tie.Need-part-result-end
-part-result-end c = omega (arith, inside c)
-
-enum-told : tie.Need-enum-told
-enum-told c = search needs
-
-sub-result-2 : tie.Need-sub-result-2
-sub-result-2 c = search needs
-
-part-result-start-2 : tie.Need-part-result-start-2
-part-result-start-2 c = search needs
-
-part-result-end-2 : tie.Need-part-result-end-2
-part-result-end-2 c = search needs
+list-part-requires : tie.Need-list-part-requires
+list-part-requires c κs = search needs
 
 returns : tie.Need-returns
-returns c = part-lent _ _ _ _ (sym (c .before .before .before .before .ask-successors .ensures) ∙ c .before .before .start .given .1)
-
-returns-2 : tie.Need-returns-2
-returns-2 c = refused-empty _ _ _ _ (sym (c .before .before .before .ask-successors .ensures) ∙ c .before .enum-told .given .1)
+returns c =
+    let at-start : tie.Start = search in
+    c .list-part .ensures ∙ ap (λ (x : Reply (ℕ × ℕ)). partOf x (at-start .args .succ .now)) (successors-columns _ _ _ _)
 
 pub successors-spec : {M : Type 1} → statement M
-successors-spec =
-    tie.close
-    (tie.spec
-    ask-successors-requires
-    enum-known-start
-    add-end
-    mul-result
-    sub-result
-    part-result-start
-    part-result-end
-    enum-told
-    sub-result-2
-    part-result-start-2
-    part-result-end-2
-    returns
-    returns-2)
+successors-spec = tie.close (tie.spec list-part-requires returns)

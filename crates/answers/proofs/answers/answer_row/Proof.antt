@@ -53,7 +53,7 @@ returns c =
     let at-start : tie.Start = search in
     let a = at-start .args in
     let g = subst (RowOpened (a .w .now)) (c .before .before .before .before .enum-told .given .1) (at-open-row .open-row .ensures) in
-    puts-is (row-refused (answerAt (a .counts .now) (a .lines .now) (a .stmts .now) (a .args .now) (a .entries .now) (a .falls .now) (a .lists .now) (a .succ .now) (a .pred .now)) (a .k) (a .w .now) g) (c .before .before .put-refusal .ensures)
+    puts-is (row-refused (answerAt (a .counts .now) (a .stmts .now) (a .args .now) (a .entries .now) (a .falls .now) (a .lists .now) (a .succ .now) (a .pred .now)) (a .k) (a .w .now) g) (c .before .before .put-refusal .ensures)
 
 same-length-2 : tie.Need-same-length-2
 same-length-2 c = search needs
@@ -65,7 +65,7 @@ returns-2 c =
     let at-start : tie.Start = search in
     let a = at-start .args in
     let g = subst (RowOpened (a .w .now)) (at-word .word .given .1) (at-open-row .open-row .ensures) in
-    puts-is (row-answered (answerAt (a .counts .now) (a .lines .now) (a .stmts .now) (a .args .now) (a .entries .now) (a .falls .now) (a .lists .now) (a .succ .now) (a .pred .now)) (a .k) (a .w .now) _ (g .1)) (c .before .before .answer-words .ensures)
+    puts-is (row-answered (answerAt (a .counts .now) (a .stmts .now) (a .args .now) (a .entries .now) (a .falls .now) (a .lists .now) (a .succ .now) (a .pred .now)) (a .k) (a .w .now) _ (g .1)) (c .before .before .answer-words .ensures)
 
 pub answer-row-spec : {M : Type 1} → statement M
 answer-row-spec =

@@ -14,7 +14,7 @@ same-length c = search needs
 returns : tie.Need-returns
 returns c =
     let at-start : tie.Start = search in
-    let a = at-start .args in puts-is (by-path (a .counts .now) (a .lines .now) (a .stmts .now) (a .args .now) (a .entries .now) (a .falls .now) (a .lists .now) (a .succ .now) (a .pred .now) (a .k) (a .word) (a .s .now) (c .before .before .before .before .if1 .taken)) (c .before .before .answer-path .ensures)
+    let a = at-start .args in puts-is (by-path (a .counts .now) (a .stmts .now) (a .args .now) (a .entries .now) (a .falls .now) (a .lists .now) (a .succ .now) (a .pred .now) (a .k) (a .word) (a .s .now) (c .before .before .before .before .if1 .taken)) (c .before .before .answer-path .ensures)
 
 answer-frame-requires : tie.Need-answer-frame-requires
 answer-frame-requires c κs = search needs
@@ -25,7 +25,7 @@ same-length-2 c = search needs
 returns-2 : tie.Need-returns-2
 returns-2 c =
     let at-start : tie.Start = search in
-    let a = at-start .args in puts-is (by-frame (a .counts .now) (a .lines .now) (a .stmts .now) (a .args .now) (a .entries .now) (a .falls .now) (a .lists .now) (a .succ .now) (a .pred .now) (a .k) (a .word) (a .s .now) (c .before .before .before .before .if2 .taken)) (c .before .before .answer-frame .ensures)
+    let a = at-start .args in puts-is (by-frame (a .counts .now) (a .stmts .now) (a .args .now) (a .entries .now) (a .falls .now) (a .lists .now) (a .succ .now) (a .pred .now) (a .k) (a .word) (a .s .now) (c .before .before .before .before .if2 .taken)) (c .before .before .answer-frame .ensures)
 
 put-refusal-requires : tie.Need-put-refusal-requires
 put-refusal-requires c κs = search needs
@@ -36,7 +36,7 @@ same-length-3 c = search needs
 returns-3 : tie.Need-returns-3
 returns-3 c =
     let at-start : tie.Start = search in
-    let a = at-start .args in puts-is (by-none (a .counts .now) (a .lines .now) (a .stmts .now) (a .args .now) (a .entries .now) (a .falls .now) (a .lists .now) (a .succ .now) (a .pred .now) (a .k) (a .word) (a .s .now) (c .before .before .before .before .if3 .taken)) (c .before .before .put-refusal .ensures)
+    let a = at-start .args in puts-is (by-none (a .counts .now) (a .stmts .now) (a .args .now) (a .entries .now) (a .falls .now) (a .lists .now) (a .succ .now) (a .pred .now) (a .k) (a .word) (a .s .now) (c .before .before .before .before .if3 .taken)) (c .before .before .put-refusal .ensures)
 
 single-number-requires : tie.Need-single-number-requires
 single-number-requires c κs = search needs
@@ -73,7 +73,7 @@ returns-4 c =
     let at-else2 : tie.Else2 = search in
     let at-else1 : tie.Else1 = search in
     let at-start : tie.Start = search ways in
-    let a = at-start .args in puts-is (number-refused (a .counts .now) (a .lines .now) (a .stmts .now) (a .args .now) (a .entries .now) (a .falls .now) (a .lists .now) (a .succ .now) (a .pred .now) (a .k) (a .word) (a .s .now) (at-else1 .if1 .left) (at-else2 .if2 .left) (at-else3 .if3 .left) (at-single-number .single-number .result) _ (at-single-number .single-number .ensures) (at-n .n .given .1)) (c .before .before .put-refusal2 .ensures)
+    let a = at-start .args in puts-is (number-refused (a .counts .now) (a .stmts .now) (a .args .now) (a .entries .now) (a .falls .now) (a .lists .now) (a .succ .now) (a .pred .now) (a .k) (a .word) (a .s .now) (at-else1 .if1 .left) (at-else2 .if2 .left) (at-else3 .if3 .left) (at-single-number .single-number .result) _ (at-single-number .single-number .ensures) (at-n .n .given .1)) (c .before .before .put-refusal2 .ensures)
 
 same-length-5 : tie.Need-same-length-5
 same-length-5 c = search needs
@@ -86,7 +86,7 @@ returns-5 c =
     let at-else2 : tie.Else2 = search in
     let at-else1 : tie.Else1 = search in
     let at-start : tie.Start = search ways in
-    let a = at-start .args in puts-is (number-answered (a .counts .now) (a .lines .now) (a .stmts .now) (a .args .now) (a .entries .now) (a .falls .now) (a .lists .now) (a .succ .now) (a .pred .now) (a .k) (a .word) (a .s .now) (at-else1 .if1 .left) (at-else2 .if2 .left) (at-else3 .if3 .left) (at-single-number .single-number .result) _ (at-single-number .single-number .ensures) (at-n .n2 .given .1)) (c .before .before .put-by-number .ensures)
+    let a = at-start .args in puts-is (number-answered (a .counts .now) (a .stmts .now) (a .args .now) (a .entries .now) (a .falls .now) (a .lists .now) (a .succ .now) (a .pred .now) (a .k) (a .word) (a .s .now) (at-else1 .if1 .left) (at-else2 .if2 .left) (at-else3 .if3 .left) (at-single-number .single-number .result) _ (at-single-number .single-number .ensures) (at-n .n2 .given .1)) (c .before .before .put-by-number .ensures)
 
 pub answer-words-spec : {M : Type 1} → statement M
 answer-words-spec =

@@ -12,15 +12,15 @@ use Rattle.answers.proofs.text.answer_rows.Statement.{statement}
 use Rattle.answers.proofs.text.answer_rows.Tie as tie
 
 abbrev Inv-loop : tie.InvT-loop
-Inv-loop out₀ text counts lines stmts args entries falls lists succ pred r₀ k₀ at₀ t17 out r k at = (at ≤ length text) × (k ≤ at) × (length out ≡ length out₀) × Answering (answerAt counts lines stmts args entries falls lists succ pred) text out₀ out r k at
+Inv-loop out₀ text counts stmts args entries falls lists succ pred r₀ k₀ at₀ t17 out r k at = (at ≤ length text) × (k ≤ at) × (length out ≡ length out₀) × Answering (answerAt counts stmts args entries falls lists succ pred) text out₀ out r k at
 
 abbrev μ-loop : tie.MeasureT-loop
-μ-loop out₀ text counts lines stmts args entries falls lists succ pred r₀ k₀ at₀ t17 out r k at = suc (length text) - at
+μ-loop out₀ text counts stmts args entries falls lists succ pred r₀ k₀ at₀ t17 out r k at = suc (length text) - at
 
 loop-holds : tie.Need-loop-holds Inv-loop μ-loop
 loop-holds c =
     let at-start : tie.Start Inv-loop μ-loop = search in
-    (omega arith, omega arith, refl, answering-start (answerAt (at-start .args .counts .now) (at-start .args .lines .now) (at-start .args .stmts .now) (at-start .args .args .now) (at-start .args .entries .now) (at-start .args .falls .now) (at-start .args .lists .now) (at-start .args .succ .now) (at-start .args .pred .now)) (at-start .args .text .now) (at-start .args .out .now))
+    (omega arith, omega arith, refl, answering-start (answerAt (at-start .args .counts .now) (at-start .args .stmts .now) (at-start .args .args .now) (at-start .args .entries .now) (at-start .args .falls .now) (at-start .args .lists .now) (at-start .args .succ .now) (at-start .args .pred .now)) (at-start .args .text .now) (at-start .args .out .now))
 
 sub-find : tie.Need-sub-find Inv-loop μ-loop
 sub-find c = search needs
@@ -54,7 +54,7 @@ returns c =
     let at-find : tie.After-find Inv-loop μ-loop = search in
     let at-loop : tie.At-loop Inv-loop μ-loop = search in
     let at-start : tie.Start Inv-loop μ-loop = search ways in
-    answers-cut (answerAt (at-start .args .counts .now) (at-start .args .lines .now) (at-start .args .stmts .now) (at-start .args .args .now) (at-start .args .entries .now) (at-start .args .falls .now) (at-start .args .lists .now) (at-start .args .succ .now) (at-start .args .pred .now)) (at-start .args .text .now) _ _ _ _ _ _ _ _ (at-loop .loop .inv .0) (at-find .find .ensures .0) (at-loop .loop .inv .3) (c .before .before .before .before .if1 .taken) (c .before .before .put-refusal .ensures)
+    answers-cut (answerAt (at-start .args .counts .now) (at-start .args .stmts .now) (at-start .args .args .now) (at-start .args .entries .now) (at-start .args .falls .now) (at-start .args .lists .now) (at-start .args .succ .now) (at-start .args .pred .now)) (at-start .args .text .now) _ _ _ _ _ _ _ _ (at-loop .loop .inv .0) (at-find .find .ensures .0) (at-loop .loop .inv .3) (c .before .before .before .before .if1 .taken) (c .before .before .put-refusal .ensures)
 
 sub-equal : tie.Need-sub-equal Inv-loop μ-loop
 sub-equal c = search needs
@@ -84,7 +84,7 @@ returns-2 c =
     let at-find : tie.After-find Inv-loop μ-loop = search in
     let at-loop : tie.At-loop Inv-loop μ-loop = search in
     let at-start : tie.Start Inv-loop μ-loop = search ways in
-    answers-end (answerAt (at-start .args .counts .now) (at-start .args .lines .now) (at-start .args .stmts .now) (at-start .args .args .now) (at-start .args .entries .now) (at-start .args .falls .now) (at-start .args .lists .now) (at-start .args .succ .now) (at-start .args .pred .now)) (at-start .args .text .now) _ _ (at-start .args .out .now) _ 0 _ _ _ (at-loop .loop .inv .0) (at-find .find .ensures .0) (at-loop .loop .inv .3) (at-else1 .if1 .left) (at-find .find .ensures .1) (sym (c .before .before .equal .ensures) ∙ c .before .if2 .taken) (c .if3 .taken)
+    answers-end (answerAt (at-start .args .counts .now) (at-start .args .stmts .now) (at-start .args .args .now) (at-start .args .entries .now) (at-start .args .falls .now) (at-start .args .lists .now) (at-start .args .succ .now) (at-start .args .pred .now)) (at-start .args .text .now) _ _ (at-start .args .out .now) _ 0 _ _ _ (at-loop .loop .inv .0) (at-find .find .ensures .0) (at-loop .loop .inv .3) (at-else1 .if1 .left) (at-find .find .ensures .1) (sym (c .before .before .equal .ensures) ∙ c .before .if2 .taken) (c .if3 .taken)
 
 add-put-refusal : tie.Need-add-put-refusal Inv-loop μ-loop
 add-put-refusal c = search needs
@@ -104,7 +104,7 @@ returns-3 c =
     let at-find : tie.After-find Inv-loop μ-loop = search in
     let at-loop : tie.At-loop Inv-loop μ-loop = search in
     let at-start : tie.Start Inv-loop μ-loop = search ways in
-    answers-over (answerAt (at-start .args .counts .now) (at-start .args .lines .now) (at-start .args .stmts .now) (at-start .args .args .now) (at-start .args .entries .now) (at-start .args .falls .now) (at-start .args .lists .now) (at-start .args .succ .now) (at-start .args .pred .now)) (at-start .args .text .now) _ _ _ _ _ _ _ _ (at-loop .loop .inv .0) (at-find .find .ensures .0) (at-loop .loop .inv .3) (at-else1 .if1 .left) (at-find .find .ensures .1) (sym (at-equal .equal .ensures) ∙ at-then2 .if2 .taken) (c .before .before .before .before .if3 .left) (c .before .before .put-refusal2 .ensures)
+    answers-over (answerAt (at-start .args .counts .now) (at-start .args .stmts .now) (at-start .args .args .now) (at-start .args .entries .now) (at-start .args .falls .now) (at-start .args .lists .now) (at-start .args .succ .now) (at-start .args .pred .now)) (at-start .args .text .now) _ _ _ _ _ _ _ _ (at-loop .loop .inv .0) (at-find .find .ensures .0) (at-loop .loop .inv .3) (at-else1 .if1 .left) (at-find .find .ensures .1) (sym (at-equal .equal .ensures) ∙ at-then2 .if2 .taken) (c .before .before .before .before .if3 .left) (c .before .before .put-refusal2 .ensures)
 
 sub-answer-row : tie.Need-sub-answer-row Inv-loop μ-loop
 sub-answer-row c = search needs
@@ -146,7 +146,7 @@ loop-again c =
     let at-find : tie.After-find Inv-loop μ-loop = search in
     let at-loop : tie.At-loop Inv-loop μ-loop = search in
     let at-start : tie.Start Inv-loop μ-loop = search ways in
-    (search needs, search needs, search needs, answers-next (answerAt (at-start .args .counts .now) (at-start .args .lines .now) (at-start .args .stmts .now) (at-start .args .args .now) (at-start .args .entries .now) (at-start .args .falls .now) (at-start .args .lists .now) (at-start .args .succ .now) (at-start .args .pred .now)) (at-start .args .text .now) _ _ _ _ _ _ _ _ (at-loop .loop .inv .0) (at-find .find .ensures .0) (at-loop .loop .inv .3) (at-else1 .if1 .left) (at-find .find .ensures .1) (sym (at-equal .equal .ensures) ∙ at-else2 .if2 .left) (c .before .before .answer-row .ensures))
+    (search needs, search needs, search needs, answers-next (answerAt (at-start .args .counts .now) (at-start .args .stmts .now) (at-start .args .args .now) (at-start .args .entries .now) (at-start .args .falls .now) (at-start .args .lists .now) (at-start .args .succ .now) (at-start .args .pred .now)) (at-start .args .text .now) _ _ _ _ _ _ _ _ (at-loop .loop .inv .0) (at-find .find .ensures .0) (at-loop .loop .inv .3) (at-else1 .if1 .left) (at-find .find .ensures .1) (sym (at-equal .equal .ensures) ∙ at-else2 .if2 .left) (c .before .before .answer-row .ensures))
 
 pub answer-rows-spec : {M : Type 1} → statement M
 answer-rows-spec =

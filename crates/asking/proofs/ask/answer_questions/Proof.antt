@@ -9,7 +9,7 @@ use Rattle.asking.proofs.ask.answer_questions.Tie as tie
 returns : tie.Need-returns
 returns c =
     let at-start : tie.Start = search in
-    let a = at-start .args in none-asked (a .text .now) (a .n) (at-start .pre) (answerAt (a .counts .now) (a .lines .now) (a .stmts .now) (a .args .now) (a .entries .now) (a .falls .now) (a .lists .now) (a .succ .now) (a .pred .now)) (a .out .now) (c .if1 .taken)
+    let a = at-start .args in none-asked (a .text .now) (a .n) (at-start .pre) (answerAt (a .counts .now) (a .stmts .now) (a .args .now) (a .entries .now) (a .falls .now) (a .lists .now) (a .succ .now) (a .pred .now)) (a .out .now) (c .if1 .taken)
 
 add-from : tie.Need-add-from
 add-from c = search needs
@@ -37,7 +37,7 @@ returns-2 : tie.Need-returns-2
 returns-2 c =
     let at-else1 : tie.Else1 = search in
     let at-start : tie.Start = search in
-    let a = at-start .args in some-asked (a .text .now) (a .n) (at-start .pre) (answerAt (a .counts .now) (a .lines .now) (a .stmts .now) (a .args .now) (a .entries .now) (a .falls .now) (a .lists .now) (a .succ .now) (a .pred .now)) _ _ _ (at-else1 .if1 .left) (c .before .before .answer-rows .ensures)
+    let a = at-start .args in some-asked (a .text .now) (a .n) (at-start .pre) (answerAt (a .counts .now) (a .stmts .now) (a .args .now) (a .entries .now) (a .falls .now) (a .lists .now) (a .succ .now) (a .pred .now)) _ _ _ (at-else1 .if1 .left) (c .before .before .answer-rows .ensures)
 
 pub answer-questions-spec : {M : Type 1} → statement M
 answer-questions-spec =

@@ -9,7 +9,7 @@ use Rattle.printing.proofs.print_nodes.put_path.Kinds as put-path-kinds
 use Rattle.printing.proofs.print_nodes.+put_path.Lts-put_path as put-path-lts
 use Rattle.formatting.proofs.print_numbers.put_decimal.Reads as put-decimal-reads
 use Rattle.formatting.proofs.print_numbers.put_number.Reads as put-number-reads
-use Rattle.tables.proofs.widths.wide.Reads as wide-reads
+use Rattle.layout.proofs.widths.wide.Reads as wide-reads
 use Rattle.printing.proofs.print_nodes.+put_path.{statement}
 use Rattle.printing.proofs.print_nodes.+put_path.Tie.{close}
 

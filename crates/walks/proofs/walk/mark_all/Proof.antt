@@ -14,7 +14,7 @@ use Rattle.walks.proofs.walk.mark_all.Statement.{statement}
 use Rattle.walks.proofs.walk.mark_all.Tie as tie
 use Rattle.walks.proofs.walk.mark_all.Reads as reads
 use Rattle.walks.proofs.walk.mark_all.Lts as lts
-use Rattle.tables.proofs.widths.wide.Reads as wide-reads
+use Rattle.layout.proofs.widths.wide.Reads as wide-reads
 
 abbrev Inv-loop : tie.InvT-loop
 Inv-loop list marks₀ work₀ count k₀ n₀ marks work k n = (k ≤ length list) × ListMarked (take k list) marks₀ work₀ count marks work n

@@ -23,7 +23,7 @@ use Rattle.wiring.proofs.falls.connect_row.Reads as connect-row-reads
 use Rattle.wiring.proofs.falls.out_of_order.Reads as out-of-order-reads
 use Rattle.wiring.proofs.falls.put_row.Reads as put-row-reads
 use Rattle.wiring.proofs.falls.target_of.Reads as target-of-reads
-use Rattle.tables.proofs.widths.wide.Reads as wide-reads
+use Rattle.layout.proofs.widths.wide.Reads as wide-reads
 use Rattle.wiring.proofs.falls.+connect_stmt+connect_then_branch.{statement}
 use Rattle.wiring.proofs.falls.+connect_stmt+connect_then_branch.Tie.{close}
 

@@ -1,8 +1,8 @@
 -- `clear_behind`: the part that comes back is all zero. Assumes nothing.
 use borrow.Author.Needs.{needs}
-use Rattle.tables.specs.Stores.{cleared-behind}
-use Rattle.wiring.proofs.reading.clear_behind.Statement.{statement}
-use Rattle.wiring.proofs.reading.clear_behind.Tie as tie
+use Rattle.layout.specs.Zeroed.{cleared-behind, cleared-none}
+use Rattle.layout.proofs.zeroing.clear_behind.Statement.{statement}
+use Rattle.layout.proofs.zeroing.clear_behind.Tie as tie
 
 mul-zero16 : tie.Need-mul-zero16
 mul-zero16 c = search needs
@@ -28,6 +28,11 @@ returns c =
     let a = at-start .args in
     cleared-behind (a .t .now) (a .at) (c .before .before .zero16 .last .0) (search needs) (c .before .before .zero16 .ensures)
 
+returns-2 : tie.Need-returns-2
+returns-2 c =
+    let at-start : tie.Start = search in
+    cleared-none (at-start .args .t .now) (at-start .args .at) (search needs)
+
 pub clear-behind-spec : {M : Type 1} → statement M
 clear-behind-spec =
     tie.close
@@ -38,4 +43,5 @@ clear-behind-spec =
     part-zero16-end
     zero16-requires
     same-length
-    returns)
+    returns
+    returns-2)

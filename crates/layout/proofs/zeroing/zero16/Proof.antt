@@ -6,9 +6,9 @@ use mathlib.Core.Path.{_≡_, refl, sym, ap, _∙_}
 use mathlib.Core.List.{List, _++_, append-nil}
 use Prim.Native.Nat.{ℕ, _+_, _-_, _≤_}
 use lib.ListN.{length, drop, set, replicate, length-set, drop-of-length-le}
-use Rattle.reader.specs.Tables.{zero-next}
-use Rattle.reader.proofs.tables.zero16.Statement.{statement}
-use Rattle.reader.proofs.tables.zero16.Tie as tie
+use Rattle.layout.specs.Zeroed.{zero-next}
+use Rattle.layout.proofs.zeroing.zero16.Statement.{statement}
+use Rattle.layout.proofs.zeroing.zero16.Tie as tie
 
 abbrev Inv-loop : tie.InvT-loop
 Inv-loop t₀ i₀ t i = (i ≤ length t₀) × (t ≡ replicate i 0 ++ drop i t₀) × (length t ≡ length t₀)
