@@ -6,7 +6,7 @@ use mathlib.Core.Option.{Option, none, some}
 use mathlib.Core.Bool.{Bool, true, false}
 use lib.Dec.{eqb}
 use Rattle.listings.specs.Bytes.{same, pick}
-use Rattle.listings.specs.Listing.{Name, Slot, Simple, goto, gosub, return, run, runto, ongoto, ongosub, for, next, repeat, loop, until, endloop, exit, exitif, doif, else, done, clr, stop, any}
+use Rattle.listings.specs.Listing.{Name, Slot, BlockWord, repeat, loop, until, endloop, exit, exitif, doif, else, done, BareWord, return, run, clr, stop, any, Simple, jump, on, for, next, block, bare}
 use Rattle.graph.specs.Lists.{each, list}
 use Rattle.graph.specs.Nodes.{NodeStmt, simple, cond, Node, Entries, entryOf}
 use Rattle.graph.specs.Targets.{targetEntries, branchEdges, dispatchTargets, orphanEdges}
@@ -53,35 +53,52 @@ noMoves = record { fors = keepFors; loops = stays; dos = stays }
 unfoldable pub onFors : ForMove → Moves
 onFors m = record { fors = m; loops = stays; dos = stays }
 
-unfoldable pub onLoops : Move → Moves
-onLoops m = record { fors = keepFors; loops = m; dos = stays }
+pub data Stack : Type 0 where
+  loopStack doStack : Stack
 
-unfoldable pub onDos : Move → Moves
-onDos m = record { fors = keepFors; loops = stays; dos = m }
+unfoldable pub onStack : Stack → Move → Moves
+onStack loopStack m = record { fors = keepFors; loops = m; dos = stays }
+onStack doStack m = record { fors = keepFors; loops = stays; dos = m }
+
+-- ---- the words of loops and DOs: the stack that each moves, how, and whether it falls
+
+pub record BlockRule : Type 0 where
+  pub stack : Stack
+  pub move : Move
+  pub falls : Bool
+
+unfoldable pub falling : Stack → Move → BlockRule
+falling s m = record { stack = s; move = m; falls = true }
+
+unfoldable pub notFalling : Stack → Move → BlockRule
+notFalling s m = record { stack = s; move = m; falls = false }
+
+unfoldable pub ruleOf : BlockWord → BlockRule
+unfolding falling notFalling
+-- "REPEAT and LOOP fall and open a frame on one shared stack"
+ruleOf repeat = falling loopStack opens
+ruleOf loop = falling loopStack opens
+-- "EXIT adds nothing, EXITIF falls; both join the top frame, if any"
+ruleOf exit = notFalling loopStack joins
+ruleOf exitif = falling loopStack joins
+-- "UNTIL: body, then falls; ENDLOOP: body only"
+ruleOf until = falling loopStack closes
+ruleOf endloop = notFalling loopStack closes
+-- "DOIF falls and opens a frame. Each ELSE joins the jumps .. DONE falls"
+ruleOf doif = falling doStack opens
+ruleOf else = notFalling doStack joins
+ruleOf done = falling doStack closes
+
+-- ---- what a statement does to the stacks
 
 unfoldable pub movesOf : Simple → Moves
+unfolding ruleOf onStack
 movesOf (for v t) = onFors (pushFor v)
 movesOf (next m ss) = onFors (popFors ss)
-movesOf repeat = onLoops opens
-movesOf loop = onLoops opens
-movesOf until = onLoops closes
-movesOf endloop = onLoops closes
-movesOf exit = onLoops joins
-movesOf exitif = onLoops joins
-movesOf doif = onDos opens
-movesOf else = onDos joins
-movesOf done = onDos closes
-movesOf (goto t) = noMoves
-movesOf (gosub t) = noMoves
-movesOf return = noMoves
-movesOf run = noMoves
-movesOf (runto t) = noMoves
-movesOf (ongoto ts) = noMoves
-movesOf (ongosub ts) = noMoves
-movesOf clr = noMoves
-movesOf stop = noMoves
-movesOf any = noMoves
-movesOf Simple.plain = noMoves
+movesOf (block w) = let r = ruleOf w in onStack (r .stack) (r .move)
+movesOf (jump w t) = noMoves
+movesOf (on w ts) = noMoves
+movesOf (bare w) = noMoves
 
 unfoldable pub nodeMoves : NodeStmt → Moves
 nodeMoves (simple o) = movesOf o
@@ -157,35 +174,31 @@ unfoldable pub closerEdges : Option (List ℕ) → List ℕ → List ℕ
 closerEdges none l = []
 closerEdges (some b) l = b ++ l
 
+-- what a word of a loop or a DO adds: l, and before it the body of the loop that it closes
+unfoldable pub ownBlock : Stack → Move → List ℕ → Option (List ℕ) → List ℕ
+ownBlock loopStack closes l b = closerEdges b l
+ownBlock loopStack stays l b = l
+ownBlock loopStack opens l b = l
+ownBlock loopStack joins l b = l
+ownBlock doStack m l b = l
+
 -- es: the line entries; e: where it falls; bs: the bodies that a NEXT pops; b: the body of the loop that it closes
 unfoldable pub ownSimple : Entries → Simple → Option ℕ → List ℕ → Option (List ℕ) → List ℕ
 -- "`plain` and CLR fall. GOTO, GOSUB, RUN with a number: target only. ON: targets, then falls. RUN without number: the first line's entry. STOP: none. `any`: all line entries, ascending."
-ownSimple es Simple.plain e bs b = list e
-ownSimple es clr e bs b = list e
-ownSimple es (goto t) e bs b = list (entryOf es t)
-ownSimple es (gosub t) e bs b = list (entryOf es t)
-ownSimple es (runto t) e bs b = list (entryOf es t)
-ownSimple es (ongoto ts) e bs b = targetEntries es ts ++ list e
-ownSimple es (ongosub ts) e bs b = targetEntries es ts ++ list e
-ownSimple es run e bs b = list (es .first)
-ownSimple es stop e bs b = []
-ownSimple es any e bs b = es .all
+ownSimple es (bare BareWord.plain) e bs b = list e
+ownSimple es (bare clr) e bs b = list e
+ownSimple es (jump w t) e bs b = list (entryOf es t)
+ownSimple es (on w ts) e bs b = targetEntries es ts ++ list e
+ownSimple es (bare run) e bs b = list (es .first)
+ownSimple es (bare stop) e bs b = []
+ownSimple es (bare any) e bs b = es .all
 -- "FOR falls and pushes a frame"; NEXT: "the popped body is added; last it falls"
 ownSimple es (for v t) e bs b = list e
 ownSimple es (next m ss) e bs b = bs ++ list e
--- "REPEAT and LOOP fall and open a frame .. EXIT adds nothing, EXITIF falls .. UNTIL: body, then falls; ENDLOOP: body only."
-ownSimple es repeat e bs b = list e
-ownSimple es loop e bs b = list e
-ownSimple es exit e bs b = []
-ownSimple es exitif e bs b = list e
-ownSimple es until e bs b = closerEdges b (list e)
-ownSimple es endloop e bs b = closerEdges b []
--- "DOIF falls and opens a frame. Each ELSE joins the jumps .. DONE falls"
-ownSimple es doif e bs b = list e
-ownSimple es else e bs b = []
-ownSimple es done e bs b = list e
+-- REPEAT to DONE
+ownSimple es (block w) e bs b = let r = ruleOf w in ownBlock (r .stack) (r .move) (pick (r .falls) (list e) []) b
 -- RETURN's list is in Graph
-ownSimple es return e bs b = []
+ownSimple es (bare return) e bs b = []
 
 -- "IF: branch, then falls. IFELSE, RCOMP: each branch; RCOMP with one branch also falls." (a branch that is absent falls)
 unfoldable pub own : Entries → NodeStmt → Option ℕ → List ℕ → Option (List ℕ) → List ℕ
@@ -193,9 +206,6 @@ own es (simple o) e bs b = ownSimple es o e bs b
 own es (cond w t u) e bs b = branchEdges es e t ++ branchEdges es e u
 
 -- ---- what a statement adds to the lists of others: the nodes that it sends to where it falls
-
-pub data Stack : Type 0 where
-  loopStack doStack : Stack
 
 -- "DONE .. sends the jumps there, and the DOIF too if no ELSE was seen"
 unfoldable pub jumpsOr : ℕ → List ℕ → List ℕ

@@ -5,7 +5,7 @@ use mathlib.Core.Option.{Option, none, some}
 use mathlib.Core.Bool.{Bool, true, false}
 use lib.ListN.{getElem?, length}
 use Rattle.listings.specs.Bytes.{pick}
-use Rattle.listings.specs.Listing.{Simple, goto, gosub, return, run, runto, ongoto, ongosub, for, next, repeat, loop, until, endloop, exit, exitif, doif, else, done, clr, stop, any, Listing}
+use Rattle.listings.specs.Listing.{goto, gosub, runto, ongoto, ongosub, BareWord, return, run, clr, stop, any, Simple, jump, on, for, next, block, bare, Listing}
 use Rattle.graph.specs.Lists.{has, addAll, each, list, below, ascending}
 use Rattle.graph.specs.Nodes.{NodeStmt, simple, cond, Node, Entries, entries, nodes}
 use Rattle.graph.specs.Targets.{targetEntries}
@@ -21,28 +21,20 @@ pub data Role : Type 0 where
 
 -- "here only GOSUB and ON GOSUB are calls"; "ON GOSUB may also fall without opening"; "RUN and CLR forget open calls"
 unfoldable pub simpleRole : Simple → Role
-simpleRole (gosub t) = call false (t ∷ [])
-simpleRole (ongosub ts) = call true ts
-simpleRole return = returns
-simpleRole run = forgets
-simpleRole (runto t) = forgets
-simpleRole clr = forgets
-simpleRole (goto t) = steps
-simpleRole (ongoto ts) = steps
+simpleRole (jump gosub t) = call false (t ∷ [])
+simpleRole (on ongosub ts) = call true ts
+simpleRole (bare return) = returns
+simpleRole (bare run) = forgets
+simpleRole (jump runto t) = forgets
+simpleRole (bare clr) = forgets
+simpleRole (jump goto t) = steps
+simpleRole (on ongoto ts) = steps
 simpleRole (for v t) = steps
 simpleRole (next m ss) = steps
-simpleRole repeat = steps
-simpleRole loop = steps
-simpleRole until = steps
-simpleRole endloop = steps
-simpleRole exit = steps
-simpleRole exitif = steps
-simpleRole doif = steps
-simpleRole else = steps
-simpleRole done = steps
-simpleRole stop = steps
-simpleRole any = steps
-simpleRole Simple.plain = steps
+simpleRole (block w) = steps
+simpleRole (bare stop) = steps
+simpleRole (bare any) = steps
+simpleRole (bare BareWord.plain) = steps
 
 unfoldable pub stmtRole : NodeStmt → Role
 stmtRole (simple o) = simpleRole o

@@ -3,7 +3,7 @@ use Prim.Native.Nat.{ℕ}
 use mathlib.Core.List.{List, [], _∷_, map}
 use mathlib.Core.Option.{Option, none, some}
 use Rattle.listings.specs.Bytes.{same, pick}
-use Rattle.listings.specs.Listing.{Name, Tier, static, framed, dispatched, Mark, orphan, Slot, Simple, goto, gosub, return, run, runto, ongoto, ongosub, for, next, repeat, loop, until, endloop, exit, exitif, doif, else, done, clr, stop, any}
+use Rattle.listings.specs.Listing.{Name, Tier, static, framed, dispatched, Mark, orphan, Slot, Simple, jump, on, for, next, block, bare}
 use Rattle.graph.specs.Lists.{each, list}
 use Rattle.graph.specs.Nodes.{BranchTarget, toLine, toNode, falls, NodeStmt, simple, cond, Node, Entries, entryOf}
 
@@ -19,51 +19,19 @@ branchEdges es e falls = list e
 -- by a FOR, or else d; by a NEXT, or else d
 unfoldable pub onFor {ℓ} : {A : Type ℓ} → (Name → Tier → A) → A → Simple → A
 onFor f d (for v t) = f v t
-onFor f d (goto t) = d
-onFor f d (gosub t) = d
-onFor f d return = d
-onFor f d run = d
-onFor f d (runto t) = d
-onFor f d (ongoto ts) = d
-onFor f d (ongosub ts) = d
 onFor f d (next m ss) = d
-onFor f d repeat = d
-onFor f d loop = d
-onFor f d until = d
-onFor f d endloop = d
-onFor f d exit = d
-onFor f d exitif = d
-onFor f d doif = d
-onFor f d else = d
-onFor f d done = d
-onFor f d clr = d
-onFor f d stop = d
-onFor f d any = d
-onFor f d Simple.plain = d
+onFor f d (jump w t) = d
+onFor f d (on w ts) = d
+onFor f d (block w) = d
+onFor f d (bare w) = d
 
 unfoldable pub onNext {ℓ} : {A : Type ℓ} → (Mark → List Slot → A) → A → Simple → A
 onNext f d (next m ss) = f m ss
 onNext f d (for v t) = d
-onNext f d (goto t) = d
-onNext f d (gosub t) = d
-onNext f d return = d
-onNext f d run = d
-onNext f d (runto t) = d
-onNext f d (ongoto ts) = d
-onNext f d (ongosub ts) = d
-onNext f d repeat = d
-onNext f d loop = d
-onNext f d until = d
-onNext f d endloop = d
-onNext f d exit = d
-onNext f d exitif = d
-onNext f d doif = d
-onNext f d else = d
-onNext f d done = d
-onNext f d clr = d
-onNext f d stop = d
-onNext f d any = d
-onNext f d Simple.plain = d
+onNext f d (jump w t) = d
+onNext f d (on w ts) = d
+onNext f d (block w) = d
+onNext f d (bare w) = d
 
 unfoldable pub onSimple {ℓ} : {A : Type ℓ} → (Simple → A) → A → NodeStmt → A
 onSimple f d (simple o) = f o

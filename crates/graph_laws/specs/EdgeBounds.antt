@@ -6,7 +6,7 @@ use mathlib.Core.Bool.{Bool, true, false}
 use mathlib.Core.Option.{Option, none, some}
 use lib.Dec.{eqb}
 use Rattle.listings.specs.Bytes.{same, pick}
-use Rattle.listings.specs.Listing.{Name, Tier, static, framed, dispatched, Mark, orphan, Slot, Simple, goto, gosub, return, run, runto, ongoto, ongosub, for, next, repeat, loop, until, endloop, exit, exitif, doif, else, done, clr, stop, any}
+use Rattle.listings.specs.Listing.{Name, Tier, static, framed, dispatched, Mark, orphan, Slot, BareWord, return, run, clr, stop, any, Simple, jump, on, for, next, block, bare}
 use Rattle.graph.specs.Lists.{has, add, addAll, each, list}
 use Rattle.listings.specs.Every.{All, all[], all∷, all-append}
 use Rattle.graph_laws.specs.Members.{all-each}
@@ -14,7 +14,7 @@ use Rattle.graph.specs.Nodes.{BranchTarget, toLine, toNode, falls, NodeStmt, si
 use Rattle.graph_laws.specs.NodeLaws.{Below, BelowTarget, BelowStmt, NodeFits, EntriesFit, entry-fits}
 use Rattle.graph.specs.Targets.{targetEntries, branchEdges, onFor, onNext, onSimple, dispatchTarget, dispatchTargets, selectable, orphanTargets, orphanEdges}
 use Rattle.graph_laws.specs.TargetLaws.{on-for, on-next, on-simple}
-use Rattle.graph.specs.Edges.{ForFrame, Frame, Stacks, emptyStacks, ForMove, keepFors, pushFor, popFors, Move, stays, opens, closes, joins, Moves, nodeMoves, findFor, underOr, foundOr, popFor, popped, left, forsAfter, framesAfter, stacksAfter, frameBody, poppedBodies, closedBody, closerEdges, ownSimple, own, Edge, fromNode, toFall, wired, orphans, edges, ends, sent, loopStack, doStack}
+use Rattle.graph.specs.Edges.{ForFrame, Frame, Stacks, emptyStacks, ForMove, keepFors, pushFor, popFors, Move, stays, opens, closes, joins, Moves, nodeMoves, findFor, underOr, foundOr, popFor, popped, left, forsAfter, framesAfter, stacksAfter, frameBody, poppedBodies, closedBody, ruleOf, closerEdges, ownBlock, ownSimple, own, Edge, fromNode, toFall, wired, orphans, edges, ends, sent, Stack, loopStack, doStack}
 
 -- node ids below n
 abbrev pub Ids : ℕ → List ℕ → Type 0
@@ -122,6 +122,18 @@ module _ (n : ℕ) where
   closer-ids none hb hl = all[]
   closer-ids (some b) hb hl = all-append hb hl
 
+  block-ids : (s : Stack) (m : Move) (b : Option (List ℕ)) {l : List ℕ} → IdsIn n b → Ids n l → Ids n (ownBlock s m l b)
+  unfolding ownBlock
+  block-ids loopStack closes b hb hl = closer-ids b hb hl
+  block-ids loopStack stays b hb hl = hl
+  block-ids loopStack opens b hb hl = hl
+  block-ids loopStack joins b hb hl = hl
+  block-ids doStack m b hb hl = hl
+
+  either-ids : (x : Bool) (e : Option ℕ) → Below n e → Ids n (pick x (list e) [])
+  either-ids true e be = list-ids e be
+  either-ids false e be = all[]
+
   module _ (es : Entries) (he : EntriesFit n es) where
     to-ids : (t : ℕ) → Ids n (list (entryOf es t))
     to-ids t = list-ids (entryOf es t) (entry-fits n he t)
@@ -133,28 +145,17 @@ module _ (n : ℕ) where
 
     simple-ids : (o : Simple) (e : Option ℕ) (bs : List ℕ) (b : Option (List ℕ)) → Below n e → Ids n bs → IdsIn n b → Ids n (ownSimple es o e bs b)
     unfolding ownSimple
-    simple-ids Simple.plain e bs b be hs hb = list-ids e be
-    simple-ids clr e bs b be hs hb = list-ids e be
-    simple-ids (goto t) e bs b be hs hb = to-ids t
-    simple-ids (gosub t) e bs b be hs hb = to-ids t
-    simple-ids (runto t) e bs b be hs hb = to-ids t
-    simple-ids (ongoto ts) e bs b be hs hb = all-append (targets-ids ts) (list-ids e be)
-    simple-ids (ongosub ts) e bs b be hs hb = all-append (targets-ids ts) (list-ids e be)
-    simple-ids run e bs b be hs hb = list-ids (es .first) (he .first)
-    simple-ids stop e bs b be hs hb = all[]
-    simple-ids any e bs b be hs hb = he .all
+    simple-ids (bare BareWord.plain) e bs b be hs hb = list-ids e be
+    simple-ids (bare clr) e bs b be hs hb = list-ids e be
+    simple-ids (jump w t) e bs b be hs hb = to-ids t
+    simple-ids (on w ts) e bs b be hs hb = all-append (targets-ids ts) (list-ids e be)
+    simple-ids (bare run) e bs b be hs hb = list-ids (es .first) (he .first)
+    simple-ids (bare stop) e bs b be hs hb = all[]
+    simple-ids (bare any) e bs b be hs hb = he .all
     simple-ids (for v t) e bs b be hs hb = list-ids e be
     simple-ids (next m ss) e bs b be hs hb = all-append hs (list-ids e be)
-    simple-ids repeat e bs b be hs hb = list-ids e be
-    simple-ids loop e bs b be hs hb = list-ids e be
-    simple-ids exit e bs b be hs hb = all[]
-    simple-ids exitif e bs b be hs hb = list-ids e be
-    simple-ids until e bs b be hs hb = closer-ids b hb (list-ids e be)
-    simple-ids endloop e bs b be hs hb = closer-ids b hb all[]
-    simple-ids doif e bs b be hs hb = list-ids e be
-    simple-ids else e bs b be hs hb = all[]
-    simple-ids done e bs b be hs hb = list-ids e be
-    simple-ids return e bs b be hs hb = all[]
+    simple-ids (block w) e bs b be hs hb = let r = ruleOf w in block-ids (r .stack) (r .move) b hb (either-ids (r .falls) e be)
+    simple-ids (bare return) e bs b be hs hb = all[]
 
     branch-ids : (e : Option ℕ) (t : BranchTarget) → Below n e → BelowTarget n t → Ids n (branchEdges es e t)
     unfolding branchEdges

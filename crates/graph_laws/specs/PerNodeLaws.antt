@@ -8,12 +8,12 @@ use native.Mathlib.Omega.{arith}
 use native.Mathlib.Nat.{add-zero, zero-add}
 use lib.ListN.{length, getElem?}
 use borrow.Author.Tests.{ne-eqb, eq-eqb}
-use Rattle.listings.specs.Listing.{Name, Simple, goto, gosub, return, run, runto, ongoto, ongosub, for, next, repeat, loop, until, endloop, exit, exitif, doif, else, done, clr, stop, any}
+use Rattle.listings.specs.Listing.{Name, Simple, jump, on, for, next, block, bare}
 use Rattle.graph.specs.Lists.{each, list}
 use Rattle.graph.specs.Nodes.{NodeStmt, simple, cond, Node, Entries}
 use Rattle.graph.specs.Targets.{dispatchTargets, orphanEdges}
 use Rattle.listings.specs.Every.{All, all[], all∷}
-use Rattle.graph.specs.Edges.{Frame, Stacks, emptyStacks, Move, stays, opens, closes, joins, Moves, onFors, onLoops, onDos, noMoves, movesOf, nodeMoves, framesAfter, stacksAfter, poppedBodies, closedBody, own, Stack, loopStack, doStack, sent, Edge, fromNode, toFall, wired, orphans, edges, ends}
+use Rattle.graph.specs.Edges.{Frame, Stacks, emptyStacks, Move, stays, opens, closes, joins, Moves, onFors, onStack, ruleOf, noMoves, movesOf, nodeMoves, framesAfter, stacksAfter, poppedBodies, closedBody, own, Stack, loopStack, doStack, sent, Edge, fromNode, toFall, wired, orphans, edges, ends}
 use Rattle.graph_laws.specs.PerNode.{Openers, noOpeners, openersAfter, after, meets, pops, Fact, factOf, facts, moveOn, metOn, fallOf, fallAt, bodyMet, perNode}
 use Rattle.graph_laws.specs.EdgeLaws.{Outside, out-head, out-tail, ends-append, ends-own, ends-other}
 use Rattle.graph_laws.specs.StackLaws.{openerOf, all-after, openers-after, desc[], Unknown, unknown-after, never-sent, Turns, end, turn, idle, late-law}
@@ -52,30 +52,19 @@ turns-of s k (n ∷ ns) os fs h =
     (turns-of s (suc k) ns (after k m os) (framesAfter k (n .fall) (moveOn s m) fs) (openers-after k (n .fall) (moveOn s m) fs ∙ ap (openersAfter k (moveOn s m)) h ∙ sym (after-law s k m os)))
 
 -- a statement moves one of the two stacks at most
+one-of : (s : Stack) (m : Move) → ((onStack s m) .loops ≡ stays) ⊎ ((onStack s m) .dos ≡ stays)
+unfolding onStack
+one-of loopStack m = inr refl
+one-of doStack m = inl refl
+
 one-stack : (o : Simple) → ((movesOf o) .loops ≡ stays) ⊎ ((movesOf o) .dos ≡ stays)
-unfolding movesOf onFors onLoops onDos noMoves
+unfolding movesOf onFors noMoves
 one-stack (for v t) = inl refl
 one-stack (next m ss) = inl refl
-one-stack repeat = inr refl
-one-stack loop = inr refl
-one-stack until = inr refl
-one-stack endloop = inr refl
-one-stack exit = inr refl
-one-stack exitif = inr refl
-one-stack doif = inl refl
-one-stack else = inl refl
-one-stack done = inl refl
-one-stack (goto t) = inl refl
-one-stack (gosub t) = inl refl
-one-stack return = inl refl
-one-stack run = inl refl
-one-stack (runto t) = inl refl
-one-stack (ongoto ts) = inl refl
-one-stack (ongosub ts) = inl refl
-one-stack clr = inl refl
-one-stack stop = inl refl
-one-stack any = inl refl
-one-stack Simple.plain = inl refl
+one-stack (block w) = let r = ruleOf w in one-of (r .stack) (r .move)
+one-stack (jump w t) = inl refl
+one-stack (on w ts) = inl refl
+one-stack (bare w) = inl refl
 
 module _ (i : ℕ) where
   -- frames that do not know node i send it nowhere

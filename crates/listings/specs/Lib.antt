@@ -7,6 +7,7 @@ pub mod Cases
 pub mod ListingText
 pub mod WordTable
 pub mod WordSlots
+pub mod WordKinds
 pub mod Every
 pub mod NumberText
 pub mod WordText

@@ -21,15 +21,30 @@ pub data Mark : Type 0 where
 abbrev pub Slot : Type 0
 Slot = Option Name
 
--- the statements that hold no others; `runto` is `(run N)`
+-- The opening words of the statements that hold no others, by what stands behind them. One line number; `runto` is `(run N)`:
+pub data JumpWord : Type 0 where
+  goto gosub runto : JumpWord
+
+-- "0 to 64 numbers":
+pub data OnWord : Type 0 where
+  ongoto ongosub : OnWord
+
+-- nothing, the words of loops and DOs:
+pub data BlockWord : Type 0 where
+  repeat loop until endloop exit exitif doif else done : BlockWord
+
+-- nothing, all others:
+pub data BareWord : Type 0 where
+  return run clr stop any plain : BareWord
+
+-- the statements that hold no others
 pub data Simple : Type 0 where
-  goto gosub : ℕ → Simple
-  return run : Simple
-  runto : ℕ → Simple
-  ongoto ongosub : List ℕ → Simple
+  jump : JumpWord → ℕ → Simple
+  on : OnWord → List ℕ → Simple
   for : Name → Tier → Simple
   next : Mark → List Slot → Simple
-  repeat loop until endloop exit exitif doif else done clr stop any plain : Simple
+  block : BlockWord → Simple
+  bare : BareWord → Simple
 
 -- the statements that hold branches: `(if` one, `(ifelse` two, `(rcomp` one or two
 pub data CondWord : Type 0 where

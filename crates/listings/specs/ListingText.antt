@@ -6,7 +6,7 @@ use mathlib.Core.Option.{Option, none, some}
 use mathlib.Core.Bool.{Bool, true, false}
 use lib.ListN.{length}
 use Rattle.listings.specs.Bytes.{bytes, decimal}
-use Rattle.listings.specs.Listing.{Name, Tier, static, framed, dispatched, Mark, orphan, Slot, Simple, goto, gosub, return, run, runto, ongoto, ongosub, for, next, repeat, loop, until, endloop, exit, exitif, doif, else, done, clr, stop, any, CondWord, if, ifelse, rcomp, BranchForm, to, stmts, absent, Stmts, ∅, _▸_, branching, Lines, nolines, line, Listing, total, count}
+use Rattle.listings.specs.Listing.{Name, Tier, static, framed, dispatched, Mark, orphan, Slot, JumpWord, goto, gosub, runto, OnWord, ongoto, ongosub, BlockWord, repeat, loop, until, endloop, exit, exitif, doif, else, done, BareWord, return, run, clr, stop, any, Simple, jump, on, for, next, block, bare, CondWord, if, ifelse, rcomp, BranchForm, to, stmts, absent, Stmts, ∅, _▸_, branching, Lines, nolines, line, Listing, total, count}
 use Rattle.listings.specs.Rows.{isName}
 
 -- ---- the text
@@ -40,54 +40,52 @@ unfoldable pub slotWord : Slot → List ℕ
 slotWord none = 42 ∷ []
 slotWord (some v) = v
 
+-- the opening words
+unfoldable pub jumpWord : JumpWord → List ℕ
+jumpWord goto = bytes "goto"
+jumpWord gosub = bytes "gosub"
+jumpWord runto = bytes "run"
+
+unfoldable pub onWord : OnWord → List ℕ
+onWord ongoto = bytes "ongoto"
+onWord ongosub = bytes "ongosub"
+
+unfoldable pub blockWord : BlockWord → List ℕ
+blockWord repeat = bytes "repeat"
+blockWord loop = bytes "loop"
+blockWord until = bytes "until"
+blockWord endloop = bytes "endloop"
+blockWord exit = bytes "exit"
+blockWord exitif = bytes "exitif"
+blockWord doif = bytes "doif"
+blockWord else = bytes "else"
+blockWord done = bytes "done"
+
+unfoldable pub bareWord : BareWord → List ℕ
+bareWord return = bytes "return"
+bareWord run = bytes "run"
+bareWord clr = bytes "clr"
+bareWord stop = bytes "stop"
+bareWord any = bytes "any"
+bareWord BareWord.plain = bytes "plain"
+
 -- the opening word of a statement, and its other words
 unfoldable pub simpleWord : Simple → List ℕ
-simpleWord (goto n) = bytes "goto"
-simpleWord (gosub n) = bytes "gosub"
-simpleWord return = bytes "return"
-simpleWord run = bytes "run"
-simpleWord (runto n) = bytes "run"
-simpleWord (ongoto ns) = bytes "ongoto"
-simpleWord (ongosub ns) = bytes "ongosub"
+unfolding jumpWord onWord blockWord bareWord
+simpleWord (jump w n) = jumpWord w
+simpleWord (on w ns) = onWord w
 simpleWord (for v t) = bytes "for"
 simpleWord (next m ss) = bytes "next"
-simpleWord repeat = bytes "repeat"
-simpleWord loop = bytes "loop"
-simpleWord until = bytes "until"
-simpleWord endloop = bytes "endloop"
-simpleWord exit = bytes "exit"
-simpleWord exitif = bytes "exitif"
-simpleWord doif = bytes "doif"
-simpleWord else = bytes "else"
-simpleWord done = bytes "done"
-simpleWord clr = bytes "clr"
-simpleWord stop = bytes "stop"
-simpleWord any = bytes "any"
-simpleWord Simple.plain = bytes "plain"
+simpleWord (block w) = blockWord w
+simpleWord (bare w) = bareWord w
 
 unfoldable pub simpleArgs : Simple → List (List ℕ)
-simpleArgs (goto n) = decimal n ∷ []
-simpleArgs (gosub n) = decimal n ∷ []
-simpleArgs return = []
-simpleArgs run = []
-simpleArgs (runto n) = decimal n ∷ []
-simpleArgs (ongoto ns) = map decimal ns
-simpleArgs (ongosub ns) = map decimal ns
+simpleArgs (jump w n) = decimal n ∷ []
+simpleArgs (on w ns) = map decimal ns
 simpleArgs (for v t) = v ∷ tierWord t ∷ []
 simpleArgs (next m ss) = markWord m ∷ map slotWord ss
-simpleArgs repeat = []
-simpleArgs loop = []
-simpleArgs until = []
-simpleArgs endloop = []
-simpleArgs exit = []
-simpleArgs exitif = []
-simpleArgs doif = []
-simpleArgs else = []
-simpleArgs done = []
-simpleArgs clr = []
-simpleArgs stop = []
-simpleArgs any = []
-simpleArgs Simple.plain = []
+simpleArgs (block w) = []
+simpleArgs (bare w) = []
 
 unfoldable pub simpleText : Simple → List ℕ
 simpleText o = closedForm (simpleWord o) (simpleArgs o)
@@ -162,53 +160,21 @@ SlotsOk (some v ∷ ss) = NameOk v × SlotsOk ss
 
 -- how many numbers or slots a statement lists
 unfoldable pub listed : Simple → ℕ
-listed (goto n) = 0
-listed (gosub n) = 0
-listed return = 0
-listed run = 0
-listed (runto n) = 0
-listed (ongoto ns) = length ns
-listed (ongosub ns) = length ns
+listed (jump w n) = 0
+listed (on w ns) = length ns
 listed (for v t) = 0
 listed (next m ss) = length ss
-listed repeat = 0
-listed loop = 0
-listed until = 0
-listed endloop = 0
-listed exit = 0
-listed exitif = 0
-listed doif = 0
-listed else = 0
-listed done = 0
-listed clr = 0
-listed stop = 0
-listed any = 0
-listed Simple.plain = 0
+listed (block w) = 0
+listed (bare w) = 0
 
 -- numbers and names in form
 unfoldable pub SimpleOk : Simple → Type 0
-SimpleOk (goto n) = NumberOk n
-SimpleOk (gosub n) = NumberOk n
-SimpleOk return = Unit {0}
-SimpleOk run = Unit {0}
-SimpleOk (runto n) = NumberOk n
-SimpleOk (ongoto ns) = NumbersOk ns
-SimpleOk (ongosub ns) = NumbersOk ns
+SimpleOk (jump w n) = NumberOk n
+SimpleOk (on w ns) = NumbersOk ns
 SimpleOk (for v t) = NameOk v
 SimpleOk (next m ss) = SlotsOk ss
-SimpleOk repeat = Unit {0}
-SimpleOk loop = Unit {0}
-SimpleOk until = Unit {0}
-SimpleOk endloop = Unit {0}
-SimpleOk exit = Unit {0}
-SimpleOk exitif = Unit {0}
-SimpleOk doif = Unit {0}
-SimpleOk else = Unit {0}
-SimpleOk done = Unit {0}
-SimpleOk clr = Unit {0}
-SimpleOk stop = Unit {0}
-SimpleOk any = Unit {0}
-SimpleOk Simple.plain = Unit {0}
+SimpleOk (block w) = Unit {0}
+SimpleOk (bare w) = Unit {0}
 
 -- a branch that is there: `(to N)` holds nothing
 unfoldable pub BranchOk : BranchForm → Stmts → Type 0

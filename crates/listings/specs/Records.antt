@@ -7,7 +7,7 @@ use mathlib.Core.Option.{none, some}
 use lib.Dec.{leb}
 use lib.ListN.{length, replicate}
 use Rattle.listings.specs.Bytes.{pick}
-use Rattle.listings.specs.Listing.{Name, Tier, static, framed, dispatched, Mark, orphan, Slot, Simple, goto, gosub, return, run, runto, ongoto, ongosub, for, next, repeat, loop, until, endloop, exit, exitif, doif, else, done, clr, stop, any, CondWord, BranchForm, to, stmts, absent, Stmts, ∅, _▸_, branching, Lines, nolines, line, Listing, size, len, total, count}
+use Rattle.listings.specs.Listing.{Name, Tier, static, framed, dispatched, Mark, orphan, Slot, Simple, jump, on, for, next, block, bare, CondWord, BranchForm, to, stmts, absent, Stmts, ∅, _▸_, branching, Lines, nolines, line, Listing, size, len, total, count}
 use Rattle.listings.specs.Read.{Answer, listing, refusal}
 use Rattle.listings.specs.ListingText.{simpleWord, condWord}
 use Rattle.listings.specs.WordTable.{wordIndex}
@@ -26,28 +26,12 @@ slotKey (some v) = nameKey v
 
 -- the written targets, FOR's name, NEXT's slots
 unfoldable pub argsOf : Simple → List ℕ
-argsOf (goto n) = n ∷ []
-argsOf (gosub n) = n ∷ []
-argsOf return = []
-argsOf run = []
-argsOf (runto n) = n ∷ []
-argsOf (ongoto ns) = ns
-argsOf (ongosub ns) = ns
+argsOf (jump w n) = n ∷ []
+argsOf (on w ns) = ns
 argsOf (for v t) = nameKey v ∷ []
 argsOf (next m ss) = map slotKey ss
-argsOf repeat = []
-argsOf loop = []
-argsOf until = []
-argsOf endloop = []
-argsOf exit = []
-argsOf exitif = []
-argsOf doif = []
-argsOf else = []
-argsOf done = []
-argsOf clr = []
-argsOf stop = []
-argsOf any = []
-argsOf Simple.plain = []
+argsOf (block w) = []
+argsOf (bare w) = []
 
 unfoldable pub tierNumber : Tier → ℕ
 tierNumber static = 0
@@ -62,26 +46,10 @@ markNumber orphan = 1
 unfoldable pub detailOf : Simple → ℕ
 detailOf (for v t) = tierNumber t
 detailOf (next m ss) = markNumber m
-detailOf (goto n) = 0
-detailOf (gosub n) = 0
-detailOf return = 0
-detailOf run = 0
-detailOf (runto n) = 0
-detailOf (ongoto ns) = 0
-detailOf (ongosub ns) = 0
-detailOf repeat = 0
-detailOf loop = 0
-detailOf until = 0
-detailOf endloop = 0
-detailOf exit = 0
-detailOf exitif = 0
-detailOf doif = 0
-detailOf else = 0
-detailOf done = 0
-detailOf clr = 0
-detailOf stop = 0
-detailOf any = 0
-detailOf Simple.plain = 0
+detailOf (jump w n) = 0
+detailOf (on w ns) = 0
+detailOf (block w) = 0
+detailOf (bare w) = 0
 
 -- ---- a statement's record
 

@@ -6,10 +6,10 @@ use mathlib.Core.List.{List, [], _∷_, map}
 use mathlib.Core.Option.{Option, none, some}
 use lib.ListN.{length, length-map}
 use Rattle.listings.specs.Bytes.{bytes, same, decimal}
-use Rattle.listings.specs.Listing.{Simple, goto, gosub, return, run, runto, ongoto, ongosub, for, next, repeat, loop, until, endloop, exit, exitif, doif, else, done, clr, stop, any, CondWord, if, ifelse, rcomp}
+use Rattle.listings.specs.Listing.{JumpWord, goto, gosub, runto, OnWord, ongoto, ongosub, BlockWord, repeat, loop, until, endloop, exit, exitif, doif, else, done, BareWord, return, run, clr, stop, any, Simple, jump, on, for, next, block, bare, CondWord, if, ifelse, rcomp}
 use Rattle.listings.specs.Rows.{isWord, areWords, stripClose, all, Row, close, bad, form, rowOf, Form, moduleForm, lineForm, toForm, stmtsForm, runForm, forForm, nextForm, condForm, bareForm, numberForm, numbersForm, openingWords, lookup, parsed, mapParse, withParse, parseNumber, parseNumbers, parseName, parseTier, parseMark, parseSlots, Counted, Content, noForm, endRow, stmtsRow, moduleRow, lineRow, toRow, simpleRow, condRow, bareStmt, single, runStmt, forStmt, nextStmt, ifNoWords, handlerFacts, moduleBy, moduleContent, formContent, wordContent, contentOf}
 use Rattle.listings.specs.Every.{noNewline}
-use Rattle.listings.specs.ListingText.{closedForm, openForm, endForm, tierWord, markWord, slotWord, simpleText, condText, handlerWord, NumbersOk, NameOk, listed, SimpleOk, simpleWord, simpleArgs, condWord}
+use Rattle.listings.specs.ListingText.{closedForm, openForm, endForm, tierWord, markWord, slotWord, simpleText, condText, handlerWord, NumbersOk, NameOk, listed, SimpleOk, jumpWord, onWord, blockWord, bareWord, simpleWord, simpleArgs, condWord}
 use Rattle.listings.specs.NumberText.{both-true, IfParsed, if-same, if-map, if-with, number-text, number-of-text, numbers-text, AreNumbers, numbers-of-text}
 use Rattle.listings.specs.WordText.{inWord, isToken, areTokens, decimal-token, decimals-tokens, name-token, name-text, name-of-text, slots-text, slots-tokens, AreSlots, slots-of-text, IfFound, Entries, lookup-entry, tier-text, tier-token, tier-of-text, mark-text, mark-token, mark-of-text, handler-text, handler-token, handler-of-text}
 use Rattle.listings.specs.RowForms.{formText, form-row, form-newline, RowText, row-text}
@@ -28,31 +28,59 @@ opened = tt
 form-says : (c : Bool) (w : List ℕ) (ws : List (List ℕ)) (d : Content) → areTokens (w ∷ ws) ≡ true → contentOf (form c w ws) ≡ d → Says (formText c w ws) d
 form-says c w ws d h e = (ap contentOf (form-row c w ws h) ∙ e, form-newline c w ws h)
 
+-- a word that is in form, and that says this statement where it stands alone in its row
+abbrev Alone : List ℕ → Simple → Type 0
+Alone w o = (isToken w ≡ true) × (contentOf (form true w []) ≡ simpleRow (parsed (o, 0)))
+
+block-alone : (w : BlockWord) → Alone (blockWord w) (block w)
+unfolding opened blockWord bareStmt
+block-alone repeat = (refl, refl)
+block-alone loop = (refl, refl)
+block-alone until = (refl, refl)
+block-alone endloop = (refl, refl)
+block-alone exit = (refl, refl)
+block-alone exitif = (refl, refl)
+block-alone doif = (refl, refl)
+block-alone else = (refl, refl)
+block-alone done = (refl, refl)
+
+bare-alone : (w : BareWord) → Alone (bareWord w) (bare w)
+unfolding opened bareWord bareStmt runStmt
+bare-alone return = (refl, refl)
+bare-alone run = (refl, refl)
+bare-alone clr = (refl, refl)
+bare-alone stop = (refl, refl)
+bare-alone any = (refl, refl)
+bare-alone BareWord.plain = (refl, refl)
+
+-- a statement's words are in form
+pub simple-tokens : (o : Simple) → SimpleOk o → areTokens (simpleWord o ∷ simpleArgs o) ≡ true
+unfolding opened simpleWord simpleArgs SimpleOk
+simple-tokens (jump goto n) h = rw (decimal-token n)
+simple-tokens (jump gosub n) h = rw (decimal-token n)
+simple-tokens (jump runto n) h = rw (decimal-token n)
+simple-tokens (on ongoto ns) h = decimals-tokens ns
+simple-tokens (on ongosub ns) h = decimals-tokens ns
+simple-tokens (for v t) h = rw (name-token v h, tier-token t)
+simple-tokens (next m ss) h = rw (mark-token m) (slots-tokens ss h)
+simple-tokens (block w) h = rw (block-alone w .0)
+simple-tokens (bare w) h = rw (bare-alone w .0)
+
+simple-content : (o : Simple) → SimpleOk o → contentOf (form true (simpleWord o) (simpleArgs o)) ≡ simpleRow (parsed (o, listed o))
+unfolding opened simpleWord simpleArgs SimpleOk listed runStmt forStmt nextStmt mapParse withParse
+simple-content (jump goto n) h = rw (number-text n h)
+simple-content (jump gosub n) h = rw (number-text n h)
+simple-content (jump runto n) h = rw (number-text n h)
+simple-content (on ongoto ns) h = rw (numbers-text ns h, length-map ns decimal)
+simple-content (on ongosub ns) h = rw (numbers-text ns h, length-map ns decimal)
+simple-content (for v t) h = rw (name-text v h, tier-text t)
+simple-content (next m ss) h = rw (mark-text m, slots-text ss h, length-map ss slotWord)
+simple-content (block w) h = block-alone w .1
+simple-content (bare w) h = bare-alone w .1
+
 simple-says : (o : Simple) → SimpleOk o → Says (simpleText o) (simpleRow (parsed (o, listed o)))
-unfolding opened simpleText simpleWord simpleArgs SimpleOk listed bareStmt runStmt forStmt nextStmt mapParse withParse
-simple-says (goto n) h = form-says true (bytes "goto") (decimal n ∷ []) _ (rw (decimal-token n)) (rw (number-text n h))
-simple-says (gosub n) h = form-says true (bytes "gosub") (decimal n ∷ []) _ (rw (decimal-token n)) (rw (number-text n h))
-simple-says return h = form-says true (bytes "return") [] _ refl refl
-simple-says run h = form-says true (bytes "run") [] _ refl refl
-simple-says (runto n) h = form-says true (bytes "run") (decimal n ∷ []) _ (rw (decimal-token n)) (rw (number-text n h))
-simple-says (ongoto ns) h = form-says true (bytes "ongoto") (map decimal ns) _ (decimals-tokens ns) (rw (numbers-text ns h, length-map ns decimal))
-simple-says (ongosub ns) h = form-says true (bytes "ongosub") (map decimal ns) _ (decimals-tokens ns) (rw (numbers-text ns h, length-map ns decimal))
-simple-says (for v t) h = form-says true (bytes "for") (v ∷ tierWord t ∷ []) _ (rw (name-token v h, tier-token t)) (rw (name-text v h, tier-text t))
-simple-says (next m ss) h =
-    form-says true (bytes "next") (markWord m ∷ map slotWord ss) _ (rw (mark-token m) (slots-tokens ss h)) (rw (mark-text m, slots-text ss h, length-map ss slotWord))
-simple-says repeat h = form-says true (bytes "repeat") [] _ refl refl
-simple-says loop h = form-says true (bytes "loop") [] _ refl refl
-simple-says until h = form-says true (bytes "until") [] _ refl refl
-simple-says endloop h = form-says true (bytes "endloop") [] _ refl refl
-simple-says exit h = form-says true (bytes "exit") [] _ refl refl
-simple-says exitif h = form-says true (bytes "exitif") [] _ refl refl
-simple-says doif h = form-says true (bytes "doif") [] _ refl refl
-simple-says else h = form-says true (bytes "else") [] _ refl refl
-simple-says done h = form-says true (bytes "done") [] _ refl refl
-simple-says clr h = form-says true (bytes "clr") [] _ refl refl
-simple-says stop h = form-says true (bytes "stop") [] _ refl refl
-simple-says any h = form-says true (bytes "any") [] _ refl refl
-simple-says Simple.plain h = form-says true (bytes "plain") [] _ refl refl
+unfolding simpleText
+simple-says o h = form-says true (simpleWord o) (simpleArgs o) _ (simple-tokens o h) (simple-content o h)
 
 pub simple-row : (o : Simple) → SimpleOk o → contentOf (rowOf (simpleText o)) ≡ simpleRow (parsed (o, listed o))
 simple-row o h = simple-says o h .0
@@ -153,8 +181,8 @@ Opens w forForm = w ≡ bytes "for"
 Opens w nextForm = w ≡ bytes "next"
 Opens w (condForm k) = openForm w [] ≡ condText k
 Opens w (bareForm o) = IsSimple (closedForm w []) (o, 0)
-Opens w (numberForm f) = (n : ℕ) → n ≤ 65535 → IsSimple (closedForm w (decimal n ∷ [])) (f n, 0)
-Opens w (numbersForm f) = (ns : List ℕ) → NumbersOk ns → IsSimple (closedForm w (map decimal ns)) (f ns, length ns)
+Opens w (numberForm k) = (n : ℕ) → n ≤ 65535 → IsSimple (closedForm w (decimal n ∷ [])) (jump k n, 0)
+Opens w (numbersForm k) = (ns : List ℕ) → NumbersOk ns → IsSimple (closedForm w (map decimal ns)) (on k ns, length ns)
 
 infixr 20 _and_
 _and_ : {A B : Type 0} → A → B → A × B
@@ -181,15 +209,15 @@ number-form : (c : Bool) (w : List ℕ) (ws : List (List ℕ)) → areWords ws �
 number-form c w ws h =
     if-same (λ n. (ws ≡ decimal n ∷ []) × (n ≤ 65535)) (IsNumberForm c w (formText c w ws)) (λ n p. (ap (formText c w) (p .0), p .1)) (single ws) (single-of-text ws h)
 
-number-simple : (f : ℕ → Simple) (w : List ℕ) (ws : List (List ℕ)) → Opens w (numberForm f) → areWords ws ≡ true
-    → IfParsed (IsSimple (closedForm w ws)) (mapParse (λ n. (f n, 0)) (single ws))
-number-simple f w ws e h =
-    if-map (λ n. (ws ≡ decimal n ∷ []) × (n ≤ 65535)) (IsSimple (closedForm w ws)) (λ n. (f n, 0)) (λ n p. rw (p .0) (e n (p .1))) (single ws) (single-of-text ws h)
+number-simple : (k : JumpWord) (w : List ℕ) (ws : List (List ℕ)) → Opens w (numberForm k) → areWords ws ≡ true
+    → IfParsed (IsSimple (closedForm w ws)) (mapParse (λ n. (jump k n, 0)) (single ws))
+number-simple k w ws e h =
+    if-map (λ n. (ws ≡ decimal n ∷ []) × (n ≤ 65535)) (IsSimple (closedForm w ws)) (λ n. (jump k n, 0)) (λ n p. rw (p .0) (e n (p .1))) (single ws) (single-of-text ws h)
 
-numbers-simple : (f : List ℕ → Simple) (w : List ℕ) (ws : List (List ℕ)) → Opens w (numbersForm f) → areWords ws ≡ true
-    → IfParsed (IsSimple (closedForm w ws)) (mapParse (λ ns. (f ns, length ws)) (parseNumbers ws))
-numbers-simple f w ws e h =
-    if-map (AreNumbers ws) (IsSimple (closedForm w ws)) (λ ns. (f ns, length ws)) (λ ns p. let q = e ns (p .1) in (rw (p .0) (q .0), q .1, p .2 ∙ q .2))
+numbers-simple : (k : OnWord) (w : List ℕ) (ws : List (List ℕ)) → Opens w (numbersForm k) → areWords ws ≡ true
+    → IfParsed (IsSimple (closedForm w ws)) (mapParse (λ ns. (on k ns, length ws)) (parseNumbers ws))
+numbers-simple k w ws e h =
+    if-map (AreNumbers ws) (IsSimple (closedForm w ws)) (λ ns. (on k ns, length ws)) (λ ns p. let q = e ns (p .1) in (rw (p .0) (q .0), q .1, p .2 ∙ q .2))
     (parseNumbers ws) (numbers-of-text ws h)
 
 run-simple : (ws : List (List ℕ)) → areWords ws ≡ true → IfParsed (IsSimple (closedForm (bytes "run") ws)) (runStmt ws)
@@ -253,10 +281,10 @@ form-text nextForm true w ws e h = rw e (next-simple ws)
 form-text nextForm false w ws e h = tt
 form-text (bareForm o) true w ws e h = bare-simple w ws o e
 form-text (bareForm o) false w ws e h = tt
-form-text (numberForm f) true w ws e h = number-simple f w ws e h
-form-text (numberForm f) false w ws e h = tt
-form-text (numbersForm f) true w ws e h = numbers-simple f w ws e h
-form-text (numbersForm f) false w ws e h = tt
+form-text (numberForm k) true w ws e h = number-simple k w ws e h
+form-text (numberForm k) false w ws e h = tt
+form-text (numbersForm k) true w ws e h = numbers-simple k w ws e h
+form-text (numbersForm k) false w ws e h = tt
 
 -- a row that says something is its text
 pub content-text : (r : List ℕ) → ContentText r (contentOf (rowOf r))

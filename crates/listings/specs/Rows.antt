@@ -6,7 +6,7 @@ use mathlib.Core.Bool.{Bool, true, false, _&&_, _||_, not}
 use lib.Dec.{eqb, leb}
 use lib.ListN.{length}
 use Rattle.listings.specs.Bytes.{bytes, same, pick}
-use Rattle.listings.specs.Listing.{Name, Tier, static, framed, dispatched, Mark, orphan, Slot, Simple, goto, gosub, return, run, runto, ongoto, ongosub, for, next, repeat, loop, until, endloop, exit, exitif, doif, else, done, clr, stop, any, CondWord, if, ifelse, rcomp}
+use Rattle.listings.specs.Listing.{Name, Tier, static, framed, dispatched, Mark, orphan, Slot, Simple, JumpWord, jump, goto, gosub, runto, OnWord, on, ongoto, ongosub, for, next, block, repeat, loop, until, endloop, exit, exitif, doif, else, done, bare, BareWord, return, run, clr, stop, any, CondWord, if, ifelse, rcomp}
 
 -- ---- rows and words
 
@@ -58,18 +58,18 @@ pub data Form : Type 0 where
   moduleForm lineForm toForm stmtsForm runForm forForm nextForm : Form
   condForm : CondWord → Form
   bareForm : Simple → Form
-  numberForm : (ℕ → Simple) → Form
-  numbersForm : (List ℕ → Simple) → Form
+  numberForm : JumpWord → Form
+  numbersForm : OnWord → Form
 
 -- "The 28 opening words stand in one constant table"
 unfoldable pub openingWords : List (List ℕ × Form)
 openingWords =
     (bytes "module", moduleForm) ∷ (bytes "line", lineForm) ∷ (bytes "if", condForm if) ∷ (bytes "ifelse", condForm ifelse) ∷ (bytes "rcomp", condForm rcomp)
-    ∷ (bytes "to", toForm) ∷ (bytes "stmts", stmtsForm) ∷ (bytes "goto", numberForm goto) ∷ (bytes "gosub", numberForm gosub) ∷ (bytes "return", bareForm return)
+    ∷ (bytes "to", toForm) ∷ (bytes "stmts", stmtsForm) ∷ (bytes "goto", numberForm goto) ∷ (bytes "gosub", numberForm gosub) ∷ (bytes "return", bareForm (bare return))
     ∷ (bytes "run", runForm) ∷ (bytes "ongoto", numbersForm ongoto) ∷ (bytes "ongosub", numbersForm ongosub) ∷ (bytes "for", forForm) ∷ (bytes "next", nextForm)
-    ∷ (bytes "repeat", bareForm repeat) ∷ (bytes "loop", bareForm loop) ∷ (bytes "until", bareForm until) ∷ (bytes "endloop", bareForm endloop)
-    ∷ (bytes "exit", bareForm exit) ∷ (bytes "exitif", bareForm exitif) ∷ (bytes "doif", bareForm doif) ∷ (bytes "else", bareForm else) ∷ (bytes "done", bareForm done)
-    ∷ (bytes "clr", bareForm clr) ∷ (bytes "stop", bareForm stop) ∷ (bytes "any", bareForm any) ∷ (bytes "plain", bareForm Simple.plain) ∷ []
+    ∷ (bytes "repeat", bareForm (block repeat)) ∷ (bytes "loop", bareForm (block loop)) ∷ (bytes "until", bareForm (block until)) ∷ (bytes "endloop", bareForm (block endloop))
+    ∷ (bytes "exit", bareForm (block exit)) ∷ (bytes "exitif", bareForm (block exitif)) ∷ (bytes "doif", bareForm (block doif)) ∷ (bytes "else", bareForm (block else)) ∷ (bytes "done", bareForm (block done))
+    ∷ (bytes "clr", bareForm (bare clr)) ∷ (bytes "stop", bareForm (bare stop)) ∷ (bytes "any", bareForm (bare any)) ∷ (bytes "plain", bareForm (bare BareWord.plain)) ∷ []
 
 unfoldable pub lookup {ℓ} : {A : Type ℓ} → List (List ℕ × A) → List ℕ → Option A
 lookup [] w = none
@@ -190,8 +190,8 @@ single (w ∷ v ∷ ws) = malformed
 
 -- `(run)`, `(run N)`
 unfoldable pub runStmt : List (List ℕ) → Parse Counted
-runStmt [] = parsed (run, 0)
-runStmt (w ∷ ws) = mapParse (λ n. (runto n, 0)) (single (w ∷ ws))
+runStmt [] = parsed (bare run, 0)
+runStmt (w ∷ ws) = mapParse (λ n. (jump runto n, 0)) (single (w ∷ ws))
 
 -- `(for V T)`
 unfoldable pub forStmt : List (List ℕ) → Parse Counted
@@ -242,10 +242,10 @@ formContent nextForm true ws = simpleRow (nextStmt ws)
 formContent nextForm false ws = noForm
 formContent (bareForm o) true ws = simpleRow (bareStmt o ws)
 formContent (bareForm o) false ws = noForm
-formContent (numberForm f) true ws = simpleRow (mapParse (λ n. (f n, 0)) (single ws))
-formContent (numberForm f) false ws = noForm
-formContent (numbersForm f) true ws = simpleRow (mapParse (λ ns. (f ns, length ws)) (parseNumbers ws))
-formContent (numbersForm f) false ws = noForm
+formContent (numberForm k) true ws = simpleRow (mapParse (λ n. (jump k n, 0)) (single ws))
+formContent (numberForm k) false ws = noForm
+formContent (numbersForm k) true ws = simpleRow (mapParse (λ ns. (on k ns, length ws)) (parseNumbers ws))
+formContent (numbersForm k) false ws = noForm
 
 unfoldable pub wordContent : Option Form → Bool → List (List ℕ) → Content
 wordContent none c ws = noForm

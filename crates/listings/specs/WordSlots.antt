@@ -90,7 +90,7 @@ first-same (d ∷ ds) w h = go (same d w) refl (first-same ds w) h
 pub found : (w : List ℕ) (k : ℕ) → k ≡ candidateOf w → k < 28 → same (getD words k []) w ≡ true → k ≡ wordIndex w
 found w k q h e = sym (subst (λ (v : List ℕ). wordIndex v ≡ k) (same-equal (getD words k []) w e) (own-index k h))
 
-at-most : (w : List ℕ) → first words w ≤ 28
+pub at-most : (w : List ℕ) → first words w ≤ 28
 unfolding words openingWords
 at-most w = first-le words w
 

@@ -7,7 +7,7 @@ use native.Mathlib.Omega.{arith}
 use lib.Dec.{eqb}
 use lib.ListN.{length, length-append, getElem?}
 use Rattle.listings.specs.Bytes.{pick}
-use Rattle.listings.specs.Listing.{Simple, goto, gosub, return, run, runto, ongoto, ongosub, for, next, repeat, loop, until, endloop, exit, exitif, doif, else, done, clr, stop, any, Listing}
+use Rattle.listings.specs.Listing.{goto, gosub, runto, ongoto, ongosub, BareWord, return, run, clr, stop, any, Simple, jump, on, for, next, block, bare, Listing}
 use Rattle.graph.specs.Nodes.{NodeStmt, simple, cond, Node}
 use Rattle.graph.specs.Graph.{Role, call, returns, forgets, steps, noNode, simpleRole, stmtRole, roleOf, role, wire, base, returnEdges, successorsBy, successorsIn, successors}
 use Rattle.graph_laws.specs.GraphLaws.{nodeCount}
@@ -30,28 +30,20 @@ isNode noNode = false
 
 simple-node : (o : Simple) → isNode (simpleRole o) ≡ true
 unfolding isNode simpleRole
-simple-node (gosub t) = refl
-simple-node (ongosub ts) = refl
-simple-node return = refl
-simple-node run = refl
-simple-node (runto t) = refl
-simple-node clr = refl
-simple-node (goto t) = refl
-simple-node (ongoto ts) = refl
+simple-node (jump gosub t) = refl
+simple-node (on ongosub ts) = refl
+simple-node (bare return) = refl
+simple-node (bare run) = refl
+simple-node (jump runto t) = refl
+simple-node (bare clr) = refl
+simple-node (jump goto t) = refl
+simple-node (on ongoto ts) = refl
 simple-node (for v t) = refl
 simple-node (next m ss) = refl
-simple-node repeat = refl
-simple-node loop = refl
-simple-node until = refl
-simple-node endloop = refl
-simple-node exit = refl
-simple-node exitif = refl
-simple-node doif = refl
-simple-node else = refl
-simple-node done = refl
-simple-node stop = refl
-simple-node any = refl
-simple-node Simple.plain = refl
+simple-node (block w) = refl
+simple-node (bare stop) = refl
+simple-node (bare any) = refl
+simple-node (bare BareWord.plain) = refl
 
 stmt-node : (s : NodeStmt) → isNode (stmtRole s) ≡ true
 unfolding isNode stmtRole

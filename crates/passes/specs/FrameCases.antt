@@ -3,15 +3,15 @@ use Prim.Native.Nat.{ℕ}
 use mathlib.Core.Path.{_≡_, refl}
 use mathlib.Core.List.{List, [], _∷_, map}
 use mathlib.Core.Option.{none}
-use Rattle.listings.specs.Listing.{Simple, repeat, loop, until, endloop, exit, exitif, doif, else, done}
+use Rattle.listings.specs.Listing.{BlockWord, repeat, loop, until, endloop, exit, exitif, doif, else, done, block}
 use Rattle.graph.specs.Lists.{each, below}
 use Rattle.graph.specs.Nodes.{simple}
-use Rattle.graph.specs.Edges.{noMoves, onFors, onLoops, onDos, movesOf, nodeMoves}
+use Rattle.graph.specs.Edges.{movesOf, nodeMoves}
 use Rattle.graph_laws.specs.PerNode.{noOpeners, forOpenersAfter, openersAfter, after, meets, pops, factOf, facts, isClosing, isJoining}
 use Rattle.passes.specs.Frames.{eitherMet, frameMet, metNumber, closesFrame, isElseOf, firstWhere, nextWhere, metEntry, doMetOf, elseEntry, frameRow, frameRows}
 
-abbrev rowsOf : List Simple → List ℕ
-rowsOf l = frameRows (facts 0 (map (λ o. record { line = 0; number = 10; path = []; stmt = simple o; fall = none }) l) noOpeners)
+abbrev rowsOf : List BlockWord → List ℕ
+rowsOf l = frameRows (facts 0 (map (λ w. record { line = 0; number = 10; path = []; stmt = simple (block w); fall = none }) l) noOpeners)
 
 record Cases : Type 0 where
   -- C5 and C6
@@ -23,5 +23,5 @@ record Cases : Type 0 where
   crossed : rowsOf (doif ∷ repeat ∷ done ∷ until ∷ exit ∷ []) ≡ 0 ∷ 3 ∷ 0 ∷ 0 ∷ 4 ∷ 0 ∷ 1 ∷ 0 ∷ 0 ∷ 2 ∷ 0 ∷ 0 ∷ 0 ∷ 0 ∷ 0 ∷ []
 
 cases : Cases
-unfolding each below noMoves onFors onLoops onDos movesOf nodeMoves noOpeners forOpenersAfter openersAfter after meets pops factOf facts isClosing isJoining eitherMet frameMet metNumber closesFrame isElseOf firstWhere nextWhere metEntry doMetOf elseEntry frameRow frameRows
+unfolding each below movesOf nodeMoves noOpeners forOpenersAfter openersAfter after meets pops factOf facts isClosing isJoining eitherMet frameMet metNumber closesFrame isElseOf firstWhere nextWhere metEntry doMetOf elseEntry frameRow frameRows
 cases = record { exit-of-repeat = refl; exitif-of-loop = refl; elses = refl; crossed = refl }

@@ -1,6 +1,7 @@
 -- What tables that hold the graph of a listing say of its nodes. Assumes nothing.
 use Prim.Native.Nat.{ℕ, _+_, _*_, _≤_, _<_}
 use mathlib.Core.Path.{_≡_, refl, sym, ap, _∙_}
+use mathlib.Core.Bool.{Bool, false}
 use mathlib.Core.List.{List, [], _++_}
 use mathlib.Core.Option.{Option, none, some}
 use native.Mathlib.Omega.{arith}
@@ -8,9 +9,10 @@ use lib.ListN.{length, getD, getElem?, take, drop, replicate, length-append, len
 use lib.Seq.{take-at}
 use Rattle.listings.specs.Bytes.{pick, bytes, same}
 use Rattle.listings.specs.Rows.{openingWords}
-use Rattle.listings.specs.Listing.{Simple, goto, gosub, return, run, runto, ongoto, ongosub, for, next, repeat, loop, until, endloop, exit, exitif, doif, else, done, clr, stop, any, if, ifelse, rcomp, Listing}
+use Rattle.listings.specs.Listing.{goto, gosub, runto, ongoto, ongosub, BlockWord, BareWord, return, run, clr, stop, any, jump, on, for, next, block, bare, if, ifelse, rcomp, Listing}
 use Rattle.listings.specs.ListingText.{simpleWord, condWord}
 use Rattle.listings.specs.WordTable.{words, first, wordIndex}
+use Rattle.listings.specs.WordKinds.{block-never}
 use Rattle.listings.specs.Records.{padded}
 use Rattle.reader.specs.Tables.{drop-zeros}
 use Rattle.graph.specs.Lists.{list}
@@ -35,31 +37,28 @@ module _ (ls : List (List ℕ)) (table rest : List ℕ) (e : table ≡ joinedLis
 
 -- ---- continuations
 
+-- a word of a loop or a DO is no call
+block-call : (w : BlockWord) → callWord (stmtNumber (simple (block w))) ≡ false
+unfolding callWord stmtNumber stmtWord simpleWord
+block-call w = block-never callWord refl w
+
 -- "here only GOSUB and ON GOSUB are calls": by the number of the word
 call-of : (s : NodeStmt) (e : Option ℕ) → continuationBy (stmtRole s) e ≡ pick (callWord (stmtNumber s)) (list e) []
 unfolding continuationBy stmtRole simpleRole callWord stmtNumber stmtWord simpleWord condWord wordIndex words first same bytes openingWords
-call-of (simple (goto t)) e = refl
-call-of (simple (gosub t)) e = refl
-call-of (simple return) e = refl
-call-of (simple run) e = refl
-call-of (simple (runto t)) e = refl
-call-of (simple (ongoto ts)) e = refl
-call-of (simple (ongosub ts)) e = refl
+call-of (simple (jump goto t)) e = refl
+call-of (simple (jump gosub t)) e = refl
+call-of (simple (jump runto t)) e = refl
+call-of (simple (on ongoto ts)) e = refl
+call-of (simple (on ongosub ts)) e = refl
 call-of (simple (for v t)) e = refl
 call-of (simple (next m ss)) e = refl
-call-of (simple repeat) e = refl
-call-of (simple loop) e = refl
-call-of (simple until) e = refl
-call-of (simple endloop) e = refl
-call-of (simple exit) e = refl
-call-of (simple exitif) e = refl
-call-of (simple doif) e = refl
-call-of (simple else) e = refl
-call-of (simple done) e = refl
-call-of (simple clr) e = refl
-call-of (simple stop) e = refl
-call-of (simple any) e = refl
-call-of (simple Simple.plain) e = refl
+call-of (simple (block w)) e = sym (ap (λ (x : Bool). pick x (list e) []) (block-call w))
+call-of (simple (bare return)) e = refl
+call-of (simple (bare run)) e = refl
+call-of (simple (bare clr)) e = refl
+call-of (simple (bare stop)) e = refl
+call-of (simple (bare any)) e = refl
+call-of (simple (bare BareWord.plain)) e = refl
 call-of (cond if a b) e = refl
 call-of (cond ifelse a b) e = refl
 call-of (cond rcomp a b) e = refl

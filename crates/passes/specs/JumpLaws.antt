@@ -12,7 +12,7 @@ use lib.ListN.{length, length-replicate, getD, getElem?, set, take, drop, replic
 use lib.Seq.{sets, take-at, take-suc, take-all, take-append-seam, drop-append-add, set-append-left}
 use Rattle.listings.specs.Bytes.{pick, bytes, same}
 use Rattle.listings.specs.Every.{all[], all∷}
-use Rattle.listings.specs.Listing.{Simple, goto, gosub, return, run, runto, ongoto, ongosub, for, next, repeat, loop, until, endloop, exit, exitif, doif, else, done, clr, stop, any, if, ifelse, rcomp, Lines, total}
+use Rattle.listings.specs.Listing.{goto, gosub, runto, ongoto, ongosub, jump, on, for, next, block, bare, if, ifelse, rcomp, Lines, total}
 use Rattle.listings.specs.ListingText.{simpleWord, condWord, LinesOk}
 use Rattle.listings.specs.Records.{Rec, argsOf, lineRecs, recRow, argRows, padded, joined, argRow}
 use Rattle.reader.specs.Tables.{Wide, set-past}
@@ -155,31 +155,22 @@ few-at i r all[] e = absurd (let z : _≡_ {A = ℕ} 0 1 = cc in omega arith)
 few-at zero r (all∷ {a = q} h hs) e = let p : q ≡ r = cc in rw (← p) (row-few q h)
 few-at (suc i) r (all∷ h hs) e = few-at i r hs e
 
+none-either : (x : Bool) (l : List ℕ) → l ≡ [] → pick x l [] ≡ []
+none-either true l h = h
+none-either false l h = refl
+
 -- the arguments that are line numbers, by the record's word
 by-word : (x : NodeStmt) (i : ℕ) (r : Rec) → StmtIs i x r → pick (namesLines (stmtNumber x)) (r .args) [] ≡ stmtTargets x
 unfolding namesLines stmtNumber stmtWord stmtTargets onSimple jumpTargets argsOf wordIndex words first openingWords bytes same simpleWord condWord
-by-word (simple (goto n)) i r h = h .1
-by-word (simple (gosub n)) i r h = h .1
-by-word (simple return) i r h = refl
-by-word (simple run) i r h = h .1
-by-word (simple (runto n)) i r h = h .1
-by-word (simple (ongoto ns)) i r h = h .1
-by-word (simple (ongosub ns)) i r h = h .1
+by-word (simple (jump goto n)) i r h = h .1
+by-word (simple (jump gosub n)) i r h = h .1
+by-word (simple (jump runto n)) i r h = h .1
+by-word (simple (on ongoto ns)) i r h = h .1
+by-word (simple (on ongosub ns)) i r h = h .1
 by-word (simple (for v t)) i r h = refl
 by-word (simple (next m ss)) i r h = refl
-by-word (simple repeat) i r h = refl
-by-word (simple loop) i r h = refl
-by-word (simple until) i r h = refl
-by-word (simple endloop) i r h = refl
-by-word (simple exit) i r h = refl
-by-word (simple exitif) i r h = refl
-by-word (simple doif) i r h = refl
-by-word (simple else) i r h = refl
-by-word (simple done) i r h = refl
-by-word (simple clr) i r h = refl
-by-word (simple stop) i r h = refl
-by-word (simple any) i r h = refl
-by-word (simple Simple.plain) i r h = refl
+by-word (simple (block w)) i r h = none-either (namesLines (stmtNumber (simple (block w)))) (r .args) (h .1)
+by-word (simple (bare w)) i r h = none-either (namesLines (stmtNumber (simple (bare w)))) (r .args) (h .1)
 by-word (cond if a b) i r h = refl
 by-word (cond ifelse a b) i r h = refl
 by-word (cond rcomp a b) i r h = refl

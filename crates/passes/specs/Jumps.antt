@@ -8,7 +8,7 @@ use lib.ListN.{take}
 use lib.Seq.{sets}
 use Rattle.layout.specs.Layout.{gotoWord, returnWord, ongosubWord}
 use Rattle.listings.specs.Bytes.{pick}
-use Rattle.listings.specs.Listing.{Simple, goto, gosub, return, run, runto, ongoto, ongosub, for, next, repeat, loop, until, endloop, exit, exitif, doif, else, done, clr, stop, any, Lines}
+use Rattle.listings.specs.Listing.{Simple, jump, on, for, next, block, bare, Lines}
 use Rattle.listings.specs.ListingText.{LinesOk}
 use Rattle.graph_laws.specs.Adding.{nodeNumber}
 use Rattle.graph.specs.Nodes.{NodeStmt, Node, Entries, entryOf, entries, nodes}
@@ -18,28 +18,12 @@ use Rattle.passes.specs.LineSearch.{EntryTable}
 
 -- the line numbers that a statement names
 unfoldable pub jumpTargets : Simple → List ℕ
-jumpTargets (goto n) = n ∷ []
-jumpTargets (gosub n) = n ∷ []
-jumpTargets return = []
-jumpTargets run = []
-jumpTargets (runto n) = n ∷ []
-jumpTargets (ongoto ns) = ns
-jumpTargets (ongosub ns) = ns
+jumpTargets (jump w n) = n ∷ []
+jumpTargets (on w ns) = ns
 jumpTargets (for v t) = []
 jumpTargets (next m ss) = []
-jumpTargets repeat = []
-jumpTargets loop = []
-jumpTargets until = []
-jumpTargets endloop = []
-jumpTargets exit = []
-jumpTargets exitif = []
-jumpTargets doif = []
-jumpTargets else = []
-jumpTargets done = []
-jumpTargets clr = []
-jumpTargets stop = []
-jumpTargets any = []
-jumpTargets Simple.plain = []
+jumpTargets (block w) = []
+jumpTargets (bare w) = []
 
 unfoldable pub stmtTargets : NodeStmt → List ℕ
 stmtTargets s = onSimple jumpTargets [] s

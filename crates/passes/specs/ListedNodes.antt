@@ -11,10 +11,11 @@ use lib.Seq.{ext-getD, getD-take, getD-drop, length-take-le}
 use borrow.Author.Tests.{eq-eqb, ne-eqb, eqb-false}
 use Rattle.layout.specs.Layout.{nextWord}
 use Rattle.listings.specs.Bytes.{same, bytes}
-use Rattle.listings.specs.Listing.{Name, Tier, Mark, Slot, Simple, goto, gosub, return, run, runto, ongoto, ongosub, for, next, repeat, loop, until, endloop, exit, exitif, doif, else, done, clr, stop, any, if, ifelse, rcomp}
+use Rattle.listings.specs.Listing.{Name, Tier, Mark, Slot, JumpWord, OnWord, BlockWord, BareWord, Simple, jump, on, for, next, block, bare, if, ifelse, rcomp}
 use Rattle.listings.specs.ListingText.{simpleWord, condWord, NameOk, SimpleOk}
 use Rattle.listings.specs.Rows.{openingWords}
 use Rattle.listings.specs.WordTable.{words, first, wordIndex}
+use Rattle.listings.specs.WordKinds.{jump-never, on-never, block-never, bare-never}
 use Rattle.listings.specs.WordText.{same-equal}
 use Rattle.listings.specs.Records.{nameKey, argsOf, detailOf}
 use Rattle.tokens.specs.Names.{key-injective, key-not-zero}
@@ -22,7 +23,7 @@ use Rattle.graph_laws.specs.Adding.{nodeNumber}
 use Rattle.graph.specs.Nodes.{NodeStmt, simple, cond, Node}
 use Rattle.graph.specs.NodeWords.{stmtWord, stmtNumber}
 use Rattle.graph.specs.Targets.{onFor, onNext, onSimple, dispatchTarget, orphanEdges}
-use Rattle.graph.specs.Edges.{keepFors, onFors, onLoops, onDos, noMoves, movesOf, nodeMoves}
+use Rattle.graph.specs.Edges.{keepFors, Stack, loopStack, doStack, Move, ruleOf, onStack, noMoves, movesOf, nodeMoves}
 use Rattle.passes.specs.LineEntries.{at-place}
 
 -- ts: 12 entries a statement; ks: 64 arguments a statement. Of statement i, which holds no others:
@@ -86,30 +87,26 @@ neither : {s : NodeStmt} → eqb (stmtNumber s) 13 ≡ false → eqb (stmtNumber
     → ((e : Option ℕ) → onSimple (onFor (λ v t. dispatchTarget v t e) []) [] s ≡ []) → ((ds : List (Name × ℕ)) → orphanEdges ds s ≡ []) → ForKind s
 neither f n k d o = isOther (record { not-for = f; not-next = n; keeps = k; no-dispatch = d; no-orphan = o })
 
+fors-kept : (s : Stack) (m : Move) → (onStack s m) .fors ≡ keepFors
+unfolding onStack
+fors-kept loopStack m = refl
+fors-kept doStack m = refl
+
+-- the words are tested by kind, and not computed
+simple-kind : (o : Simple) → ForKind (simple o)
+unfolding stmtNumber stmtWord simpleWord nodeMoves movesOf noMoves onSimple onFor onNext orphanEdges
+simple-kind (for v t) = isFor v t
+simple-kind (next m ss) = isNext m ss
+simple-kind (jump w t) = neither (jump-never (λ k. eqb k 13) refl w) (jump-never (λ k. eqb k 14) refl w) refl (λ e. refl) (λ ds. refl)
+simple-kind (on w ts) = neither (on-never (λ k. eqb k 13) refl w) (on-never (λ k. eqb k 14) refl w) refl (λ e. refl) (λ ds. refl)
+simple-kind (block w) =
+    let r = ruleOf w in
+    neither (block-never (λ k. eqb k 13) refl w) (block-never (λ k. eqb k 14) refl w) (fors-kept (r .stack) (r .move)) (λ e. refl) (λ ds. refl)
+simple-kind (bare w) = neither (bare-never (λ k. eqb k 13) refl w) (bare-never (λ k. eqb k 14) refl w) refl (λ e. refl) (λ ds. refl)
+
 pub for-kind : (s : NodeStmt) → ForKind s
-unfolding stmtNumber stmtWord simpleWord condWord wordIndex words first same bytes openingWords nodeMoves movesOf onFors onLoops onDos noMoves onSimple onFor onNext orphanEdges
-for-kind (simple (for v t)) = isFor v t
-for-kind (simple (next m ss)) = isNext m ss
-for-kind (simple (goto t)) = neither refl refl refl (λ e. refl) (λ ds. refl)
-for-kind (simple (gosub t)) = neither refl refl refl (λ e. refl) (λ ds. refl)
-for-kind (simple return) = neither refl refl refl (λ e. refl) (λ ds. refl)
-for-kind (simple run) = neither refl refl refl (λ e. refl) (λ ds. refl)
-for-kind (simple (runto t)) = neither refl refl refl (λ e. refl) (λ ds. refl)
-for-kind (simple (ongoto ts)) = neither refl refl refl (λ e. refl) (λ ds. refl)
-for-kind (simple (ongosub ts)) = neither refl refl refl (λ e. refl) (λ ds. refl)
-for-kind (simple repeat) = neither refl refl refl (λ e. refl) (λ ds. refl)
-for-kind (simple loop) = neither refl refl refl (λ e. refl) (λ ds. refl)
-for-kind (simple until) = neither refl refl refl (λ e. refl) (λ ds. refl)
-for-kind (simple endloop) = neither refl refl refl (λ e. refl) (λ ds. refl)
-for-kind (simple exit) = neither refl refl refl (λ e. refl) (λ ds. refl)
-for-kind (simple exitif) = neither refl refl refl (λ e. refl) (λ ds. refl)
-for-kind (simple doif) = neither refl refl refl (λ e. refl) (λ ds. refl)
-for-kind (simple else) = neither refl refl refl (λ e. refl) (λ ds. refl)
-for-kind (simple done) = neither refl refl refl (λ e. refl) (λ ds. refl)
-for-kind (simple clr) = neither refl refl refl (λ e. refl) (λ ds. refl)
-for-kind (simple stop) = neither refl refl refl (λ e. refl) (λ ds. refl)
-for-kind (simple any) = neither refl refl refl (λ e. refl) (λ ds. refl)
-for-kind (simple Simple.plain) = neither refl refl refl (λ e. refl) (λ ds. refl)
+unfolding stmtNumber stmtWord condWord wordIndex words first same bytes openingWords nodeMoves noMoves onSimple orphanEdges
+for-kind (simple o) = simple-kind o
 for-kind (cond if a b) = neither refl refl refl (λ e. refl) (λ ds. refl)
 for-kind (cond ifelse a b) = neither refl refl refl (λ e. refl) (λ ds. refl)
 for-kind (cond rcomp a b) = neither refl refl refl (λ e. refl) (λ ds. refl)

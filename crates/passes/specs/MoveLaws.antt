@@ -10,12 +10,12 @@ use borrow.Author.Tests.{eq-eqb, ne-eqb, lt-ltb, le-ltb}
 use Rattle.layout.specs.Layout.{exitWord, exitifWord}
 use Rattle.listings.specs.Bytes.{same, pick, bytes}
 use Rattle.listings.specs.Rows.{openingWords}
-use Rattle.listings.specs.Listing.{Simple, goto, gosub, return, run, runto, ongoto, ongosub, for, next, repeat, loop, until, endloop, exit, exitif, doif, else, done, clr, stop, any, if, ifelse, rcomp}
+use Rattle.listings.specs.Listing.{goto, gosub, runto, ongoto, ongosub, BlockWord, repeat, loop, until, endloop, exit, exitif, doif, else, done, BareWord, return, run, clr, stop, any, jump, on, for, next, block, bare, if, ifelse, rcomp}
 use Rattle.listings.specs.ListingText.{simpleWord, condWord}
 use Rattle.listings.specs.WordTable.{words, first, wordIndex}
 use Rattle.graph.specs.Nodes.{NodeStmt, simple, cond}
 use Rattle.graph.specs.NodeWords.{stmtWord, stmtNumber}
-use Rattle.graph.specs.Edges.{Move, stays, opens, closes, joins, onFors, onLoops, onDos, noMoves, movesOf, nodeMoves, Stack, loopStack, doStack}
+use Rattle.graph.specs.Edges.{Move, stays, opens, closes, joins, onFors, noMoves, movesOf, nodeMoves, Stack, loopStack, doStack}
 use Rattle.graph_laws.specs.PerNode.{moveOn}
 use Rattle.graph_laws.specs.Distinct.{or-none}
 use Rattle.passes.specs.Frames.{loopMove, doMove, wordMove}
@@ -26,30 +26,34 @@ record Both (s : NodeStmt) : Type 0 where
   loops : loopMove (stmtNumber s) ≡ nodeMoves s .loops
   dos : doMove (stmtNumber s) ≡ nodeMoves s .dos
 
+block-both : (w : BlockWord) → Both (simple (block w))
+unfolding stmtNumber stmtWord simpleWord wordIndex words first openingWords bytes same loopMove doMove nodeMoves movesOf
+block-both repeat = record { loops = refl; dos = refl }
+block-both loop = record { loops = refl; dos = refl }
+block-both until = record { loops = refl; dos = refl }
+block-both endloop = record { loops = refl; dos = refl }
+block-both exit = record { loops = refl; dos = refl }
+block-both exitif = record { loops = refl; dos = refl }
+block-both doif = record { loops = refl; dos = refl }
+block-both else = record { loops = refl; dos = refl }
+block-both done = record { loops = refl; dos = refl }
+
 both : (s : NodeStmt) → Both s
-unfolding stmtNumber stmtWord simpleWord condWord wordIndex words first openingWords bytes same loopMove doMove nodeMoves movesOf onFors onLoops onDos noMoves
-both (simple (goto t)) = record { loops = refl; dos = refl }
-both (simple (gosub t)) = record { loops = refl; dos = refl }
-both (simple return) = record { loops = refl; dos = refl }
-both (simple run) = record { loops = refl; dos = refl }
-both (simple (runto t)) = record { loops = refl; dos = refl }
-both (simple (ongoto ts)) = record { loops = refl; dos = refl }
-both (simple (ongosub ts)) = record { loops = refl; dos = refl }
+unfolding stmtNumber stmtWord simpleWord condWord wordIndex words first openingWords bytes same loopMove doMove nodeMoves movesOf onFors noMoves
+both (simple (jump goto t)) = record { loops = refl; dos = refl }
+both (simple (jump gosub t)) = record { loops = refl; dos = refl }
+both (simple (jump runto t)) = record { loops = refl; dos = refl }
+both (simple (on ongoto ts)) = record { loops = refl; dos = refl }
+both (simple (on ongosub ts)) = record { loops = refl; dos = refl }
 both (simple (for v t)) = record { loops = refl; dos = refl }
 both (simple (next m ss)) = record { loops = refl; dos = refl }
-both (simple repeat) = record { loops = refl; dos = refl }
-both (simple loop) = record { loops = refl; dos = refl }
-both (simple until) = record { loops = refl; dos = refl }
-both (simple endloop) = record { loops = refl; dos = refl }
-both (simple exit) = record { loops = refl; dos = refl }
-both (simple exitif) = record { loops = refl; dos = refl }
-both (simple doif) = record { loops = refl; dos = refl }
-both (simple else) = record { loops = refl; dos = refl }
-both (simple done) = record { loops = refl; dos = refl }
-both (simple clr) = record { loops = refl; dos = refl }
-both (simple stop) = record { loops = refl; dos = refl }
-both (simple any) = record { loops = refl; dos = refl }
-both (simple Simple.plain) = record { loops = refl; dos = refl }
+both (simple (block w)) = block-both w
+both (simple (bare return)) = record { loops = refl; dos = refl }
+both (simple (bare run)) = record { loops = refl; dos = refl }
+both (simple (bare clr)) = record { loops = refl; dos = refl }
+both (simple (bare stop)) = record { loops = refl; dos = refl }
+both (simple (bare any)) = record { loops = refl; dos = refl }
+both (simple (bare BareWord.plain)) = record { loops = refl; dos = refl }
 both (cond if a b) = record { loops = refl; dos = refl }
 both (cond ifelse a b) = record { loops = refl; dos = refl }
 both (cond rcomp a b) = record { loops = refl; dos = refl }

@@ -15,7 +15,7 @@ use Rattle.graph_laws.specs.Members.{all-at}
 use Rattle.graph.specs.Nodes.{simple, Node, Entries, entries as entriesOf}
 use Rattle.graph.specs.NodeWords.{stmtNumber}
 use Rattle.graph.specs.Targets.{targetEntries}
-use Rattle.graph.specs.Edges.{closes, Moves, onLoops, nodeMoves, loopStack, doStack}
+use Rattle.graph.specs.Edges.{closes, Moves, onStack, nodeMoves, loopStack, doStack}
 use Rattle.graph.specs.Graph.{wire}
 use Rattle.graph_laws.specs.GraphLaws.{nodeCount, fits}
 use Rattle.graph_laws.specs.EdgeBounds.{Ids}
@@ -153,8 +153,8 @@ module _ {L : Listing} {stmts ks entries falls links frames dispatched : List �
     pub opener-fits : getD frames (i * 3) 0 * 3 ≤ length falls
     opener-fits = omega (arith, met-number, met-within i (frameMet f) (frame-below stmts (wire L .nodes) (λ j y e. P .listed j y e .word) i f ef), P .falls-fit)
 
-    pub body-of : nodeMoves (x .stmt) ≡ onLoops closes → BodyIs falls (getD frames (i * 3) 0) (bodyMet (facts 0 (wire L .nodes) noOpeners) (f .loopMet))
-    unfolding onLoops metOn moveOn meets frameMet
+    pub body-of : nodeMoves (x .stmt) ≡ onStack loopStack closes → BodyIs falls (getD frames (i * 3) 0) (bodyMet (facts 0 (wire L .nodes) noOpeners) (f .loopMet))
+    unfolding onStack metOn moveOn meets frameMet
     body-of q =
         let F = facts 0 (wire L .nodes) noOpeners in
         let os = openAt loopStack (wire L .nodes) i in

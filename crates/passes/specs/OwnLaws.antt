@@ -8,7 +8,7 @@ use borrow.Author.Tests.{ne-eqb}
 use lib.ListN.{length, getD, take, drop}
 use lib.Seq.{drop-cons}
 use Rattle.listings.specs.Bytes.{same, bytes}
-use Rattle.listings.specs.Listing.{Mark, Slot, Simple, goto, gosub, return, run, runto, ongoto, ongosub, for, next, repeat, loop, until, endloop, exit, exitif, doif, else, done, clr, stop, any, CondWord, if, ifelse, rcomp}
+use Rattle.listings.specs.Listing.{Mark, Slot, goto, gosub, runto, ongoto, ongosub, BlockWord, repeat, loop, until, endloop, exit, exitif, doif, else, done, BareWord, return, run, clr, stop, any, Simple, jump, on, for, next, block, bare, CondWord, if, ifelse, rcomp}
 use Rattle.listings.specs.ListingText.{simpleWord, condWord}
 use Rattle.listings.specs.Rows.{openingWords}
 use Rattle.listings.specs.WordTable.{words, first, wordIndex}
@@ -18,7 +18,7 @@ use Rattle.graph_laws.specs.Adding.{decode}
 use Rattle.graph.specs.Nodes.{BranchTarget, simple, cond, Entries, entryOf}
 use Rattle.graph.specs.NodeWords.{stmtWord, stmtNumber}
 use Rattle.graph.specs.Targets.{targetEntries, branchEdges}
-use Rattle.graph.specs.Edges.{closes, onLoops, movesOf, closerEdges, ownSimple, own}
+use Rattle.graph.specs.Edges.{closes, loopStack, onStack, movesOf, closerEdges, ownBlock, ownSimple, own}
 use Rattle.passes.specs.Jumps.{jumpTargets}
 use Rattle.passes.specs.ForLinks.{poppedBy}
 use Rattle.passes.specs.NextBodies.{bodyAt, linkBody}
@@ -57,32 +57,37 @@ module _ (ts en fs ls fr : List ℕ) (lines i : ℕ) (es : Entries) (e : Option 
   until-is zero q no-frame = rw q
   until-is (suc o) q (closes-frame p) = rw (q, ne-eqb (suc o) 0 (λ x. omega arith), p, append-nil, fall)
 
+  own-block : (w : BlockWord) → getD ts (i * 12) 0 ≡ stmtNumber (simple (block w)) → (movesOf (block w) ≡ onStack loopStack closes → BodyIs fs (getD fr (i * 3) 0) b)
+      → ownEdges ts en fs ls fr lines i ≡ ownSimple es (block w) e bs b
+  unfolding ownBlock ownSimple ownEdges blockEdges fallsWord wordOf fallEntry stmtNumber stmtWord simpleWord wordIndex words first same bytes openingWords movesOf
+  own-block repeat h m = rw h fall
+  own-block loop h m = rw h fall
+  own-block exit h m = rw h
+  own-block exitif h m = rw h fall
+  own-block until h m = rw h (until-is (getD fr (i * 3) 0) refl (m refl))
+  own-block endloop h m = rw h (endloop-is (getD fr (i * 3) 0) refl (m refl))
+  own-block doif h m = rw h fall
+  own-block else h m = rw h
+  own-block done h m = rw h fall
+
   module _ (first-is : each decode (take 1 (entryColumn 1 lines en)) ≡ list (es .first)) (all-are : each decode (entryColumn 1 lines en) ≡ es .all) where
     pub own-simple : (o : Simple) → getD ts (i * 12) 0 ≡ stmtNumber (simple o) → getD ts (i * 12 + 10) 0 ≡ length (argsOf o)
         → ((stmtNumber (simple o) ≡ 14 → ⊥) → argsOf o ≡ jumpTargets o → linkEntries ts ls i ≡ targetEntries es (jumpTargets o))
         → ((m : Mark) (ss : List Slot) → o ≡ next m ss → each (bodyAt fs) (poppedBy ls i (getD ts (i * 12 + 10) 0)) ≡ bs)
-        → (movesOf o ≡ onLoops closes → BodyIs fs (getD fr (i * 3) 0) b)
+        → (movesOf o ≡ onStack loopStack closes → BodyIs fs (getD fr (i * 3) 0) b)
         → ownEdges ts en fs ls fr lines i ≡ ownSimple es o e bs b
-    unfolding ownSimple ownEdges runEdges jumpEdges nextEdges blockEdges fallsWord wordOf fallEntry stmtNumber stmtWord simpleWord wordIndex words first same bytes openingWords argsOf jumpTargets targetEntries each movesOf onLoops
-    own-simple Simple.plain h c t p m = rw h fall
-    own-simple clr h c t p m = rw h fall
-    own-simple (goto x) h c t p m = rw h (append-nil (linkEntries ts ls i) ∙ t (λ q. omega arith) refl ∙ append-nil (list (entryOf es x)))
-    own-simple (gosub x) h c t p m = rw h (append-nil (linkEntries ts ls i) ∙ t (λ q. omega arith) refl ∙ append-nil (list (entryOf es x)))
-    own-simple (runto x) h c t p m = rw (h, c) (t (λ q. omega arith) refl ∙ append-nil (list (entryOf es x)))
-    own-simple (ongoto xs) h c t p m = rw (h, t (λ q. omega arith) refl, fall)
-    own-simple (ongosub xs) h c t p m = rw (h, t (λ q. omega arith) refl, fall)
-    own-simple run h c t p m = rw (h, c) first-is
-    own-simple stop h c t p m = rw h
-    own-simple any h c t p m = rw h all-are
+    unfolding ownSimple ownEdges runEdges jumpEdges nextEdges blockEdges fallsWord wordOf fallEntry stmtNumber stmtWord simpleWord wordIndex words first same bytes openingWords argsOf jumpTargets targetEntries each
+    own-simple (bare BareWord.plain) h c t p m = rw h fall
+    own-simple (bare clr) h c t p m = rw h fall
+    own-simple (jump goto x) h c t p m = rw h (append-nil (linkEntries ts ls i) ∙ t (λ q. omega arith) refl ∙ append-nil (list (entryOf es x)))
+    own-simple (jump gosub x) h c t p m = rw h (append-nil (linkEntries ts ls i) ∙ t (λ q. omega arith) refl ∙ append-nil (list (entryOf es x)))
+    own-simple (jump runto x) h c t p m = rw (h, c) (t (λ q. omega arith) refl ∙ append-nil (list (entryOf es x)))
+    own-simple (on ongoto xs) h c t p m = rw (h, t (λ q. omega arith) refl, fall)
+    own-simple (on ongosub xs) h c t p m = rw (h, t (λ q. omega arith) refl, fall)
+    own-simple (bare run) h c t p m = rw (h, c) first-is
+    own-simple (bare stop) h c t p m = rw h
+    own-simple (bare any) h c t p m = rw h all-are
     own-simple (for v x) h c t p m = rw h fall
     own-simple (next x ss) h c t p m = rw (h, p x ss refl, fall)
-    own-simple repeat h c t p m = rw h fall
-    own-simple loop h c t p m = rw h fall
-    own-simple exit h c t p m = rw h
-    own-simple exitif h c t p m = rw h fall
-    own-simple until h c t p m = rw h (until-is (getD fr (i * 3) 0) refl (m refl))
-    own-simple endloop h c t p m = rw h (endloop-is (getD fr (i * 3) 0) refl (m refl))
-    own-simple doif h c t p m = rw h fall
-    own-simple else h c t p m = rw h
-    own-simple done h c t p m = rw h fall
-    own-simple return h c t p m = rw h (append-nil (linkEntries ts ls i) ∙ t (λ q. omega arith) refl)
+    own-simple (block w) h c t p m = own-block w h m
+    own-simple (bare return) h c t p m = rw h (append-nil (linkEntries ts ls i) ∙ t (λ q. omega arith) refl)

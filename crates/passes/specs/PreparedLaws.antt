@@ -10,10 +10,11 @@ use lib.Dec.{eqb}
 use lib.ListN.{length, getD, getElem?, take, drop, replicate, length-replicate, length-drop}
 use lib.Seq.{ext-getD, getD-take, getD-drop, length-take-le}
 use Rattle.listings.specs.Bytes.{pick, same, bytes}
-use Rattle.listings.specs.Listing.{Simple, goto, gosub, return, run, runto, ongoto, ongosub, for, next, repeat, loop, until, endloop, exit, exitif, doif, else, done, clr, stop, any, if, ifelse, rcomp, Listing}
+use Rattle.listings.specs.Listing.{goto, gosub, runto, ongoto, ongosub, BlockWord, BareWord, return, run, clr, stop, any, Simple, jump, on, for, next, block, bare, if, ifelse, rcomp, Listing}
 use Rattle.listings.specs.ListingText.{simpleWord, condWord}
 use Rattle.listings.specs.Rows.{openingWords}
 use Rattle.listings.specs.WordTable.{words, first, wordIndex}
+use Rattle.listings.specs.WordKinds.{block-never}
 use Rattle.listings.specs.Records.{argsOf}
 use Rattle.graph.specs.Lists.{addAll, each, list}
 use Rattle.graph_laws.specs.Adding.{nodeNumber, decode, decode-number}
@@ -57,9 +58,9 @@ unfolding isCall isReturn continuationBy calleesBy skipStepsBy
 steps-pass = record { no-call = refl; no-return = refl; no-continuation = λ e. refl; no-callees = λ es. refl; goes = λ e l. refl }
 
 data CallKind : NodeStmt → Role → Type 0 where
-  isGosub : (t : ℕ) → CallKind (simple (gosub t)) (call false (t ∷ []))
-  isOnGosub : (ts : List ℕ) → CallKind (simple (ongosub ts)) (call true ts)
-  isBack : CallKind (simple return) returns
+  isGosub : (t : ℕ) → CallKind (simple (jump gosub t)) (call false (t ∷ []))
+  isOnGosub : (ts : List ℕ) → CallKind (simple (on ongosub ts)) (call true ts)
+  isBack : CallKind (simple (bare return)) returns
   isOther : {s : NodeStmt} {q : Role} → callWord (stmtNumber s) ≡ false → eqb (stmtNumber s) 9 ≡ false → Passes q → CallKind s q
 
 forget : {s : NodeStmt} → callWord (stmtNumber s) ≡ false → eqb (stmtNumber s) 9 ≡ false → CallKind s forgets
@@ -68,30 +69,26 @@ forget a b = isOther a b forgets-pass
 step : {s : NodeStmt} → callWord (stmtNumber s) ≡ false → eqb (stmtNumber s) 9 ≡ false → CallKind s steps
 step a b = isOther a b steps-pass
 
+block-kind : (w : BlockWord) → CallKind (simple (block w)) steps
+unfolding callWord stmtNumber stmtWord simpleWord
+block-kind w = step (block-never callWord refl w) (block-never (λ k. eqb k 9) refl w)
+
 call-kind : (s : NodeStmt) → CallKind s (stmtRole s)
 unfolding stmtRole simpleRole callWord stmtNumber stmtWord simpleWord condWord wordIndex words first same bytes openingWords
-call-kind (simple (gosub t)) = isGosub t
-call-kind (simple (ongosub ts)) = isOnGosub ts
-call-kind (simple return) = isBack
-call-kind (simple run) = forget refl refl
-call-kind (simple (runto t)) = forget refl refl
-call-kind (simple clr) = forget refl refl
-call-kind (simple (goto t)) = step refl refl
-call-kind (simple (ongoto ts)) = step refl refl
+call-kind (simple (jump gosub t)) = isGosub t
+call-kind (simple (on ongosub ts)) = isOnGosub ts
+call-kind (simple (bare return)) = isBack
+call-kind (simple (bare run)) = forget refl refl
+call-kind (simple (jump runto t)) = forget refl refl
+call-kind (simple (bare clr)) = forget refl refl
+call-kind (simple (jump goto t)) = step refl refl
+call-kind (simple (on ongoto ts)) = step refl refl
 call-kind (simple (for v t)) = step refl refl
 call-kind (simple (next m ss)) = step refl refl
-call-kind (simple repeat) = step refl refl
-call-kind (simple loop) = step refl refl
-call-kind (simple until) = step refl refl
-call-kind (simple endloop) = step refl refl
-call-kind (simple exit) = step refl refl
-call-kind (simple exitif) = step refl refl
-call-kind (simple doif) = step refl refl
-call-kind (simple else) = step refl refl
-call-kind (simple done) = step refl refl
-call-kind (simple stop) = step refl refl
-call-kind (simple any) = step refl refl
-call-kind (simple Simple.plain) = step refl refl
+call-kind (simple (block w)) = block-kind w
+call-kind (simple (bare stop)) = step refl refl
+call-kind (simple (bare any)) = step refl refl
+call-kind (simple (bare BareWord.plain)) = step refl refl
 call-kind (cond if a b) = step refl refl
 call-kind (cond ifelse a b) = step refl refl
 call-kind (cond rcomp a b) = step refl refl
@@ -107,15 +104,15 @@ call-moves s h = go s (stmtRole s) (call-kind s) h
     go s q isBack h = refl
     go s q (isOther a b p) h = absurd (let y : _≡_ {A = Bool} true false = sym h ∙ a in let z : _≡_ {A = ℕ} 0 1 = cc in omega arith)
 
-pub gosub-number : (t : ℕ) → stmtNumber (simple (gosub t)) ≡ 8
+pub gosub-number : (t : ℕ) → stmtNumber (simple (jump gosub t)) ≡ 8
 unfolding stmtNumber stmtWord simpleWord wordIndex words first same bytes openingWords
 gosub-number t = refl
 
-pub ongosub-number : (ts : List ℕ) → stmtNumber (simple (ongosub ts)) ≡ 12
+pub ongosub-number : (ts : List ℕ) → stmtNumber (simple (on ongosub ts)) ≡ 12
 unfolding stmtNumber stmtWord simpleWord wordIndex words first same bytes openingWords
 ongosub-number ts = refl
 
-pub return-number : stmtNumber (simple return) ≡ 9
+pub return-number : stmtNumber (simple (bare return)) ≡ 9
 unfolding stmtNumber stmtWord simpleWord wordIndex words first same bytes openingWords
 return-number = refl
 
@@ -182,11 +179,11 @@ module _ {L : Listing} {stmts args entries falls links frames dispatched : List 
 -- ---- one node
 
 -- RETURN has no edges by the rules
-return-base : (L : Listing) (i : ℕ) (f : Fact) → getElem? (factsOf L) i ≡ some f → f .stmt ≡ simple return → base (wire L) i ≡ []
+return-base : (L : Listing) (i : ℕ) (f : Fact) → getElem? (factsOf L) i ≡ some f → f .stmt ≡ simple (bare return) → base (wire L) i ≡ []
 unfolding perNode own ownSimple late nodeMoves movesOf noMoves orphanEdges onSimple onNext addAll
 return-base L i f h e = lists-per-node L i f h ∙ ap (addAll []) (go (f .stmt) e)
   where
-    go : (s : NodeStmt) → s ≡ simple return
+    go : (s : NodeStmt) → s ≡ simple (bare return)
         → own (wire L .entries) s (f .fall) (each (fallAt (factsOf L)) (f .popped)) (bodyMet (factsOf L) (f .loopMet))
         ++ (late loopStack (factsOf L) i ((nodeMoves s) .loops) (f .loopMet) ++ (late doStack (factsOf L) i ((nodeMoves s) .dos) (f .doMet) ++ orphanEdges (dispatchTargets (wire L .nodes)) s)) ≡ []
     go s q = rw q refl
@@ -257,7 +254,7 @@ module _ (es : Entries) (stmts falls links : List ℕ) (n i : ℕ) (e : Option �
       never : (f : ℕ → Bool) → f w ≡ false → f (getD stmts (i * 12) 0) ≡ true → ⊥
       never f h y = let z : _≡_ {A = Bool} true false = sym y ∙ ap f a ∙ h in let v : _≡_ {A = ℕ} 0 1 = cc in omega arith
 
-  node-role : (args : List ℕ) (s : NodeStmt) (q : Role) → CallKind s q → getD stmts (i * 12) 0 ≡ stmtNumber s → StmtListed stmts args i s → (s ≡ simple return → l ≡ [])
+  node-role : (args : List ℕ) (s : NodeStmt) (q : Role) → CallKind s q → getD stmts (i * 12) 0 ≡ stmtNumber s → StmtListed stmts args i s → (s ≡ simple (bare return) → l ≡ [])
       → ((stmtNumber s ≡ 14 → ⊥) → RowIs (stmtTargets s)) → NodeRole es stmts falls links n i q e l
   unfolding stmtTargets onSimple jumpTargets argsOf callWord
   node-role args s q (isGosub t) w h b row = call-role false (t ∷ []) 8 (w ∙ gosub-number t) refl refl (h .count) (h .few) (row (λ x. omega (arith, x, gosub-number t)))

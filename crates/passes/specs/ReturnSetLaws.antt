@@ -9,7 +9,7 @@ use lib.ListN.{length, length-append, length-drop, getD, take, drop, List·getD-
 use lib.Seq.{length-take-le, getD-take, getD-drop, getD-append-add, ext-getD, take-suc, take-at, drop-at}
 use Rattle.listings.specs.Bytes.{bytes, same}
 use Rattle.listings.specs.Rows.{openingWords}
-use Rattle.listings.specs.Listing.{return}
+use Rattle.listings.specs.Listing.{return, bare}
 use Rattle.listings.specs.ListingText.{simpleWord}
 use Rattle.listings.specs.WordTable.{words, first, wordIndex}
 use Rattle.passes.specs.Compare.{eq-or, lt-or}
@@ -19,7 +19,7 @@ use Rattle.passes.specs.ReturnSets.{IsReturn, setOf, RowPut, ReturnsJoin
 use Rattle.layout.specs.Layout.{returnWord}
 
 -- the table of opening words has `return` there
-pub return-word : wordIndex (simpleWord return) ≡ returnWord
+pub return-word : wordIndex (simpleWord (bare return)) ≡ returnWord
 unfolding wordIndex words first bytes same openingWords simpleWord
 return-word = refl
 

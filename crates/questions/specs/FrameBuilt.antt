@@ -9,12 +9,13 @@ use borrow.Author.Tests.{le-ltb, ltb-true}
 use lib.Dec.{eqb, ltb}
 use lib.ListN.{length, getD, getElem?}
 use Rattle.listings.specs.Bytes.{same, bytes, pick}
-use Rattle.listings.specs.Listing.{Name, Tier, Simple, goto, gosub, return, run, runto, ongoto, ongosub, for, next, repeat, loop, until, endloop, exit, exitif, doif, else, done, clr, stop, any, if, ifelse, rcomp, Listing, total, count}
+use Rattle.listings.specs.Listing.{Name, Tier, goto, gosub, runto, ongoto, ongosub, BlockWord, BareWord, return, run, clr, stop, any, jump, on, for, next, block, bare, if, ifelse, rcomp, Listing, total, count}
 use Rattle.listings.specs.ListingText.{simpleWord, condWord, SimpleOk, Within}
 use Rattle.listings.specs.Rows.{isName, openingWords}
 use Rattle.listings.specs.Records.{nameKey, argsOf, padded}
 use Rattle.listings.specs.Scan.{same-sym}
 use Rattle.listings.specs.WordTable.{words, first, wordIndex}
+use Rattle.listings.specs.WordKinds.{block-never}
 use Rattle.graph.specs.Graph.{Role, returnTargets, stmtRole, simpleRole, roleOf, role, fallOf, fallFrom, wire, continuation, successors}
 use Rattle.graph_laws.specs.GraphLaws.{nodeCount, fall-below}
 use Rattle.graph_laws.specs.NodeLaws.{Below}
@@ -53,31 +54,28 @@ KeyTold a v s = (u : Name) (t : Tier) → s ≡ simple (for u t) → eqb a (name
 for-pick : (x y : Bool) (ss : List ℕ) → x ≡ y → pick x [] ss ≡ pick y [] ss
 for-pick x y ss e = ap (λ (b : Bool). pick b [] ss) e
 
+-- a word of a loop or a DO: "else all successors"
+block-word : (w : BlockWord) (a k : ℕ) (flag : Bool) (ss hs ks : List ℕ) → byWord (stmtNumber (simple (block w))) a k flag ss hs ks ≡ ss
+unfolding endsFrame forgetsWord keepsShared callWord stmtNumber stmtWord simpleWord
+block-word w a k flag ss hs ks = rw (block-never (λ n. endsFrame n a k) refl w, block-never (λ n. keepsShared n flag) refl w, block-never callWord refl w)
+
 by-word : (s : NodeStmt) (a : ℕ) (v : Name) (flag : Bool) (ss hs ks c : List ℕ) → KeyTold a v s → pick (callWord (stmtNumber s)) ks [] ≡ c
     → byWord (stmtNumber s) a (nameKey v) flag ss hs ks ≡ frameBy (stmtRole s) v flag ss hs c s
 unfolding endsFrame forgetsWord keepsShared callWord stmtNumber stmtWord simpleWord condWord wordIndex words first same bytes openingWords stmtRole simpleRole frameBy frameSimple onSimple onFor onNext
 by-word (simple (for u t)) a v flag ss hs ks c f e = for-pick (eqb a (nameKey v)) (same u v) ss (f u t refl)
 by-word (simple (next m l)) a v flag ss hs ks c f e = refl
-by-word (simple (gosub t)) a v flag ss hs ks c f e = e
-by-word (simple (ongosub t)) a v flag ss hs ks c f e = e
-by-word (simple return) a v flag ss hs ks c f e = refl
-by-word (simple run) a v flag ss hs ks c f e = refl
-by-word (simple (runto t)) a v flag ss hs ks c f e = refl
-by-word (simple clr) a v flag ss hs ks c f e = refl
-by-word (simple (goto t)) a v flag ss hs ks c f e = refl
-by-word (simple (ongoto ts)) a v flag ss hs ks c f e = refl
-by-word (simple repeat) a v flag ss hs ks c f e = refl
-by-word (simple loop) a v flag ss hs ks c f e = refl
-by-word (simple until) a v flag ss hs ks c f e = refl
-by-word (simple endloop) a v flag ss hs ks c f e = refl
-by-word (simple exit) a v flag ss hs ks c f e = refl
-by-word (simple exitif) a v flag ss hs ks c f e = refl
-by-word (simple doif) a v flag ss hs ks c f e = refl
-by-word (simple else) a v flag ss hs ks c f e = refl
-by-word (simple done) a v flag ss hs ks c f e = refl
-by-word (simple stop) a v flag ss hs ks c f e = refl
-by-word (simple any) a v flag ss hs ks c f e = refl
-by-word (simple Simple.plain) a v flag ss hs ks c f e = refl
+by-word (simple (jump gosub t)) a v flag ss hs ks c f e = e
+by-word (simple (on ongosub t)) a v flag ss hs ks c f e = e
+by-word (simple (bare return)) a v flag ss hs ks c f e = refl
+by-word (simple (bare run)) a v flag ss hs ks c f e = refl
+by-word (simple (jump runto t)) a v flag ss hs ks c f e = refl
+by-word (simple (bare clr)) a v flag ss hs ks c f e = refl
+by-word (simple (jump goto t)) a v flag ss hs ks c f e = refl
+by-word (simple (on ongoto ts)) a v flag ss hs ks c f e = refl
+by-word (simple (block w)) a v flag ss hs ks c f e = block-word w a (nameKey v) flag ss hs ks
+by-word (simple (bare stop)) a v flag ss hs ks c f e = refl
+by-word (simple (bare any)) a v flag ss hs ks c f e = refl
+by-word (simple (bare BareWord.plain)) a v flag ss hs ks c f e = refl
 by-word (cond if x y) a v flag ss hs ks c f e = refl
 by-word (cond ifelse x y) a v flag ss hs ks c f e = refl
 by-word (cond rcomp x y) a v flag ss hs ks c f e = refl

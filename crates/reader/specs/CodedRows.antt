@@ -11,9 +11,10 @@ use lib.ListN.{length, getD, take, drop, getElem?}
 use lib.Seq.{take-all}
 use borrow.Author.Tests.{eq-eqb, ne-eqb, eqb-true, eqb-false}
 use Rattle.listings.specs.Bytes.{bytes, same, pick}
-use Rattle.listings.specs.Listing.{Simple, goto, gosub, return, run, runto, ongoto, ongosub, for, next, repeat, loop, until, endloop, exit, exitif, doif, else, done, clr, stop, any, CondWord, if, ifelse, rcomp}
+use Rattle.listings.specs.Listing.{Simple, jump, runto, on, for, next, CondWord, if, ifelse, rcomp}
 use Rattle.listings.specs.Rows.{split, areWords, stripClose, Row as FormRow, close, bad, form, formRow, rowOf, Form, moduleForm, lineForm, toForm, stmtsForm, runForm, forForm, nextForm, condForm, bareForm, numberForm, numbersForm, openingWords, lookup, Parse, malformed, invalid, parsed, refusalOf, mapParse, withParse, parseNumbers, parseName, parseSlots, parseTier, parseMark, Counted, Content, noForm, endRow, stmtsRow, moduleRow, lineRow, toRow, simpleRow, condRow, bareStmt, single, runStmt, forStmt, nextStmt, ifNoWords, handlerFacts, moduleBy, moduleContent, formContent, wordContent, contentOf}
-use Rattle.listings.specs.WordTable.{forms, wordIndex, kind, kindOf, kindAt, content-at}
+use Rattle.listings.specs.ListingText.{jumpWord, onWord, simpleWord}
+use Rattle.listings.specs.WordTable.{words, forms, first, wordIndex, kind, kindOf, kindAt, content-at}
 use Rattle.listings.specs.Scan.{indexOf, split-last, split-some, after, split-alone, split-first}
 use Rattle.tokens.specs.Numbers.{asNumber}
 use Rattle.tokens.specs.Arguments.{lowest, argCheck, checkFor, checkNext, checkKind, refusal-with, numbers-refusal, slots-refusal}
@@ -26,29 +27,13 @@ use Rattle.reader.specs.declared.rows.Row.the-variants as row
 -- ---- the code's answer for what a row says
 
 -- the number of a statement's opening word
-unfoldable pub wordNumber : Simple → ℕ
-wordNumber (goto n) = 7
-wordNumber (gosub n) = 8
-wordNumber return = 9
-wordNumber run = 10
-wordNumber (runto n) = 10
-wordNumber (ongoto ns) = 11
-wordNumber (ongosub ns) = 12
-wordNumber (for v t) = 13
-wordNumber (next m ss) = 14
-wordNumber repeat = 15
-wordNumber loop = 16
-wordNumber until = 17
-wordNumber endloop = 18
-wordNumber exit = 19
-wordNumber exitif = 20
-wordNumber doif = 21
-wordNumber else = 22
-wordNumber done = 23
-wordNumber clr = 24
-wordNumber stop = 25
-wordNumber any = 26
-wordNumber Simple.plain = 27
+abbrev pub wordNumber : Simple → ℕ
+wordNumber o = wordIndex (simpleWord o)
+
+-- to unfold this is to compute such a number
+numbered : Unit {0}
+unfolding wordIndex words first openingWords bytes same simpleWord
+numbered = tt
 
 unfoldable pub condNumber : CondWord → ℕ
 condNumber if = 0
@@ -131,8 +116,8 @@ Numbered k toForm = Unit {0}
 Numbered k stmtsForm = Unit {0}
 Numbered k (condForm w) = condNumber w ≡ k - 2
 Numbered k (bareForm o) = wordNumber o ≡ k
-Numbered k (numberForm f) = (n : ℕ) → wordNumber (f n) ≡ k
-Numbered k (numbersForm f) = (ns : List ℕ) → wordNumber (f ns) ≡ k
+Numbered k (numberForm w) = wordIndex (jumpWord w) ≡ k
+Numbered k (numbersForm w) = wordIndex (onWord w) ≡ k
 Numbered k runForm = k ≡ 10
 Numbered k forForm = k ≡ 13
 Numbered k nextForm = k ≡ 14
@@ -142,8 +127,8 @@ AllNumbered k [] = Unit {0}
 AllNumbered k (h ∷ hs) = Numbered k h × AllNumbered (suc k) hs
 
 forms-numbered : AllNumbered 0 forms
-unfolding AllNumbered Numbered forms openingWords condNumber wordNumber
-forms-numbered = (tt, (tt, (refl, (refl, (refl, (tt, (tt, ((λ n. refl), ((λ n. refl), (refl, (refl, ((λ n. refl), ((λ n. refl), (refl, (refl, (refl, (refl, (refl, (refl, (refl, (refl, (refl, (refl, (refl, (refl, (refl, (refl, (refl, tt))))))))))))))))))))))))))))
+unfolding AllNumbered Numbered forms condNumber numbered
+forms-numbered = (tt, (tt, (refl, (refl, (refl, (tt, (tt, (refl, (refl, (refl, (refl, (refl, (refl, (refl, (refl, (refl, (refl, (refl, (refl, (refl, (refl, (refl, (refl, (refl, (refl, (refl, (refl, (refl, tt))))))))))))))))))))))))))))
 
 numbered-from : (hs : List Form) (j i : ℕ) → AllNumbered j hs → (h : Form) → getElem? hs i ≡ some h → Numbered (j + i) h
 unfolding AllNumbered
@@ -182,7 +167,7 @@ simple-with f k n h (parsed a) invalid = refl
 simple-with f k n h (parsed a) (parsed b) = ap (λ (z : ℕ). row.Simple z n) (h a b)
 
 for-row : (k : ℕ) → k ≡ 13 → (ws : List (List ℕ)) → asSimple (forStmt ws) ≡ simpleBy k (checkFor ws)
-unfolding forStmt checkFor argCheck wordNumber
+unfolding forStmt checkFor argCheck numbered
 for-row k h [] = refl
 for-row k h (w ∷ []) = refl
 for-row k h (w ∷ v ∷ []) =
@@ -190,13 +175,13 @@ for-row k h (w ∷ v ∷ []) =
 for-row k h (w ∷ v ∷ u ∷ ws) = refl
 
 next-row : (k : ℕ) → k ≡ 14 → (ws : List (List ℕ)) → asSimple (nextStmt ws) ≡ simpleBy k (checkNext ws)
-unfolding nextStmt checkNext argCheck wordNumber
+unfolding nextStmt checkNext argCheck numbered
 next-row k h [] = refl
 next-row k h (w ∷ ws) =
     simple-with next k (length ws) (λ m ss. sym h) (parseMark w) (parseSlots ws) ∙ ap (λ (g : ℕ). simpleBy k (argCheck (lowest (refusalOf (parseMark w)) g) (length ws))) (slots-refusal ws)
 
 form-args : (h : Form) (k : ℕ) → Numbered k h → (c : Bool) (w : List ℕ) (ws : List (List ℕ)) → asRow (formContent h c (w ∷ ws)) ≡ argsRow (kind h) k c (w ∷ ws)
-unfolding Numbered formContent argsRow kind checkKind ifNoWords bareStmt runStmt wordNumber argCheck
+unfolding Numbered formContent argsRow kind checkKind ifNoWords bareStmt runStmt argCheck numbered
 form-args moduleForm k r true w ws = refl
 form-args moduleForm k r false w ws = refl
 form-args lineForm k r true w ws = refl
@@ -209,12 +194,12 @@ form-args (condForm x) k r true w ws = refl
 form-args (condForm x) k r false w ws = refl
 form-args (bareForm o) k r true w ws = refl
 form-args (bareForm o) k r false w ws = refl
-form-args (numberForm f) k r true w ws = simple-map f k 0 r (single (w ∷ ws))
-form-args (numberForm f) k r false w ws = refl
-form-args (numbersForm f) k r true w ws =
-    simple-map f k (length (w ∷ ws)) r (parseNumbers (w ∷ ws)) ∙ ap (λ (g : ℕ). simpleBy k (argCheck g (length (w ∷ ws)))) (numbers-refusal (w ∷ ws))
-form-args (numbersForm f) k r false w ws = refl
-form-args runForm k r true w ws = simple-map runto k 0 (λ n. sym r) (single (w ∷ ws))
+form-args (numberForm x) k r true w ws = simple-map (jump x) k 0 (λ n. r) (single (w ∷ ws))
+form-args (numberForm x) k r false w ws = refl
+form-args (numbersForm x) k r true w ws =
+    simple-map (on x) k (length (w ∷ ws)) (λ ns. r) (parseNumbers (w ∷ ws)) ∙ ap (λ (g : ℕ). simpleBy k (argCheck g (length (w ∷ ws)))) (numbers-refusal (w ∷ ws))
+form-args (numbersForm x) k r false w ws = refl
+form-args runForm k r true w ws = simple-map (jump runto) k 0 (λ n. sym r) (single (w ∷ ws))
 form-args runForm k r false w ws = refl
 form-args forForm k r true w ws = for-row k r (w ∷ ws)
 form-args forForm k r false w ws = refl
@@ -222,7 +207,7 @@ form-args nextForm k r true w ws = next-row k r (w ∷ ws)
 form-args nextForm k r false w ws = refl
 
 form-bare : (h : Form) (k : ℕ) → Numbered k h → (c : Bool) → asRow (formContent h c []) ≡ bareRow (kind h) k c
-unfolding Numbered formContent bareRow kind ifNoWords bareStmt runStmt forStmt nextStmt moduleContent single parseNumbers mapParse wordNumber
+unfolding Numbered formContent bareRow kind ifNoWords bareStmt runStmt forStmt nextStmt moduleContent single parseNumbers mapParse numbered
 form-bare moduleForm k r true = refl
 form-bare moduleForm k r false = refl
 form-bare lineForm k r true = refl
@@ -235,10 +220,10 @@ form-bare (condForm x) k r true = refl
 form-bare (condForm x) k r false = ap row.Cond r
 form-bare (bareForm o) k r true = ap (λ (z : ℕ). row.Simple z 0) r
 form-bare (bareForm o) k r false = refl
-form-bare (numberForm f) k r true = refl
-form-bare (numberForm f) k r false = refl
-form-bare (numbersForm f) k r true = ap (λ (z : ℕ). row.Simple z 0) (r [])
-form-bare (numbersForm f) k r false = refl
+form-bare (numberForm x) k r true = refl
+form-bare (numberForm x) k r false = refl
+form-bare (numbersForm x) k r true = ap (λ (z : ℕ). row.Simple z 0) r
+form-bare (numbersForm x) k r false = refl
 form-bare runForm k r true = ap (λ (z : ℕ). row.Simple z 0) (sym r)
 form-bare runForm k r false = refl
 form-bare forForm k r true = refl

@@ -10,7 +10,7 @@ use lib.ListN.{length, set, getD}
 use lib.Seq.{getD-append-seam}
 use borrow.Author.Tests.{eq-eqb, ne-eqb, leb-true}
 use Rattle.listings.specs.Bytes.{bytes, same}
-use Rattle.listings.specs.Listing.{Simple, goto, gosub, return, run, runto, ongoto, ongosub, for, next, repeat, loop, until, endloop, exit, exitif, doif, else, done, clr, stop, any, CondWord, if, ifelse, rcomp, BranchForm, to, stmts, absent, Stmts, ∅, size, len, total, count}
+use Rattle.listings.specs.Listing.{Simple, CondWord, if, ifelse, rcomp, BranchForm, to, stmts, absent, Stmts, ∅, size, len, total, count}
 use Rattle.listings.specs.Rows.{malformed, invalid, parsed, Counted, Content, noForm, endRow, stmtsRow, moduleRow, lineRow, toRow, simpleRow, condRow, openingWords}
 use Rattle.listings.specs.Read.{OpenCond, Branches, noBranch, oneBranch, twoBranches, Position, begin, inModule, ended, inStmts, inCond, Reading, Outcome, taken, refused, goTo, oneMore, orRefused, check, ascends, atBegin, readLine, atModule, readSimple, readCond, numberOf, branched, endStmts, atStmts, NextBranch, noMore, mayFollow, nextBranch, condStmt, endCond, readTo, readStmts, atCond, readRow}
 use Rattle.listings.specs.ListingText.{simpleWord, condWord, listed}
@@ -29,31 +29,6 @@ use Rattle.reader.specs.declared.machine.State.{State}
 use Rattle.reader.specs.declared.fill.Walk.{Walk}
 
 -- ---- the numbers of the opening words
-
-pub word-number : (o : Simple) → wordIndex (simpleWord o) ≡ wordNumber o
-unfolding wordIndex words openingWords first same bytes simpleWord wordNumber
-word-number (goto n) = refl
-word-number (gosub n) = refl
-word-number return = refl
-word-number run = refl
-word-number (runto n) = refl
-word-number (ongoto ns) = refl
-word-number (ongosub ns) = refl
-word-number (for v t) = refl
-word-number (next m ss) = refl
-word-number repeat = refl
-word-number loop = refl
-word-number until = refl
-word-number endloop = refl
-word-number exit = refl
-word-number exitif = refl
-word-number doif = refl
-word-number else = refl
-word-number done = refl
-word-number clr = refl
-word-number stop = refl
-word-number any = refl
-word-number Simple.plain = refl
 
 pub cond-number : (k : CondWord) → wordIndex (condWord k) ≡ condNumber k + 2
 unfolding wordIndex words openingWords first same bytes condWord condNumber
@@ -184,7 +159,7 @@ module _ (r : Reading) (nl ns na : ℕ) (n t a : List ℕ) where
       let x = simpleRec o li (holderOf T fs) (firstIndex fs + len s) (firstNode T fs + size s) in
       let v : suc (firstNode T fs + size s) ≡ r .stmtCount + 1 = omega (arith, q .0) in
       let y = entry-row (wordIndex (simpleWord o)) li (holderOf T fs) (firstIndex fs + len s) (suc (firstNode T fs + size s)) (length (argsOf o)) (detailOf o)
-      (word-number o) (sym (q .1)) v refl refl in
+      refl (sym (q .1)) v refl refl in
       let i : firstIndex fs + len s + 1 ≡ firstIndex fs + suc (len s) = omega arith in
       let e = entryOf (stateAt r (inStmts s fs)) (walkAt r (inStmts s fs)) (wordNumber o) (r .stmtCount + 1) (record { count = length (argsOf o); detail = detailOf o }) in (
         holds-as nl ns na n (appendRow t (r .stmtCount) e) (addEntries a (r .stmtCount) (argsOf o)) refl (sym (simple-law (r .lines) li s fs o))

@@ -9,7 +9,10 @@ use native.Mathlib.Omega.{arith}
 use lib.Dec.{leb, ltb}
 use lib.ListN.{length, getD}
 use borrow.Author.Tests.{leb-true, ltb-true}
-use Rattle.listings.specs.Listing.{Simple, goto, gosub, return, run, runto, ongoto, ongosub, for, next, repeat, loop, until, endloop, exit, exitif, doif, else, done, clr, stop, any, CondWord, if, ifelse, rcomp, BranchForm, Stmts, ∅, _▸_, branching, size, len, total}
+use Rattle.listings.specs.Listing.{Simple, CondWord, if, ifelse, rcomp, BranchForm, Stmts, ∅, _▸_, branching, size, len, total}
+use Rattle.listings.specs.ListingText.{simpleWord}
+use Rattle.listings.specs.WordTable.{wordIndex}
+use Rattle.listings.specs.WordSlots.{at-most}
 use Rattle.listings.specs.Rows.{malformed, invalid, parsed, Content, noForm, endRow, stmtsRow, moduleRow, lineRow, toRow, simpleRow, condRow}
 use Rattle.listings.specs.Read.{OpenCond, Branches, Position, begin, inModule, ended, inStmts, inCond, Reading, Outcome, taken, refused, oneMore, orRefused, check, ascends, atBegin, readLine, atModule, readSimple, readCond, atStmts, NextBranch, noMore, mayFollow, nextBranch, condStmt, endCond, readTo, readStmts, atCond, readRow}
 use Rattle.listings.specs.Contents.{IsParsed, ContentOk}
@@ -54,29 +57,8 @@ holder-some T [] h = absurd (not-suc-le-zero h)
 holder-some T (f ∷ fs) h = omega arith
 
 word-le : (o : Simple) → wordNumber o ≤ 28
-unfolding wordNumber
-word-le (goto n) = omega arith
-word-le (gosub n) = omega arith
-word-le return = omega arith
-word-le run = omega arith
-word-le (runto n) = omega arith
-word-le (ongoto ns) = omega arith
-word-le (ongosub ns) = omega arith
-word-le (for v t) = omega arith
-word-le (next m ss) = omega arith
-word-le repeat = omega arith
-word-le loop = omega arith
-word-le until = omega arith
-word-le endloop = omega arith
-word-le exit = omega arith
-word-le exitif = omega arith
-word-le doif = omega arith
-word-le else = omega arith
-word-le done = omega arith
-word-le clr = omega arith
-word-le stop = omega arith
-word-le any = omega arith
-word-le Simple.plain = omega arith
+unfolding wordIndex
+word-le o = at-most (simpleWord o)
 
 cond-le : (w : CondWord) → condNumber w + 2 ≤ 28
 unfolding condNumber

@@ -12,14 +12,14 @@ use lib.ListN.{length, take, drop, set, length-append, length-set, length-map, l
 use lib.Seq.{take-suc-set, drop-set-lt, drop-drop, take-at}
 use borrow.Author.Tests.{ne-eqb}
 use Rattle.listings.specs.Bytes.{bytes, same, pick, decimal}
-use Rattle.listings.specs.Listing.{Name, Tier, static, framed, dispatched, Mark, orphan, Slot, Simple, goto, gosub, return, run, runto, ongoto, ongosub, for, next, repeat, loop, until, endloop, exit, exitif, doif, else, done, clr, stop, any}
+use Rattle.listings.specs.Listing.{Name, Tier, static, framed, dispatched, Mark, orphan, Slot, goto, gosub, runto, ongoto, ongosub, Simple, jump, on, for, next, block, bare}
 use Rattle.listings.specs.Rows.{split, all, Parse, malformed, invalid, parsed, parseNumber, parseName, isName, isCapital, openingWords, contentOf, rowOf, simpleRow, Counted}
-use Rattle.listings.specs.ListingText.{spacedWords, closedForm, simpleWord, simpleArgs, simpleText, tierWord, markWord, slotWord, SimpleOk, NumbersOk, SlotsOk}
+use Rattle.listings.specs.ListingText.{spacedWords, closedForm, blockWord, bareWord, simpleWord, simpleArgs, simpleText, tierWord, markWord, slotWord, SimpleOk, NumbersOk, SlotsOk}
 use Rattle.listings.specs.WordTable.{words, forms, first, wordIndex, kind, kindOf, kindAt}
 use Rattle.listings.specs.NumberText.{number-text, both-true}
 use Rattle.listings.specs.WordText.{inWord, isToken, areTokens, token-lacks, tokens-lack, decimal-token, decimals-tokens, name-token, name-text, slots-tokens, tier-token, mark-token}
 use Rattle.listings.specs.RowForms.{join, split-join, join-split, join-words}
-use Rattle.listings.specs.RowText.{row-simple}
+use Rattle.listings.specs.RowText.{simple-tokens, row-simple}
 use Rattle.listings.specs.Scan.{indexOf, after, split-some, split-alone, split-first}
 use Rattle.tokens.specs.Numbers.{asNumber}
 use Rattle.tokens.specs.Names.{asKey}
@@ -305,82 +305,50 @@ opened : Unit {0}
 unfolding rowEntries rowDetail entriesOf detailsOf simpleWord simpleArgs argsOf detailOf SimpleOk kindAt kindOf kind forms openingWords wordIndex words first same bytes
 opened = tt
 
+-- an opening word alone comes to nothing, whatever its kind
+none-entries : (g : ℕ) → entriesOf g [] ≡ []
+unfolding entriesOf
+none-entries g = go (eqb g 9) (eqb g 10)
+  where
+    go : (a b : Bool) → _≡_ {A = List ℕ} (pick a [] (pick b [] [])) []
+    go true b = refl
+    go false true = refl
+    go false false = refl
+
+none-detail : (g : ℕ) → detailsOf g [] ≡ 0
+unfolding detailsOf join headMark
+none-detail g = go (eqb g 9) (eqb g 10)
+  where
+    go : (a b : Bool) → pick a (tierEntry []) (pick b 0 0) ≡ 0
+    go true b = nil-tier
+    go false true = refl
+    go false false = refl
+
 pub simple-entries : (o : Simple) → SimpleOk o → rowEntries (simpleWord o ∷ simpleArgs o) ≡ argsOf o
 unfolding opened
-simple-entries (goto n) h = rw (number-entry n h)
-simple-entries (gosub n) h = rw (number-entry n h)
-simple-entries return h = refl
-simple-entries run h = refl
-simple-entries (runto n) h = rw (number-entry n h)
-simple-entries (ongoto ns) h = numbers-entries ns h
-simple-entries (ongosub ns) h = numbers-entries ns h
+simple-entries (jump goto n) h = rw (number-entry n h)
+simple-entries (jump gosub n) h = rw (number-entry n h)
+simple-entries (jump runto n) h = rw (number-entry n h)
+simple-entries (on ongoto ns) h = numbers-entries ns h
+simple-entries (on ongosub ns) h = numbers-entries ns h
 simple-entries (for v t) h = rw (name-entry v h)
 simple-entries (next m ss) h = slots-entries ss h
-simple-entries repeat h = refl
-simple-entries loop h = refl
-simple-entries until h = refl
-simple-entries endloop h = refl
-simple-entries exit h = refl
-simple-entries exitif h = refl
-simple-entries doif h = refl
-simple-entries else h = refl
-simple-entries done h = refl
-simple-entries clr h = refl
-simple-entries stop h = refl
-simple-entries any h = refl
-simple-entries Simple.plain h = refl
+simple-entries (block w) h = none-entries (kindAt (wordIndex (blockWord w)))
+simple-entries (bare w) h = none-entries (kindAt (wordIndex (bareWord w)))
 
 pub simple-detail : (o : Simple) → rowDetail (simpleWord o ∷ simpleArgs o) ≡ detailOf o
 unfolding opened join headMark
-simple-detail (goto n) = refl
-simple-detail (gosub n) = refl
-simple-detail return = refl
-simple-detail run = refl
-simple-detail (runto n) = refl
-simple-detail (ongoto ns) = refl
-simple-detail (ongosub ns) = refl
+simple-detail (jump goto n) = refl
+simple-detail (jump gosub n) = refl
+simple-detail (jump runto n) = refl
+simple-detail (on ongoto ns) = refl
+simple-detail (on ongosub ns) = refl
 simple-detail (for v t) = tier-entry t
 simple-detail (next m ss) = mark-entry m
-simple-detail repeat = refl
-simple-detail loop = refl
-simple-detail until = refl
-simple-detail endloop = refl
-simple-detail exit = refl
-simple-detail exitif = refl
-simple-detail doif = refl
-simple-detail else = refl
-simple-detail done = refl
-simple-detail clr = refl
-simple-detail stop = refl
-simple-detail any = refl
-simple-detail Simple.plain = refl
+simple-detail (block w) = none-detail (kindAt (wordIndex (blockWord w)))
+simple-detail (bare w) = none-detail (kindAt (wordIndex (bareWord w)))
 
 -- ---- a statement's row without its brackets
-
-simple-tokens : (o : Simple) → SimpleOk o → areTokens (simpleWord o ∷ simpleArgs o) ≡ true
-unfolding simpleWord simpleArgs SimpleOk areTokens isToken all inWord bytes
-simple-tokens (goto n) h = rw (decimal-token n)
-simple-tokens (gosub n) h = rw (decimal-token n)
-simple-tokens return h = refl
-simple-tokens run h = refl
-simple-tokens (runto n) h = rw (decimal-token n)
-simple-tokens (ongoto ns) h = decimals-tokens ns
-simple-tokens (ongosub ns) h = decimals-tokens ns
-simple-tokens (for v t) h = rw (name-token v h, tier-token t)
-simple-tokens (next m ss) h = rw (mark-token m) (slots-tokens ss h)
-simple-tokens repeat h = refl
-simple-tokens loop h = refl
-simple-tokens until h = refl
-simple-tokens endloop h = refl
-simple-tokens exit h = refl
-simple-tokens exitif h = refl
-simple-tokens doif h = refl
-simple-tokens else h = refl
-simple-tokens done h = refl
-simple-tokens clr h = refl
-simple-tokens stop h = refl
-simple-tokens any h = refl
-simple-tokens Simple.plain h = refl
 
 -- the row r without its first byte and its last
 abbrev pub inside : List ℕ → List ℕ

@@ -3,7 +3,7 @@ use mathlib.Core.List.{[], _∷_}
 use Prim.Native.Nat.{ℕ, suc, _+_, _-_, _≤_}
 use native.Mathlib.Omega.{arith}
 use lib.ListN.{length, length-map}
-use Rattle.listings.specs.Listing.{Simple, goto, gosub, return, run, runto, ongoto, ongosub, for, next, repeat, loop, until, endloop, exit, exitif, doif, else, done, clr, stop, any, Lines, nolines, line, Stmts, ∅, _▸_, branching, size, len, total, count}
+use Rattle.listings.specs.Listing.{Simple, jump, on, for, next, block, bare, Lines, nolines, line, Stmts, ∅, _▸_, branching, size, len, total, count}
 use Rattle.listings.specs.ListingText.{listed, StmtsOk, LinesOk}
 use Rattle.listings.specs.Every.{all[], all∷, all-append}
 use Rattle.listings.specs.Records.{slotKey, argsOf, simpleRec, condRec, stmtRecs, lineRecs, argRow}
@@ -12,28 +12,12 @@ use Rattle.reader.specs.Tables.{Wide, padded-length}
 -- "0 to 64 numbers", or slots
 pub args-short : (o : Simple) → listed o ≤ 64 → length (argsOf o) ≤ 64
 unfolding argsOf listed
-args-short (goto n) h = omega arith
-args-short (gosub n) h = omega arith
-args-short return h = omega arith
-args-short run h = omega arith
-args-short (runto n) h = omega arith
-args-short (ongoto ns) h = h
-args-short (ongosub ns) h = h
+args-short (jump w n) h = omega arith
+args-short (on w ns) h = h
 args-short (for v t) h = omega arith
 args-short (next m ss) h = omega (arith, length-map ss slotKey)
-args-short repeat h = omega arith
-args-short loop h = omega arith
-args-short until h = omega arith
-args-short endloop h = omega arith
-args-short exit h = omega arith
-args-short exitif h = omega arith
-args-short doif h = omega arith
-args-short else h = omega arith
-args-short done h = omega arith
-args-short clr h = omega arith
-args-short stop h = omega arith
-args-short any h = omega arith
-args-short Simple.plain h = omega arith
+args-short (block w) h = omega arith
+args-short (bare w) h = omega arith
 
 stmts-wide : (d li h k i : ℕ) (s : Stmts) → StmtsOk d s → Wide argRow 64 (stmtRecs li h k i s)
 unfolding StmtsOk stmtRecs argRow simpleRec condRec

@@ -6,7 +6,6 @@ use lib.ListN.{length}
 use Rattle.listings.specs.Rows.{split, malformed, invalid, parsed, Content, noForm, endRow, stmtsRow, moduleRow, lineRow, toRow, simpleRow, condRow, contentOf, rowOf}
 use Rattle.reader.specs.Operands.{openingWord, rowEntries, rowDetail, inside, stated}
 use Rattle.reader.specs.Fill.{Operands, noOperands, writtenRow, operandsOf, Says}
-use Rattle.reader.specs.FillLaws.{word-number}
 use Rattle.reader.specs.declared.rows.Row.{Row}
 use Rattle.reader.specs.declared.rows.Row.the-variants as row
 
@@ -58,7 +57,7 @@ agrees l (toRow invalid) e = (refl, tt)
 agrees l (toRow (parsed n)) e = (refl, tt)
 agrees l (simpleRow malformed) e = (refl, tt)
 agrees l (simpleRow invalid) e = (refl, tt)
-agrees l (simpleRow (parsed d)) e = let q = stated l d e in (rw (q .entries, q .detail), (q .long, sym (q .word ∙ word-number (d .0))))
+agrees l (simpleRow (parsed d)) e = let q = stated l d e in (rw (q .entries, q .detail), (q .long, sym (q .word)))
 agrees l (condRow k) e = (refl, tt)
 
 module _ (l : List ℕ) (e : Row) (is : e ≡ writtenRow (contentOf (rowOf l))) where
