@@ -174,7 +174,7 @@ unfoldable pub closerEdges : Option (List ℕ) → List ℕ → List ℕ
 closerEdges none l = []
 closerEdges (some b) l = b ++ l
 
--- what a word of a loop or a DO adds: l, and before it the body of the loop that it closes
+-- a word of a loop or a DO; l: where it falls, if it does; b: the body of the loop that it closes
 unfoldable pub ownBlock : Stack → Move → List ℕ → Option (List ℕ) → List ℕ
 ownBlock loopStack closes l b = closerEdges b l
 ownBlock loopStack stays l b = l
@@ -195,7 +195,7 @@ ownSimple es (bare any) e bs b = es .all
 -- "FOR falls and pushes a frame"; NEXT: "the popped body is added; last it falls"
 ownSimple es (for v t) e bs b = list e
 ownSimple es (next m ss) e bs b = bs ++ list e
--- REPEAT to DONE
+-- the words of loops and DOs, by their rules
 ownSimple es (block w) e bs b = let r = ruleOf w in ownBlock (r .stack) (r .move) (pick (r .falls) (list e) []) b
 -- RETURN's list is in Graph
 ownSimple es (bare return) e bs b = []

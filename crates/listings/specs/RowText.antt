@@ -9,7 +9,7 @@ use Rattle.listings.specs.Bytes.{bytes, same, decimal}
 use Rattle.listings.specs.Listing.{JumpWord, goto, gosub, runto, OnWord, ongoto, ongosub, BlockWord, repeat, loop, until, endloop, exit, exitif, doif, else, done, BareWord, return, run, clr, stop, any, Simple, jump, on, for, next, block, bare, CondWord, if, ifelse, rcomp}
 use Rattle.listings.specs.Rows.{isWord, areWords, stripClose, all, Row, close, bad, form, rowOf, Form, moduleForm, lineForm, toForm, stmtsForm, runForm, forForm, nextForm, condForm, bareForm, numberForm, numbersForm, openingWords, lookup, parsed, mapParse, withParse, parseNumber, parseNumbers, parseName, parseTier, parseMark, parseSlots, Counted, Content, noForm, endRow, stmtsRow, moduleRow, lineRow, toRow, simpleRow, condRow, bareStmt, single, runStmt, forStmt, nextStmt, ifNoWords, handlerFacts, moduleBy, moduleContent, formContent, wordContent, contentOf}
 use Rattle.listings.specs.Every.{noNewline}
-use Rattle.listings.specs.ListingText.{closedForm, openForm, endForm, tierWord, markWord, slotWord, simpleText, condText, handlerWord, NumbersOk, NameOk, listed, SimpleOk, jumpWord, onWord, blockWord, bareWord, simpleWord, simpleArgs, condWord}
+use Rattle.listings.specs.ListingText.{closedForm, openForm, endForm, tierWord, markWord, slotWord, simpleText, condText, handlerWord, NumbersOk, NameOk, listed, SimpleOk, blockWord, bareWord, simpleWord, simpleArgs, condWord}
 use Rattle.listings.specs.NumberText.{both-true, IfParsed, if-same, if-map, if-with, number-text, number-of-text, numbers-text, AreNumbers, numbers-of-text}
 use Rattle.listings.specs.WordText.{inWord, isToken, areTokens, decimal-token, decimals-tokens, name-token, name-text, name-of-text, slots-text, slots-tokens, AreSlots, slots-of-text, IfFound, Entries, lookup-entry, tier-text, tier-token, tier-of-text, mark-text, mark-token, mark-of-text, handler-text, handler-token, handler-of-text}
 use Rattle.listings.specs.RowForms.{formText, form-row, form-newline, RowText, row-text}

@@ -11,7 +11,7 @@ use lib.Seq.{ext-getD, getD-take, getD-drop, length-take-le}
 use borrow.Author.Tests.{eq-eqb, ne-eqb, eqb-false}
 use Rattle.layout.specs.Layout.{nextWord}
 use Rattle.listings.specs.Bytes.{same, bytes}
-use Rattle.listings.specs.Listing.{Name, Tier, Mark, Slot, JumpWord, OnWord, BlockWord, BareWord, Simple, jump, on, for, next, block, bare, if, ifelse, rcomp}
+use Rattle.listings.specs.Listing.{Name, Tier, Mark, Slot, Simple, jump, on, for, next, block, bare, if, ifelse, rcomp}
 use Rattle.listings.specs.ListingText.{simpleWord, condWord, NameOk, SimpleOk}
 use Rattle.listings.specs.Rows.{openingWords}
 use Rattle.listings.specs.WordTable.{words, first, wordIndex}

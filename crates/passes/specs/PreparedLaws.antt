@@ -10,7 +10,7 @@ use lib.Dec.{eqb}
 use lib.ListN.{length, getD, getElem?, take, drop, replicate, length-replicate, length-drop}
 use lib.Seq.{ext-getD, getD-take, getD-drop, length-take-le}
 use Rattle.listings.specs.Bytes.{pick, same, bytes}
-use Rattle.listings.specs.Listing.{goto, gosub, runto, ongoto, ongosub, BlockWord, BareWord, return, run, clr, stop, any, Simple, jump, on, for, next, block, bare, if, ifelse, rcomp, Listing}
+use Rattle.listings.specs.Listing.{goto, gosub, runto, ongoto, ongosub, BlockWord, BareWord, return, run, clr, stop, any, jump, on, for, next, block, bare, if, ifelse, rcomp, Listing}
 use Rattle.listings.specs.ListingText.{simpleWord, condWord}
 use Rattle.listings.specs.Rows.{openingWords}
 use Rattle.listings.specs.WordTable.{words, first, wordIndex}

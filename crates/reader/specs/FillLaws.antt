@@ -10,7 +10,7 @@ use lib.ListN.{length, set, getD}
 use lib.Seq.{getD-append-seam}
 use borrow.Author.Tests.{eq-eqb, ne-eqb, leb-true}
 use Rattle.listings.specs.Bytes.{bytes, same}
-use Rattle.listings.specs.Listing.{Simple, CondWord, if, ifelse, rcomp, BranchForm, to, stmts, absent, Stmts, ∅, size, len, total, count}
+use Rattle.listings.specs.Listing.{CondWord, if, ifelse, rcomp, BranchForm, to, stmts, absent, Stmts, ∅, size, len, total, count}
 use Rattle.listings.specs.Rows.{malformed, invalid, parsed, Counted, Content, noForm, endRow, stmtsRow, moduleRow, lineRow, toRow, simpleRow, condRow, openingWords}
 use Rattle.listings.specs.Read.{OpenCond, Branches, noBranch, oneBranch, twoBranches, Position, begin, inModule, ended, inStmts, inCond, Reading, Outcome, taken, refused, goTo, oneMore, orRefused, check, ascends, atBegin, readLine, atModule, readSimple, readCond, numberOf, branched, endStmts, atStmts, NextBranch, noMore, mayFollow, nextBranch, condStmt, endCond, readTo, readStmts, atCond, readRow}
 use Rattle.listings.specs.ListingText.{simpleWord, condWord, listed}

@@ -13,11 +13,11 @@ use lib.Seq.{take-suc-set, drop-set-lt, drop-drop, take-at}
 use borrow.Author.Tests.{ne-eqb}
 use Rattle.listings.specs.Bytes.{bytes, same, pick, decimal}
 use Rattle.listings.specs.Listing.{Name, Tier, static, framed, dispatched, Mark, orphan, Slot, goto, gosub, runto, ongoto, ongosub, Simple, jump, on, for, next, block, bare}
-use Rattle.listings.specs.Rows.{split, all, Parse, malformed, invalid, parsed, parseNumber, parseName, isName, isCapital, openingWords, contentOf, rowOf, simpleRow, Counted}
+use Rattle.listings.specs.Rows.{split, Parse, malformed, invalid, parsed, parseNumber, parseName, isName, isCapital, openingWords, contentOf, rowOf, simpleRow, Counted}
 use Rattle.listings.specs.ListingText.{spacedWords, closedForm, blockWord, bareWord, simpleWord, simpleArgs, simpleText, tierWord, markWord, slotWord, SimpleOk, NumbersOk, SlotsOk}
 use Rattle.listings.specs.WordTable.{words, forms, first, wordIndex, kind, kindOf, kindAt}
 use Rattle.listings.specs.NumberText.{number-text, both-true}
-use Rattle.listings.specs.WordText.{inWord, isToken, areTokens, token-lacks, tokens-lack, decimal-token, decimals-tokens, name-token, name-text, slots-tokens, tier-token, mark-token}
+use Rattle.listings.specs.WordText.{inWord, isToken, areTokens, token-lacks, tokens-lack, name-text}
 use Rattle.listings.specs.RowForms.{join, split-join, join-split, join-words}
 use Rattle.listings.specs.RowText.{simple-tokens, row-simple}
 use Rattle.listings.specs.Scan.{indexOf, after, split-some, split-alone, split-first}
