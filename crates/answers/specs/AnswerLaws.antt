@@ -173,13 +173,13 @@ module _ (f : Question → List ℕ) (k : ℕ) where
 
 -- a frame question's answer; x, y: header and node as they are handed on
 pub frame-answered : (c t a f i u : List ℕ) (k : ℕ) (s : List ℕ) (h n b e : ℕ) (g : Bool) (x y : ℕ) {o o′ : List ℕ} {at r : ℕ} → FrameRead s (frame.Words h n b e g) → x ≡ h → y ≡ n
-    → Puts o at o′ r (frameAnswer c t a f i u x y (take (e - b) (drop b s)) g) → Puts o at o′ r (outcomeRow (answerAt c [] t a [] f i u []) k (orRefused (frameQuestion (split 32 s)) short))
+    → Puts o at o′ r (frameAnswer c t a f i u x y (take (e - b) (drop b s)) g) → Puts o at o′ r (outcomeRow (answerAt c t a [] f i u []) k (orRefused (frameQuestion (split 32 s)) short))
 unfolding answerAt
 frame-answered c t a f i u k s h n b e g x y d p q z =
     puts-is
     (ap (λ (m : ℕ). frameAnswer c t a f i u m y (take (e - b) (drop b s)) g) p
     ∙ ap (λ (m : ℕ). frameAnswer c t a f i u h m (take (e - b) (drop b s)) g) q
-    ∙ asked-frame (answerAt c [] t a [] f i u []) k (frameQuestion (split 32 s)) h n (take (e - b) (drop b s)) g (d .2))
+    ∙ asked-frame (answerAt c t a [] f i u []) k (frameQuestion (split 32 s)) h n (take (e - b) (drop b s)) g (d .2))
     z
 
 -- ---- the numbers in the room for them
@@ -199,18 +199,18 @@ path-put c t ns r xs n x a e q h y z =
 
 -- ---- by the opening word: tables that a question does not read do not matter
 
-module _ (c l t a e f i u p : List ℕ) (k w : ℕ) (s : List ℕ) where
-  pub by-path : w ≡ 4 → outcomeRow (answerAt c [] t [] [] [] [] [] []) k (orRefused (pathQuestion (split 32 s)) short)
-      ≡ outcomeRow (answerAt c l t a e f i u p) k (orRefused (wordQuestion (formAt w) (split 32 s)) short)
+module _ (c t a e f i u p : List ℕ) (k w : ℕ) (s : List ℕ) where
+  pub by-path : w ≡ 4 → outcomeRow (answerAt c t [] [] [] [] [] []) k (orRefused (pathQuestion (split 32 s)) short)
+      ≡ outcomeRow (answerAt c t a e f i u p) k (orRefused (wordQuestion (formAt w) (split 32 s)) short)
   unfolding wordQuestion formAt formQuestion answerAt outcomeRow orRefused
   by-path h = rw (eq-eqb w 4 h) (go (pathQuestion (split 32 s)) refl)
     where
-      go : (r : Parse Question) → pathQuestion (split 32 s) ≡ r → outcomeRow (answerAt c [] t [] [] [] [] [] []) k (orRefused r short) ≡ outcomeRow (answerAt c l t a e f i u p) k (orRefused r short)
+      go : (r : Parse Question) → pathQuestion (split 32 s) ≡ r → outcomeRow (answerAt c t [] [] [] [] [] []) k (orRefused r short) ≡ outcomeRow (answerAt c t a e f i u p) k (orRefused r short)
       go malformed q = refl
       go invalid q = refl
       go (parsed x) q =
           let d = ap parsed (path-is (split 32 s) x q) in
-          asked-path (answerAt c [] t [] [] [] [] [] []) k (parsed x) _ _ d ∙ sym (asked-path (answerAt c l t a e f i u p) k (parsed x) _ _ d)
+          asked-path (answerAt c t [] [] [] [] [] []) k (parsed x) _ _ d ∙ sym (asked-path (answerAt c t a e f i u p) k (parsed x) _ _ d)
 
   frame-is : (ws : List (List ℕ)) (q : Question) → frameQuestion ws ≡ parsed q → (h n : ℕ) × (v : Name) × (g : Bool) × (q ≡ ofFrame h n v g)
   unfolding frameQuestion
@@ -223,22 +223,22 @@ module _ (c l t a e f i u p : List ℕ) (k w : ℕ) (s : List ℕ) where
       (d .0 .0, d .0 .1, v, d .1, d .4)
   frame-is (h ∷ j ∷ v ∷ g ∷ y ∷ ws) q x = absurd (let z : _≡_ {A = ℕ} 0 1 = cc in omega arith)
 
-  pub by-frame : w ≡ 5 → outcomeRow (answerAt c [] t a [] f i u []) k (orRefused (frameQuestion (split 32 s)) short)
-      ≡ outcomeRow (answerAt c l t a e f i u p) k (orRefused (wordQuestion (formAt w) (split 32 s)) short)
+  pub by-frame : w ≡ 5 → outcomeRow (answerAt c t a [] f i u []) k (orRefused (frameQuestion (split 32 s)) short)
+      ≡ outcomeRow (answerAt c t a e f i u p) k (orRefused (wordQuestion (formAt w) (split 32 s)) short)
   unfolding wordQuestion formAt formQuestion answerAt outcomeRow orRefused
   by-frame h = rw h (go (frameQuestion (split 32 s)) refl)
     where
-      go : (r : Parse Question) → frameQuestion (split 32 s) ≡ r → outcomeRow (answerAt c [] t a [] f i u []) k (orRefused r short) ≡ outcomeRow (answerAt c l t a e f i u p) k (orRefused r short)
+      go : (r : Parse Question) → frameQuestion (split 32 s) ≡ r → outcomeRow (answerAt c t a [] f i u []) k (orRefused r short) ≡ outcomeRow (answerAt c t a e f i u p) k (orRefused r short)
       go malformed q = refl
       go invalid q = refl
       go (parsed x) q =
           let d = frame-is (split 32 s) x q in
           let m = ap parsed (d .4) in
-          sym (asked-frame (answerAt c [] t a [] f i u []) k (parsed x) (d .0) (d .1) (d .2) (d .3) m) ∙ asked-frame (answerAt c l t a e f i u p) k (parsed x) (d .0) (d .1) (d .2) (d .3) m
+          sym (asked-frame (answerAt c t a [] f i u []) k (parsed x) (d .0) (d .1) (d .2) (d .3) m) ∙ asked-frame (answerAt c t a e f i u p) k (parsed x) (d .0) (d .1) (d .2) (d .3) m
 
-  pub by-none : 5 < w → printedRefusal 2 k ≡ outcomeRow (answerAt c l t a e f i u p) k (orRefused (wordQuestion (formAt w) (split 32 s)) short)
+  pub by-none : 5 < w → printedRefusal 2 k ≡ outcomeRow (answerAt c t a e f i u p) k (orRefused (wordQuestion (formAt w) (split 32 s)) short)
   unfolding wordQuestion formAt
-  by-none h = rw (ne-eqb w 4 (λ q. omega arith), ne-eqb w 5 (λ q. omega arith), lt-ltb 5 w h) (refused-by (answerAt c l t a e f i u p) k malformed 2 (omega arith) refl)
+  by-none h = rw (ne-eqb w 4 (λ q. omega arith), ne-eqb w 5 (λ q. omega arith), lt-ltb 5 w h) (refused-by (answerAt c t a e f i u p) k malformed 2 (omega arith) refl)
 
   module _ (n4 : w ≡ 4 → ⊥) (n5 : w ≡ 5 → ⊥) (le : w ≤ 5) where
     by-word : wordQuestion (formAt w) (split 32 s) ≡ mapParse (numberQuestion w) (single (split 32 s))
@@ -246,11 +246,11 @@ module _ (c l t a e f i u p : List ℕ) (k w : ℕ) (s : List ℕ) where
     by-word = rw (ne-eqb w 4 n4, ne-eqb w 5 n5, le-ltb 5 w le)
 
     pub number-refused : (x : ParsedNumber) (n : ℕ) → x ≡ asNumber (single (split 32 s)) → x ≡ number.Refused n
-        → printedRefusal n k ≡ outcomeRow (answerAt c l t a e f i u p) k (orRefused (wordQuestion (formAt w) (split 32 s)) short)
+        → printedRefusal n k ≡ outcomeRow (answerAt c t a e f i u p) k (orRefused (wordQuestion (formAt w) (split 32 s)) short)
     unfolding mapParse
     number-refused x n q h =
         let d = go (single (split 32 s)) (sym q ∙ h) in
-        refused-by (answerAt c l t a e f i u p) k (wordQuestion (formAt w) (split 32 s)) n (d .0) (ap refusalOf by-word ∙ d .1)
+        refused-by (answerAt c t a e f i u p) k (wordQuestion (formAt w) (split 32 s)) n (d .0) (ap refusalOf by-word ∙ d .1)
       where
         go : (r : Parse ℕ) → asNumber r ≡ number.Refused n → (0 < n) × (refusalOf (mapParse (numberQuestion w) r) ≡ n)
         go malformed y = let z : 2 ≡ n = cc in (omega arith, z)
@@ -267,15 +267,15 @@ module _ (c l t a e f i u p : List ℕ) (k w : ℕ) (s : List ℕ) where
         go false false true = refl
         go false false false = refl
 
-    taken-number : (r : Parse Question) (n : ℕ) → r ≡ parsed (numberQuestion w n) → outcomeRow (answerAt c l t a e f i u p) k (orRefused r short) ≡ answerAt c l t a e f i u p (numberQuestion w n)
+    taken-number : (r : Parse Question) (n : ℕ) → r ≡ parsed (numberQuestion w n) → outcomeRow (answerAt c t a e f i u p) k (orRefused r short) ≡ answerAt c t a e f i u p (numberQuestion w n)
     unfolding outcomeRow orRefused short check
     taken-number r n q = rw (q, no-path n)
 
     pub number-answered : (x : ParsedNumber) (n : ℕ) → x ≡ asNumber (single (split 32 s)) → x ≡ number.Value n
-        → numberAnswer c l t e i u p w n ≡ outcomeRow (answerAt c l t a e f i u p) k (orRefused (wordQuestion (formAt w) (split 32 s)) short)
+        → numberAnswer c t e i u p w n ≡ outcomeRow (answerAt c t a e f i u p) k (orRefused (wordQuestion (formAt w) (split 32 s)) short)
     unfolding mapParse
     number-answered x n q h =
-        number-answer c l t a e f i u p w n ∙ sym (taken-number (wordQuestion (formAt w) (split 32 s)) n (by-word ∙ go (single (split 32 s)) (sym q ∙ h)))
+        number-answer c t a e f i u p w n ∙ sym (taken-number (wordQuestion (formAt w) (split 32 s)) n (by-word ∙ go (single (split 32 s)) (sym q ∙ h)))
       where
         go : (r : Parse ℕ) → asNumber r ≡ number.Value n → mapParse (numberQuestion w) r ≡ parsed (numberQuestion w n)
         go malformed y = absurd (let z : _≡_ {A = ℕ} 0 1 = cc in omega arith)

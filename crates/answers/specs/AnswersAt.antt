@@ -49,27 +49,27 @@ unfoldable pub frameAnswer : (counts stmts args falls lists succ : List ℕ) →
 frameAnswer c t a f i u h n v flag = replyRow (listRow (bytes "(frame")) (frameAt (getD c 0 0) (getD c 1 0) t a f i u h n v flag 4096)
 
 unfoldable pub answerAt : (counts stmts args entries falls lists succ pred : List ℕ) → Question → List ℕ
-answerAt c l t a e f i u p (ofSuccessors n) = successorsAnswer c i u n
-answerAt c l t a e f i u p (ofPredecessors n) = predecessorsAnswer c i p n
-answerAt c l t a e f i u p (ofStatement n) = statementAnswer c t n
-answerAt c l t a e f i u p (ofEntry n) = entryAnswer c e n
-answerAt c l t a e f i u p (ofPath j ns) = pathAnswer c t j ns
-answerAt c l t a e f i u p (ofFrame h n v flag) = frameAnswer c t a f i u h n v flag
+answerAt c t a e f i u p (ofSuccessors n) = successorsAnswer c i u n
+answerAt c t a e f i u p (ofPredecessors n) = predecessorsAnswer c i p n
+answerAt c t a e f i u p (ofStatement n) = statementAnswer c t n
+answerAt c t a e f i u p (ofEntry n) = entryAnswer c e n
+answerAt c t a e f i u p (ofPath j ns) = pathAnswer c t j ns
+answerAt c t a e f i u p (ofFrame h n v flag) = frameAnswer c t a f i u h n v flag
 
 -- the question of one number, by the number of its opening word, and its answer
 unfoldable pub numberQuestion : (word n : ℕ) → Question
 numberQuestion w n = pick (eqb w 0) (ofSuccessors n) (pick (eqb w 1) (ofPredecessors n) (pick (eqb w 2) (ofStatement n) (ofEntry n)))
 
 unfoldable pub numberAnswer : (counts stmts entries lists succ pred : List ℕ) → (word n : ℕ) → List ℕ
-numberAnswer c l t e i u p w n =
+numberAnswer c t e i u p w n =
     pick (eqb w 0) (successorsAnswer c i u n) (pick (eqb w 1) (predecessorsAnswer c i p n) (pick (eqb w 2) (statementAnswer c t n) (entryAnswer c e n)))
 
-pub number-answer : (c l t a e f i u p : List ℕ) (w n : ℕ) → numberAnswer c l t e i u p w n ≡ answerAt c l t a e f i u p (numberQuestion w n)
+pub number-answer : (c t a e f i u p : List ℕ) (w n : ℕ) → numberAnswer c t e i u p w n ≡ answerAt c t a e f i u p (numberQuestion w n)
 unfolding numberAnswer numberQuestion answerAt
-number-answer c l t a e f i u p w n = go (eqb w 0) (eqb w 1) (eqb w 2)
+number-answer c t a e f i u p w n = go (eqb w 0) (eqb w 1) (eqb w 2)
   where
     go : (x y z : Bool) → pick x (successorsAnswer c i u n) (pick y (predecessorsAnswer c i p n) (pick z (statementAnswer c t n) (entryAnswer c e n)))
-        ≡ answerAt c l t a e f i u p (pick x (ofSuccessors n) (pick y (ofPredecessors n) (pick z (ofStatement n) (ofEntry n))))
+        ≡ answerAt c t a e f i u p (pick x (ofSuccessors n) (pick y (ofPredecessors n) (pick z (ofStatement n) (ofEntry n))))
     go true y z = refl
     go false true z = refl
     go false false true = refl

@@ -162,7 +162,7 @@ fn answer_path(
     counts: &[u32; 6],
     stmts: &[u16],
 ) -> usize
-    ensures { λ r. ⌜ Puts (now (out .entry)) at (now (out .exit)) r (outcomeRow (answerAt (now (counts .entry)) [] (now (stmts .entry)) [] [] [] [] [] []) k (orRefused (pathQuestion (split 32 (now (s .entry)))) short)) ⌝ }
+    ensures { λ r. ⌜ Puts (now (out .entry)) at (now (out .exit)) r (outcomeRow (answerAt (now (counts .entry)) (now (stmts .entry)) [] [] [] [] [] []) k (orRefused (pathQuestion (split 32 (now (s .entry)))) short)) ⌝ }
 {
     let t = check_all(s, false);
     if t.refusal != 0 {
@@ -230,7 +230,7 @@ fn answer_frame(
     lists: &[u16],
     succ: &[u16],
 ) -> usize
-    ensures { λ r. ⌜ Puts (now (out .entry)) at (now (out .exit)) r (outcomeRow (answerAt (now (counts .entry)) [] (now (stmts .entry)) (now (args .entry)) [] (now (falls .entry)) (now (lists .entry)) (now (succ .entry)) []) k (orRefused (frameQuestion (split 32 (now (s .entry)))) short)) ⌝ }
+    ensures { λ r. ⌜ Puts (now (out .entry)) at (now (out .exit)) r (outcomeRow (answerAt (now (counts .entry)) (now (stmts .entry)) (now (args .entry)) [] (now (falls .entry)) (now (lists .entry)) (now (succ .entry)) []) k (orRefused (frameQuestion (split 32 (now (s .entry)))) short)) ⌝ }
 {
     match frame_words(s) {
         FrameWords::Refused(n) => put_refusal(out, at, n as usize, k),

@@ -156,13 +156,13 @@ module _ (text : List ℕ) (s : Sizes) (n : ℕ) (cut : CutAt text n) (c l t a e
   listing-refused out out′ j number place q z =
       asked-as out out′ j (puts-is (sym (ap (λ (b : Built). answers b (parts (split 10 text) .1)) (refused-by (text-read (take n text)) s T x w number place q .1))) z)
 
-  pub questions-asked : (out out′ : List ℕ) (j : ℕ) → x ≡ built.Graph → QuestionsAnswered text (answerAt c l t a e f i u p) out out′ j → TextAsked text s c l t a e f k i r u p out out′ j
+  pub questions-asked : (out out′ : List ℕ) (j : ℕ) → x ≡ built.Graph → QuestionsAnswered text (answerAt c t a e f i u p) out out′ j → TextAsked text s c l t a e f k i r u p out out′ j
   unfolding answers
   questions-asked out out′ j q z =
       let b = build-answers (take n text) s T x w q in
       let go : (o : Option (List (List ℕ))) → parts (split 10 text) .1 ≡ o → Puts out 0 out′ j (answers (graph (b .0)) o)
       = λ o. elim o [
         | none ↦ λ y. z .alone y
-        | some ws ↦ λ y. puts-is (rows-same (answerAt c l t a e f i u p) (answerRow (b .0)) (b .2) 0 ws) (z .asks ws y)
+        | some ws ↦ λ y. puts-is (rows-same (answerAt c t a e f i u p) (answerRow (b .0)) (b .2) 0 ws) (z .asks ws y)
       ] in
       asked-as out out′ j (puts-is (sym (ap (λ (y : Built). answers y (parts (split 10 text) .1)) (b .1))) (go (parts (split 10 text) .1) refl))

@@ -64,7 +64,7 @@ returns c =
     let at-start : tie.Start = search in
     let a = at-start .args in
     let g = subst (FrameRead (a .s .now)) (at-n .n .given .1) (at-frame-words .frame-words .ensures) in
-    puts-is (refused-by (answerAt (a .counts .now) [] (a .stmts .now) (a .args .now) [] (a .falls .now) (a .lists .now) (a .succ .now) []) (a .k) (frameQuestion (split 32 (a .s .now))) _ (g .0) (g .1)) (c .before .before .put-refusal .ensures)
+    puts-is (refused-by (answerAt (a .counts .now) (a .stmts .now) (a .args .now) [] (a .falls .now) (a .lists .now) (a .succ .now) []) (a .k) (frameQuestion (split 32 (a .s .now))) _ (g .0) (g .1)) (c .before .before .put-refusal .ensures)
 
 same-length-2 : tie.Need-same-length-2
 same-length-2 c = search needs

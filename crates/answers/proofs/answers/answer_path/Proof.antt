@@ -25,7 +25,7 @@ returns c =
     let at-check-all : tie.After-check-all = search in
     let at-start : tie.Start = search in
     let a = at-start .args in
-    puts-is (path-refused (answerAt (a .counts .now) [] (a .stmts .now) [] [] [] [] [] []) (a .k) (a .s .now) (at-check-all .check-all .result) (at-check-all .check-all .ensures) (at-then1 .if1 .taken)) (c .before .before .put-refusal .ensures)
+    puts-is (path-refused (answerAt (a .counts .now) (a .stmts .now) [] [] [] [] [] []) (a .k) (a .s .now) (at-check-all .check-all .result) (at-check-all .check-all .ensures) (at-then1 .if1 .taken)) (c .before .before .put-refusal .ensures)
 
 put-refusal-requires-2 : tie.Need-put-refusal-requires-2
 put-refusal-requires-2 c κs = search needs
@@ -39,14 +39,14 @@ returns-2 c =
     let at-check-all : tie.After-check-all = search in
     let at-start : tie.Start = search in
     let a = at-start .args in
-    puts-is (path-8 (answerAt (a .counts .now) [] (a .stmts .now) [] [] [] [] [] []) (a .k) (a .s .now) (at-check-all .check-all .result) (at-check-all .check-all .ensures) (at-else1 .if1 .left) (c .before .before .before .before .if2 .taken)) (c .before .before .put-refusal2 .ensures)
+    puts-is (path-8 (answerAt (a .counts .now) (a .stmts .now) [] [] [] [] [] []) (a .k) (a .s .now) (at-check-all .check-all .result) (at-check-all .check-all .ensures) (at-else1 .if1 .left) (c .before .before .before .before .if2 .taken)) (c .before .before .put-refusal2 .ensures)
 
 put-path-requires : tie.Need-put-path-requires
 put-path-requires c κs =
     let at-check-all : tie.After-check-all = search in
     let at-start : tie.Start = search in
     let a = at-start .args in
-    (count-is (answerAt (a .counts .now) [] (a .stmts .now) [] [] [] [] [] []) (a .k) (a .s .now) (at-check-all .check-all .result) (at-check-all .check-all .ensures), c .before .if2 .left)
+    (count-is (answerAt (a .counts .now) (a .stmts .now) [] [] [] [] [] []) (a .k) (a .s .now) (at-check-all .check-all .result) (at-check-all .check-all .ensures), c .before .if2 .left)
 
 same-length-3 : tie.Need-same-length-3
 same-length-3 c = search needs
@@ -58,7 +58,7 @@ returns-3 c =
     let at-check-all : tie.After-check-all = search in
     let at-start : tie.Start = search in
     let a = at-start .args in
-    puts-is (path-answered (answerAt (a .counts .now) [] (a .stmts .now) [] [] [] [] [] []) (a .k) (a .s .now) (at-check-all .check-all .result) (at-check-all .check-all .ensures) (at-else1 .if1 .left) (c .before .before .before .before .if2 .left)) (c .before .before .put-path .ensures)
+    puts-is (path-answered (answerAt (a .counts .now) (a .stmts .now) [] [] [] [] [] []) (a .k) (a .s .now) (at-check-all .check-all .result) (at-check-all .check-all .ensures) (at-else1 .if1 .left) (c .before .before .before .before .if2 .left)) (c .before .before .put-path .ensures)
 
 pub answer-path-spec : {M : Type 1} → statement M
 answer-path-spec =

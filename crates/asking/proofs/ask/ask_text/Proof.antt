@@ -43,10 +43,10 @@ start-of-listing-length c = search
 abbrev lines-of-answer-questions : tie.After-answer-questions → tie.After-lines
 lines-of-answer-questions c = search
 
-abbrev build-of-answer-questions-arg10 : tie.After-answer-questions-arg10 → tie.After-build
-build-of-answer-questions-arg10 c = search
+abbrev build-of-answer-questions-arg9 : tie.After-answer-questions-arg9 → tie.After-build
+build-of-answer-questions-arg9 c = search
 
-ruleset ways = (listing-length-of-build, build-of-put-refusal, start-of-listing-length, lines-of-answer-questions, build-of-answer-questions-arg10)
+ruleset ways = (listing-length-of-build, build-of-put-refusal, start-of-listing-length, lines-of-answer-questions, build-of-answer-questions-arg9)
 
 answer-questions-requires : tie.Need-answer-questions-requires
 answer-questions-requires c κs =
