@@ -4,6 +4,7 @@ ghost use mathlib.Core.Path.{_≡_};
 ghost use Prim.Native.Nat.{_+_, _%_, _≤_, _<_, _^_};
 ghost use lib.Dec.{eqb};
 ghost use lib.ListN.{length, replicate};
+ghost use Rattle.listings.specs.Bytes.{pick};
 ghost use Rattle.passes.specs.Sets.{inserted, joined, oneIf, wordMembers, membersOf, sizeOf, membersWithin, Put};
 
 // In a function of its own, so that no other proof sees the 64 zeros.
@@ -44,6 +45,15 @@ pub(crate) fn join(set: &mut [u64], more: &[u64])
     while q < set.len() {
         set[q] = set[q] | more[q];
         q += 1;
+    }
+}
+
+// The same for any two sets: nothing changes where they have not as many words.
+pub fn join_set(set: &mut [u64], more: &[u64])
+    ensures { λ _. ⌜ now (set .exit) ≡ pick (eqb (length (now (more .entry))) (length (now (set .entry)))) (joined (now (set .entry)) (now (more .entry))) (now (set .entry)) ⌝ }
+{
+    if more.len() == set.len() {
+        join(set, more);
     }
 }
 
