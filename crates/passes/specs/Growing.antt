@@ -1,5 +1,5 @@
 -- A list of distinct nodes that grows in a part with room for all nodes: pieces one after the other. Assumes nothing.
-use Prim.Native.Nat.{ℕ, zero, suc, _+_, _-_, _≤_, _<_}
+use Prim.Native.Nat.{ℕ, _+_, _-_, _≤_, _<_}
 use mathlib.Core.Path.{_≡_, refl, sym, _∙_}
 use mathlib.Core.Bool.{true, false}
 use mathlib.Core.List.{List, [], _∷_, _++_, append-assoc, append-nil}
@@ -56,10 +56,6 @@ grown-added m p q n r l a s w g h =
     record { room = omega (arith, g .room); within = w; distinct = rw (a .list) (distinct-all l (g .distinct)); below = rw (a .list) (addAll-ids m (g .below) h) }
 
 -- ---- one node
-
-pub grows-zero : (p : List ℕ) (n t : ℕ) → t ≡ 0 → Grows p n p n (decode t)
-grows-zero p n zero e = grows-none p n
-grows-zero p n (suc t) e = absurd (omega arith)
 
 module _ (p : List ℕ) (n t : ℕ) (z : t ≡ 0 → ⊥) where
   pub grows-old : n ≤ length p → has (t - 1) (take n p) ≡ true → Grows p n p n (decode t)

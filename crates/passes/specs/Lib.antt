@@ -46,10 +46,8 @@ pub mod ReturnTargets
 pub mod NodeList
 pub mod FillRows
 pub mod FillRowLaws
-pub mod PredecessorLists
 pub mod SkipLists
 pub mod EdgeCount
-pub mod FinalLists
 pub mod Held
 pub mod LineEntries
 pub mod EntryColumn

@@ -6,7 +6,7 @@ use Prim.Native.Nat.{ℕ, zero, suc, _+_, _-_, _*_, _≤_, _<_}
 use native.Mathlib.Omega.{arith}
 use native.Mathlib.Numerals.{add-one}
 use lib.Dec.{eqb}
-use lib.ListN.{length, length-append, take, getD, set}
+use lib.ListN.{length, length-append, take, drop, getD, set}
 use lib.Seq.{length-take-le, take-take}
 use Rattle.listings.specs.Bytes.{pick}
 use Rattle.listings.specs.Every.{all[]}
@@ -15,12 +15,11 @@ use Rattle.graph_laws.specs.Adding.{decode}
 use Rattle.graph.specs.Graph.{Wired, wire, Role, call, returns, forgets, steps, noNode, role, fallFrom, base, skipStepsBy, skipSteps, returnEdges, successorsBy, successorsIn, successors}
 use Rattle.graph_laws.specs.GraphLaws.{nodeCount, fall-below, lists-ok}
 use Rattle.graph_laws.specs.EdgeBounds.{Ids, list-ids}
-use Rattle.passes.specs.Walk.{Stored}
-use Rattle.passes.specs.EdgeTable.{joinedLists, joined-snoc, listsTo, length-lists, lists-at, lists-all, ListsStored, Appended, stored-none, stored-more}
+use Rattle.passes.specs.Walk.{Stored, storedList}
+use Rattle.passes.specs.EdgeTable.{joinedLists, joined-snoc, part-within, listsTo, length-lists, lists-at, ListsStored, Appended, stored-none, stored-part, stored-more}
 use Rattle.passes.specs.Prepared.{Prepared, Keys, Roles}
 use Rattle.tables.specs.Columns.{callWord, wordOf, fallEntry}
 use Rattle.passes.specs.NodeList.{ListReady, ListIs, ListMade}
-use Rattle.passes.specs.PredecessorLists.{walk-lists}
 use Rattle.passes.specs.ReturnTargets.{one-at-most}
 
 -- ---- what a skipping path follows from a node whose list is l: from a call only its fall
@@ -271,8 +270,15 @@ skip-ids L i = go (role (wire L) i) (lists-ok L .ids i)
 -- the stored lists are the steps of skipping paths
 pub skips-walk : (L : Listing) {n at : ℕ} {lists₀ lists scratch₀ scratch : List ℕ} → n ≡ nodeCount L → n * 4 ≤ length lists₀ → ListsStored (listsTo (skipSteps (wire L)) n) at lists₀ lists scratch₀ scratch
     → Stored lists scratch n (skipSteps (wire L))
+unfolding storedList
 skips-walk L {n} {at} {lists₀} {lists} {scratch₀} {scratch} e h s =
     let f = skipSteps (wire L) in
+    let ls = listsTo f n in
+    let k = length-lists f n in
     let ids : (i : ℕ) → Ids n (f i) = λ i. rw e (skip-ids L i) in
-    let w = walk-lists (length-lists f n) (lists-all f ids n) h s in
-    record { rows = w .rows; within = w .within; list = λ v g. w .list v g ∙ lists-at f n v g; ids = λ v g. ids v }
+    record {
+      rows = omega (arith, s .rows .size);
+      within = λ v g. omega (arith, s .rows .col0 v (omega arith), s .rows .col1 v (omega arith), part-within ls v (omega arith), ap length (s .table), length-append (joinedLists ls) (drop at scratch₀));
+      list = λ v g. stored-part s v (omega arith) ∙ lists-at f n v g;
+      ids = λ v g. ids v;
+    }

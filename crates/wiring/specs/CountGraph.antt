@@ -28,7 +28,7 @@ use Rattle.passes.specs.RegionLaws.{told-graph}
 use Rattle.passes.specs.Spread.{SpreadTo}
 use Rattle.passes.specs.FillRows.{FillReady}
 use Rattle.passes.specs.EdgeCount.{edge-count, edges-joined}
-use Rattle.passes.specs.FinalLists.{ReturnRowsOnly, FinalTables}
+use Rattle.wiring.specs.FinalGraph.{ReturnRowsOnly, FinalTables}
 use Rattle.passes.specs.SkipLists.{SkipsReady, SkipTable, skips-walk}
 use Rattle.wiring.specs.WriteGraph.{SkipsStored}
 use Rattle.passes.specs.Connecting.{no}

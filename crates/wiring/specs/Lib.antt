@@ -1,6 +1,7 @@
 pub mod GraphTables
 pub mod Refusals
 pub mod Wiring
+pub mod FinalGraph
 pub mod WriteGraph
 pub mod CountGraph
 pub mod WireLaws

@@ -5,7 +5,7 @@ use mathlib.Core.List.{List, [], _∷_, _++_}
 use mathlib.Core.Option.{Option, none, some}
 use native.Mathlib.Omega.{arith}
 use lib.ListN.{length, getD, getElem?}
-use Rattle.listings.specs.Listing.{Lines, Listing, total, count}
+use Rattle.listings.specs.Listing.{Listing, total, count}
 use Rattle.listings.specs.ListingText.{Within}
 use Rattle.listings.specs.Records.{padded, lineRecs, argRow, handlerNumber}
 use Rattle.listings.specs.ReadingRecords.{numbers-count, lines-length}
@@ -32,7 +32,7 @@ use Rattle.passes.specs.GraphHeld.{GraphHeld}
 use Rattle.passes.specs.HoldsListing.{HoldsListing}
 use Rattle.passes.specs.GraphReads.{node-count, reads, succ-part, pred-part, continuation-is}
 use Rattle.wiring.specs.WriteGraph.{edges-are, rows-are}
-use Rattle.passes.specs.FinalLists.{few-through}
+use Rattle.wiring.specs.FinalGraph.{few-through}
 
 -- ---- the tables hold the graph
 

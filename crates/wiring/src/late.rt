@@ -12,8 +12,8 @@ ghost use mathlib.Core.Path.{_≡_};
 ghost use lib.ListN.{length};
 ghost use Rattle.graph_laws.specs.Adding.{Added};
 ghost use Rattle.passes.specs.Late.{FitsPart, fallFrom, FallFitsFrom, ElsesFit, ElsesAdded, DoifFits, DoifAdded, closerFrom, CloserFits, joinsWord, LateReady, LateAdded};
-use crate::growing::add_node;
 use layout::widths::wide;
+use storing::growing::add_node;
 
 // Adds where the node c - 1 falls, where c is not 0.
 fn add_fall(falls: &[u16], c: usize, part: &mut [u16], n: usize) -> usize

@@ -1,5 +1,4 @@
 // A node's list, each edge once: what its statement adds, then what later nodes add, then an orphan NEXT's bodies.
-use crate::growing::add_node;
 use crate::late::add_late;
 use crate::nexts::add_link;
 use crate::nexts::add_orphan;
@@ -20,10 +19,12 @@ use layout::words::EXIT;
 use layout::words::FOR;
 use layout::words::GOTO;
 use layout::words::NEXT;
-use layout::words::ONGOTO;
 use layout::words::RUN;
 use layout::words::STOP;
 use layout::words::UNTIL;
+use storing::growing::add_jump;
+use storing::growing::add_node;
+use storing::growing::add_targets;
 ghost use mathlib.Core.Path.{_≡_};
 ghost use Prim.Native.Nat.{_+_, _*_, _≤_};
 ghost use lib.ListN.{length, take, getD};
@@ -34,21 +35,7 @@ ghost use Rattle.passes.specs.Growing.{Grows};
 ghost use Rattle.passes.specs.NextBodies.{PoppedRoom};
 ghost use Rattle.passes.specs.AddRoom.{RoomToAdd};
 ghost use Rattle.passes.specs.EntryOrder.{Rises, EntryRoom, EntryAdded};
-ghost use Rattle.passes.specs.NodeList.{runEdges, jumpEdges, nextEdges, untilEdges, fallsWord, blockEdges, ownEdges, OwnRoom, ListReady, ListMade};
-
-// Adds the nodes that a row of entries leads to.
-fn add_targets(row: &[u16], part: &mut [u16], n: usize) -> usize
-    requires { ⌜ RoomToAdd (now part) n (each decode (now row)) ⌝ }
-    ensures { λ r. ⌜ Grows (now (part .entry)) n (now (part .exit)) r (each decode (now (row .entry))) ⌝ }
-{
-    let mut r = n;
-    let mut k: usize = 0;
-    while k < row.len() {
-        r = add_node(part, r, row[k]);
-        k += 1;
-    }
-    r
-}
+ghost use Rattle.passes.specs.NodeList.{runEdges, nextEdges, untilEdges, fallsWord, blockEdges, ownEdges, OwnRoom, ListReady, ListMade};
 
 // Adds the first line's entry.
 fn add_first(entries: &[u16], rows: usize, part: &mut [u16]) -> usize
@@ -113,27 +100,6 @@ fn add_run(
     let at = i * ARG_ENTRIES;
     let end = at + count;
     add_targets(&links[at..end], part, 0)
-}
-
-// GOTO, GOSUB and ON go to their targets, and ON falls after them. A RETURN has no target here.
-pub(crate) fn add_jump(
-    stmts: &[u16],
-    falls: &[u16],
-    links: &[u16],
-    i: usize,
-    part: &mut [u16],
-) -> usize
-    requires { ⌜ (i * 12 + 12 ≤ length (now stmts)) × (i * 3 + 3 ≤ length (now falls)) × (i * 64 + 64 ≤ length (now links)) × (getD (now stmts) (i * 12 + 10) 0 ≤ 64) ⌝ }
-    requires { ⌜ RoomToAdd (now part) 0 (jumpEdges (now stmts) (now falls) (now links) i) ⌝ }
-    ensures { λ r. ⌜ Grows (now (part .entry)) 0 (now (part .exit)) r (jumpEdges (now (stmts .entry)) (now (falls .entry)) (now (links .entry)) i) ⌝ }
-{
-    let at = i * ARG_ENTRIES;
-    let end = at + wide(stmts[i * STMT_ENTRIES + COUNT]);
-    let r = add_targets(&links[at..end], part, 0);
-    if stmts[i * STMT_ENTRIES] < ONGOTO {
-        return r;
-    }
-    add_node(part, r, falls[i * FALL_ENTRIES])
 }
 
 // A NEXT goes to the bodies of the FORs that it pops, then it falls.

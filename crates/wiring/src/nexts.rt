@@ -1,5 +1,4 @@
 // What a NEXT's list gets of FORs: the bodies of those that it pops, and of the dispatched ones that an orphan's slots select.
-use crate::growing::add_node;
 use layout::columns::ARG_ENTRIES;
 use layout::columns::COUNT;
 use layout::columns::DETAIL;
@@ -8,6 +7,7 @@ use layout::columns::ORPHAN;
 use layout::columns::STMT_ENTRIES;
 use layout::widths::wide;
 use layout::words::NEXT;
+use storing::growing::add_node;
 ghost use mathlib.Core.Path.{_≡_};
 ghost use Prim.Native.Nat.{_+_, _*_, _≤_, _<_};
 ghost use lib.ListN.{length, take, getD};

@@ -1,9 +1,9 @@
 // The lists that skipping paths follow, stored for the walks through regions.
 use crate::list_of::list_of;
-use crate::store::append_list;
 use layout::columns::FALL_ENTRIES;
 use layout::columns::STMT_ENTRIES;
 use layout::limits::MAX_EDGES;
+use storing::store::append_list;
 use tables::calls::is_call;
 ghost use Prim.Native.Nat.{_*_, _≤_, _<_};
 ghost use lib.ListN.{length, take};
@@ -79,7 +79,7 @@ fn store_skip_list(
         return Edges { total, at: e.at };
     }
     let kept = skip_list(stmts, falls, i, buffer, count);
-    let at = append_list(lists, scratch, i, e.at, &buffer[..kept], kept);
+    let at = append_list(lists, scratch, i, e.at, &buffer[..kept]);
     Edges { total, at }
 }
 

@@ -4,15 +4,14 @@ use crate::frames::stack_frames;
 use crate::return_targets::list_return_targets;
 use crate::skip_lists::store_skip_lists;
 use crate::spread::spread_return_edges;
-use crate::write_graph::write_graph;
 use layout::limits::MAX_EDGES;
 use layout::limits::MAX_STMTS;
+use storing::edge_count::edges_fit;
+use storing::write_graph::write_graph;
 use walks::regions::region_return_edges;
 use walks::return_totals::count_returns;
 ghost use mathlib.Core.Path.{_≡_};
-ghost use mathlib.Core.Bool.{true, _&&_};
-ghost use Prim.Native.Nat.{min};
-ghost use lib.Dec.{leb};
+ghost use mathlib.Core.Bool.{true};
 ghost use lib.ListN.{length, replicate};
 ghost use Rattle.wiring.specs.CountGraph.{ReturnsReady, ReturnsFound, CountReady, CountedTo};
 ghost use Rattle.passes.specs.Preparing.{FramesMade};
@@ -164,20 +163,8 @@ fn count_graph(
     }
 }
 
-// Whether so many edges are few, and both edge tables hold them.
-fn edges_fit(edges: usize, succ: usize, pred: usize) -> bool
-    ensures { λ r. ⌜ r ≡ (leb edges (min succ pred) && leb edges 32768) ⌝ }
-{
-    if succ < edges {
-        return false;
-    }
-    if pred < edges {
-        return false;
-    }
-    edges <= MAX_EDGES
-}
-
-// The lists of the n nodes; d of these are dispatched FORs that have a body.
+// The lists of the n nodes; d of these are dispatched FORs that have a body. The tables are a listing's and the edges are counted before, so writing is
+// never refused.
 fn wire_lists(
     handlers: bool,
     count: usize,
@@ -235,7 +222,6 @@ fn wire_lists(
             c.targets,
             succ,
             pred,
-            &mut buffer,
         );
         return Wiring {
             written: true,

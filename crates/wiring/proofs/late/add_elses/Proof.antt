@@ -4,6 +4,7 @@ use native.Mathlib.Omega.{arith}
 use lib.ListN.{length}
 use Rattle.passes.specs.ChainLaws.{chainLeft, Walk, walk-start, walk-visit, walk-next, walk-end}
 use Rattle.passes.specs.FitLaws.{fits-room, fits-next}
+use Rattle.storing.specs.AddWithin.{grows-one}
 use Rattle.wiring.proofs.late.add_elses.Statement.{statement}
 use Rattle.wiring.proofs.late.add_elses.Tie as tie
 
@@ -44,12 +45,7 @@ shared-slice-read-add-node c =
     v .there
 
 add-node-requires : tie.Need-add-node-requires Inv-loop μ-loop
-add-node-requires c κs =
-    let at-start : tie.Start Inv-loop μ-loop = search in
-    let a = at-start .args in
-    let l = c .before .before .before .loop in
-    let v = walk-visit (a .falls .now) (a .frames .now) (a .first) (a .part .now) (a .n) (l .part) (l .r) (l .c) (c .before .before .loop-test .taken) (l .inv) in
-    fits-room (l .part) (l .r) _ (l .inv .fits) (v .leads)
+add-node-requires c κs = tt
 
 mul-wide : tie.Need-mul-wide Inv-loop μ-loop
 mul-wide c =
@@ -114,8 +110,9 @@ loop-again c =
     let t = in-loop .loop-test .taken in
     let v = walk-visit (a .falls .now) (a .frames .now) (a .first) (a .part .now) (a .n) (l .part) (l .r) (l .c) t (l .inv) in
     let s = c .before .before .before .before .add-node in
-    let f = fits-next (l .part) (s .last .0) (l .r) (s .result) _ (l .inv .fits) (v .leads) (s .kept .0) (s .ensures) in
-    walk-next (a .falls .now) (a .frames .now) (a .first) (a .part .now) (a .n) (l .part) (l .r) (l .c) (c .wide .result) (s .result) _ t (s .ensures .added) f (s .kept .0)
+    let g = grows-one (fits-room (l .part) (l .r) _ (l .inv .fits) (v .leads)) (s .ensures) in
+    let f = fits-next (l .part) (s .last .0) (l .r) (s .result) _ (l .inv .fits) (v .leads) (s .kept .0) g in
+    walk-next (a .falls .now) (a .frames .now) (a .first) (a .part .now) (a .n) (l .part) (l .r) (l .c) (c .wide .result) (s .result) _ t (g .added) f (s .kept .0)
     (c .wide .ensures) (l .inv)
 
 same-length : tie.Need-same-length Inv-loop μ-loop

@@ -3,6 +3,7 @@ use borrow.Author.Needs.{needs}
 use native.Mathlib.Omega.{arith}
 use Rattle.passes.specs.ChainLaws.{fall-fits, fall-none, fall-some}
 use Rattle.passes.specs.FitLaws.{fits-room, fits-next}
+use Rattle.storing.specs.AddWithin.{grows-one}
 use Rattle.wiring.proofs.late.add_fall.Statement.{statement}
 use Rattle.wiring.proofs.late.add_fall.Tie as tie
 
@@ -24,9 +25,7 @@ shared-slice-read-add-node c =
     fall-fits (at-start .args .falls .now) _ (at-start .args .c) (c .before .before .if1 .left) (at-start .pre .1) .0
 
 add-node-requires : tie.Need-add-node-requires
-add-node-requires c κs =
-    let at-start : tie.Start = search in
-    fits-room (at-start .args .part .now) (at-start .args .n) _ (at-start .pre .0) (fall-fits (at-start .args .falls .now) _ (at-start .args .c) (c .before .before .if1 .left) (at-start .pre .1) .1)
+add-node-requires c κs = tt
 
 same-length : tie.Need-same-length
 same-length c = search needs
@@ -36,9 +35,11 @@ returns-2 c =
     let at-else1 : tie.Else1 = search in
     let at-start : tie.Start = search in
     let a = c .before .before .add-node in
-    let z = at-else1 .if1 .left in (
-      fall-some (at-start .args .falls .now) _ _ _ _ (at-start .args .c) z (a .ensures .added),
-      fits-next (at-start .args .part .now) (a .last .0) (at-start .args .n) (a .result) _ (at-start .pre .0) (fall-fits (at-start .args .falls .now) _ (at-start .args .c) z (at-start .pre .1) .1) (a .kept .0) (a .ensures),
+    let z = at-else1 .if1 .left in
+    let f = fall-fits (at-start .args .falls .now) _ (at-start .args .c) z (at-start .pre .1) .1 in
+    let g = grows-one (fits-room (at-start .args .part .now) (at-start .args .n) _ (at-start .pre .0) f) (a .ensures) in (
+      fall-some (at-start .args .falls .now) _ _ _ _ (at-start .args .c) z (g .added),
+      fits-next (at-start .args .part .now) (a .last .0) (at-start .args .n) (a .result) _ (at-start .pre .0) f (a .kept .0) g,
     )
 
 pub add-fall-spec : {M : Type 1} → statement M

@@ -2,8 +2,9 @@
 use borrow.Author.Needs.{needs}
 use mathlib.Core.Path.{sym, _∙_}
 use Rattle.passes.specs.Growing.{grows-none}
-use Rattle.passes.specs.AddRoom.{room-one, room-as, grows-as}
+use Rattle.passes.specs.AddRoom.{room-as, grows-as}
 use Rattle.passes.specs.NodeListLaws.{block-endloop, block-until, block-falls, block-stops, body-room}
+use Rattle.storing.specs.AddWithin.{grows-within}
 use Rattle.wiring.proofs.list_of.add_block.Statement.{statement}
 use Rattle.wiring.proofs.list_of.add_block.Tie as tie
 
@@ -58,10 +59,7 @@ shared-slice-read-add-node : tie.Need-shared-slice-read-add-node
 shared-slice-read-add-node c = search needs
 
 add-node-requires : tie.Need-add-node-requires
-add-node-requires c κs =
-    let at-else1 : tie.Else1 = search in
-    let at-start : tie.Start = search in
-    room-one _ _ _ (room-as (block-falls (at-start .args .falls .now) (at-start .args .frames .now) (at-start .args .i) (at-start .args .word) (at-else1 .if1 .left) (c .before .before .before .before .if2 .left) (sym (c .before .before .before .falls-on .ensures) ∙ c .before .before .if3 .taken)) (at-start .pre .1))
+add-node-requires c κs = tt
 
 same-length-3 : tie.Need-same-length-3
 same-length-3 c = search needs
@@ -74,7 +72,8 @@ returns-3 c =
     let at-else1 : tie.Else1 = search in
     let at-start : tie.Start = search in
     let a = at-start .args in
-    grows-as (block-falls (a .falls .now) (a .frames .now) (a .i) (a .word) (at-else1 .if1 .left) (at-else2 .if2 .left) (sym (at-falls-on .falls-on .ensures) ∙ at-then3 .if3 .taken)) (c .before .before .add-node .ensures)
+    let e = block-falls (a .falls .now) (a .frames .now) (a .i) (a .word) (at-else1 .if1 .left) (at-else2 .if2 .left) (sym (at-falls-on .falls-on .ensures) ∙ at-then3 .if3 .taken) in
+    grows-as e (grows-within (c .before .before .add-node .ensures) (room-as e (at-start .pre .1)))
 
 returns-4 : tie.Need-returns-4
 returns-4 c =

@@ -2,6 +2,7 @@
 use native.Mathlib.Omega.{arith}
 use borrow.Author.Needs.{needs}
 use Rattle.passes.specs.EntryColumn.{column-none, column-room, column-one}
+use Rattle.storing.specs.AddWithin.{grows-one}
 use Rattle.wiring.proofs.list_of.add_first.Statement.{statement}
 use Rattle.wiring.proofs.list_of.add_first.Tie as tie
 
@@ -19,11 +20,7 @@ shared-slice-read-add-node c =
     omega (arith, z, at-start .pre .0)
 
 add-node-requires : tie.Need-add-node-requires
-add-node-requires c κs =
-    let at-else1 : tie.Else1 = search in
-    let at-start : tie.Start = search in
-    let a = at-start .args in
-    column-room (a .entries .now) (a .part .now) (a .rows) (at-else1 .if1 .left) (at-start .pre .1)
+add-node-requires c κs = tt
 
 same-length : tie.Need-same-length
 same-length c = search needs
@@ -34,7 +31,7 @@ returns-2 c =
     let at-else1 : tie.Else1 = search in
     let at-start : tie.Start = search in
     let a = at-start .args in
-    column-one (a .entries .now) (a .part .now) (a .rows) (at-else1 .if1 .left) _ _ (at-add-node .add-node .ensures)
+    column-one (a .entries .now) (a .part .now) (a .rows) (at-else1 .if1 .left) _ _ (grows-one (column-room (a .entries .now) (a .part .now) (a .rows) (at-else1 .if1 .left) (at-start .pre .1)) (at-add-node .add-node .ensures))
 
 pub add-first-spec : {M : Type 1} → statement M
 add-first-spec =

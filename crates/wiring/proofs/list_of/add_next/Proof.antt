@@ -1,8 +1,9 @@
 -- `add_next`: the bodies, then where it falls. Assumes nothing.
 use borrow.Author.Needs.{needs}
 use Rattle.passes.specs.Growing.{grows-both}
-use Rattle.passes.specs.AddRoom.{room-one, room-next, room-as, grows-as}
+use Rattle.passes.specs.AddRoom.{room-next, room-as, grows-as}
 use Rattle.passes.specs.NodeListLaws.{next-parts}
+use Rattle.storing.specs.AddWithin.{grows-within}
 use Rattle.wiring.proofs.list_of.add_next.Statement.{statement}
 use Rattle.wiring.proofs.list_of.add_next.Tie as tie
 
@@ -34,11 +35,7 @@ shared-slice-read-add-node : tie.Need-shared-slice-read-add-node
 shared-slice-read-add-node c = search needs
 
 add-node-requires : tie.Need-add-node-requires
-add-node-requires c κs =
-    let at-wide : tie.After-wide = search in
-    let at-start : tie.Start = search in
-    let w = room-as (next-parts (at-start .args .stmts .now) (at-start .args .falls .now) (at-start .args .links .now) (at-start .args .i) (at-wide .wide .result) (at-wide .wide .ensures)) (at-start .pre .1) in
-    room-one _ _ _ (room-next _ _ _ _ w _ _ (c .before .before .before .before .add-popped .ensures))
+add-node-requires c κs = tt
 
 same-length : tie.Need-same-length
 same-length c = search needs
@@ -49,7 +46,9 @@ returns c =
     let at-wide : tie.After-wide = search in
     let at-start : tie.Start = search in
     let a = at-start .args in
-    grows-as (next-parts (a .stmts .now) (a .falls .now) (a .links .now) (a .i) (at-wide .wide .result) (at-wide .wide .ensures)) (grows-both _ _ _ _ _ _ _ _ (at-add-popped .add-popped .ensures) (c .before .before .add-node .ensures))
+    let e = next-parts (a .stmts .now) (a .falls .now) (a .links .now) (a .i) (at-wide .wide .result) (at-wide .wide .ensures) in
+    let w = room-next _ _ _ _ (room-as e (at-start .pre .1)) _ _ (at-add-popped .add-popped .ensures) in
+    grows-as e (grows-both _ _ _ _ _ _ _ _ (at-add-popped .add-popped .ensures) (grows-within (c .before .before .add-node .ensures) w))
 
 pub add-next-spec : {M : Type 1} → statement M
 add-next-spec =

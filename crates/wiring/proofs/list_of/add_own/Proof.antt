@@ -2,6 +2,7 @@
 use borrow.Author.Needs.{needs}
 use Rattle.passes.specs.AddRoom.{room-as, grows-as}
 use Rattle.passes.specs.NodeListLaws.{own-branches, own-run, own-jump, own-next, own-any, own-block}
+use Rattle.storing.specs.AddWithin.{grows-within, within-as, fits-jump, jump-is}
 use Rattle.wiring.proofs.list_of.add_own.Statement.{statement}
 use Rattle.wiring.proofs.list_of.add_own.Tie as tie
 
@@ -36,9 +37,7 @@ part-add-targets-end : tie.Need-part-add-targets-end
 part-add-targets-end c = search needs
 
 add-targets-requires : tie.Need-add-targets-requires
-add-targets-requires c κs =
-    let at-start : tie.Start = search in
-    room-as (own-branches (at-start .args .stmts .now) (at-start .args .entries .now) (at-start .args .falls .now) (at-start .args .links .now) (at-start .args .frames .now) (at-start .args .lines) (at-start .args .i) (c .before .before .if1 .taken)) (at-start .pre .room)
+add-targets-requires c κs = tt
 
 same-length : tie.Need-same-length
 same-length c = c .before .part .given
@@ -47,7 +46,9 @@ returns : tie.Need-returns
 returns c =
     let at-then1 : tie.Then1 = search in
     let at-start : tie.Start = search in
-    let a = at-start .args in grows-as (own-branches (a .stmts .now) (a .entries .now) (a .falls .now) (a .links .now) (a .frames .now) (a .lines) (a .i) (at-then1 .if1 .taken)) (c .before .before .add-targets .ensures)
+    let a = at-start .args in
+    let e = own-branches (a .stmts .now) (a .entries .now) (a .falls .now) (a .links .now) (a .frames .now) (a .lines) (a .i) (at-then1 .if1 .taken) in
+    grows-as e (grows-within (c .before .before .add-targets .ensures) (room-as e (at-start .pre .room)))
 
 add-run-requires : tie.Need-add-run-requires
 add-run-requires c κs =
@@ -64,9 +65,7 @@ returns-2 c =
     let a = at-start .args in grows-as (own-run (a .stmts .now) (a .entries .now) (a .falls .now) (a .links .now) (a .frames .now) (a .lines) (a .i) (at-else1 .if1 .left) (c .before .before .before .before .if2 .taken)) (c .before .before .add-run .ensures)
 
 add-jump-requires : tie.Need-add-jump-requires
-add-jump-requires c κs =
-    let at-start : tie.Start = search in
-    ((at-start .pre .stmts, at-start .pre .falls, at-start .pre .links, at-start .pre .few (c .before .before .before .if1 .left)), room-as (own-jump (at-start .args .stmts .now) (at-start .args .entries .now) (at-start .args .falls .now) (at-start .args .links .now) (at-start .args .frames .now) (at-start .args .lines) (at-start .args .i) (c .before .before .before .if1 .left) (c .before .before .if2 .left) (c .before .if3 .taken)) (at-start .pre .room))
+add-jump-requires c κs = tt
 
 same-length-3 : tie.Need-same-length-3
 same-length-3 c = c .before .part3 .given
@@ -76,7 +75,11 @@ returns-3 c =
     let at-else2 : tie.Else2 = search in
     let at-else1 : tie.Else1 = search in
     let at-start : tie.Start = search in
-    let a = at-start .args in grows-as (own-jump (a .stmts .now) (a .entries .now) (a .falls .now) (a .links .now) (a .frames .now) (a .lines) (a .i) (at-else1 .if1 .left) (at-else2 .if2 .left) (c .before .before .before .before .if3 .taken)) (c .before .before .add-jump .ensures)
+    let a = at-start .args in
+    let p = at-start .pre in
+    let e = own-jump (a .stmts .now) (a .entries .now) (a .falls .now) (a .links .now) (a .frames .now) (a .lines) (a .i) (at-else1 .if1 .left) (at-else2 .if2 .left) (c .before .before .before .before .if3 .taken) in
+    let j = jump-is (a .stmts .now) (a .falls .now) (a .links .now) (a .i) (fits-jump (a .stmts .now) (a .falls .now) (a .links .now) (a .i) (p .stmts) (p .falls) (p .links) (p .few (at-else1 .if1 .left))) in
+    grows-as e (grows-within (within-as j (c .before .before .add-jump .ensures)) (room-as e (p .room)))
 
 add-next-requires : tie.Need-add-next-requires
 add-next-requires c κs =

@@ -2,6 +2,7 @@
 use borrow.Author.Needs.{needs}
 use Rattle.passes.specs.AddRoom.{room-as, grows-as}
 use Rattle.passes.specs.NodeListLaws.{run-first, run-target}
+use Rattle.storing.specs.AddWithin.{grows-within}
 use Rattle.wiring.proofs.list_of.add_run.Statement.{statement}
 use Rattle.wiring.proofs.list_of.add_run.Tie as tie
 
@@ -58,9 +59,7 @@ part-add-targets-end : tie.Need-part-add-targets-end
 part-add-targets-end c = search needs
 
 add-targets-requires : tie.Need-add-targets-requires
-add-targets-requires c κs =
-    let at-start : tie.Start = search in
-    room-as (run-target (at-start .args .stmts .now) (at-start .args .entries .now) (at-start .args .links .now) (at-start .args .lines) (at-start .args .i) (c .before .before .before .wide .result) (c .before .before .before .wide .ensures) (c .before .before .if1 .left)) (at-start .pre .1)
+add-targets-requires c κs = tt
 
 same-length-2 : tie.Need-same-length-2
 same-length-2 c = search needs
@@ -71,7 +70,8 @@ returns-2 c =
     let at-wide : tie.After-wide = search in
     let at-start : tie.Start = search in
     let a = at-start .args in
-    grows-as (run-target (a .stmts .now) (a .entries .now) (a .links .now) (a .lines) (a .i) (at-wide .wide .result) (at-wide .wide .ensures) (at-else1 .if1 .left)) (c .before .before .add-targets .ensures)
+    let e = run-target (a .stmts .now) (a .entries .now) (a .links .now) (a .lines) (a .i) (at-wide .wide .result) (at-wide .wide .ensures) (at-else1 .if1 .left) in
+    grows-as e (grows-within (c .before .before .add-targets .ensures) (room-as e (at-start .pre .1)))
 
 pub add-run-spec : {M : Type 1} → statement M
 add-run-spec =

@@ -1,8 +1,9 @@
 -- `add_until`: nothing, or the body and then where it falls. Assumes nothing.
 use borrow.Author.Needs.{needs}
 use Rattle.passes.specs.Growing.{grows-none, grows-both}
-use Rattle.passes.specs.AddRoom.{room-one, room-first, room-next, room-as, grows-as}
+use Rattle.passes.specs.AddRoom.{room-first, room-next, room-as, grows-as}
 use Rattle.passes.specs.NodeListLaws.{until-none, until-parts, body-room}
+use Rattle.storing.specs.AddWithin.{grows-within}
 use Rattle.wiring.proofs.list_of.add_until.Statement.{statement}
 use Rattle.wiring.proofs.list_of.add_until.Tie as tie
 
@@ -36,11 +37,7 @@ shared-slice-read-add-node : tie.Need-shared-slice-read-add-node
 shared-slice-read-add-node c = search needs
 
 add-node-requires : tie.Need-add-node-requires
-add-node-requires c κs =
-    let at-else1 : tie.Else1 = search in
-    let at-start : tie.Start = search in
-    let w = room-as (until-parts (at-start .args .falls .now) (at-start .args .frames .now) (at-start .args .i) (at-else1 .if1 .left)) (at-start .pre .1) in
-    room-one _ _ _ (room-next _ _ _ _ w _ _ (c .before .before .before .before .add-link .ensures))
+add-node-requires c κs = tt
 
 same-length : tie.Need-same-length
 same-length c = search needs
@@ -51,7 +48,9 @@ returns-2 c =
     let at-else1 : tie.Else1 = search in
     let at-start : tie.Start = search in
     let a = at-start .args in
-    grows-as (until-parts (a .falls .now) (a .frames .now) (a .i) (at-else1 .if1 .left)) (grows-both _ _ _ _ _ _ _ _ (at-add-link .add-link .ensures) (c .before .before .add-node .ensures))
+    let e = until-parts (a .falls .now) (a .frames .now) (a .i) (at-else1 .if1 .left) in
+    let w = room-next _ _ _ _ (room-as e (at-start .pre .1)) _ _ (at-add-link .add-link .ensures) in
+    grows-as e (grows-both _ _ _ _ _ _ _ _ (at-add-link .add-link .ensures) (grows-within (c .before .before .add-node .ensures) w))
 
 pub add-until-spec : {M : Type 1} → statement M
 add-until-spec =

@@ -2,6 +2,7 @@
 use borrow.Author.Needs.{needs}
 use native.Mathlib.Omega.{arith}
 use Rattle.passes.specs.NextBodies.{link-none, link-one, link-fit}
+use Rattle.storing.specs.AddWithin.{grows-one}
 use Rattle.wiring.proofs.nexts.add_link.Statement.{statement}
 use Rattle.wiring.proofs.nexts.add_link.Tie as tie
 
@@ -24,9 +25,7 @@ shared-slice-read-add-node : tie.Need-shared-slice-read-add-node
 shared-slice-read-add-node c = let at-start : tie.Start = search in omega (arith, c .before .before .wide .ensures, at-start .pre .table)
 
 add-node-requires : tie.Need-add-node-requires
-add-node-requires c κs =
-    let at-start : tie.Start = search in
-    link-fit _ _ _ _ _ (c .before .before .wide .ensures) (c .before .before .before .if1 .left) (at-start .pre)
+add-node-requires c κs = tt
 
 same-length : tie.Need-same-length
 same-length c = search needs
@@ -35,7 +34,8 @@ returns-2 : tie.Need-returns-2
 returns-2 c =
     let at-wide : tie.After-wide = search in
     let at-else1 : tie.Else1 = search in
-    link-one _ _ _ _ _ _ _ (at-wide .wide .ensures) (at-else1 .if1 .left) (c .before .before .add-node .ensures)
+    let at-start : tie.Start = search in
+    link-one _ _ _ _ _ _ _ (at-wide .wide .ensures) (at-else1 .if1 .left) (grows-one (link-fit _ _ _ _ _ (at-wide .wide .ensures) (at-else1 .if1 .left) (at-start .pre)) (c .before .before .add-node .ensures))
 
 pub add-link-spec : {M : Type 1} → statement M
 add-link-spec =

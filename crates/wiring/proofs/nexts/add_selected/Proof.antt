@@ -2,6 +2,7 @@
 use borrow.Author.Needs.{needs}
 use mathlib.Core.Path.{sym, _∙_}
 use Rattle.passes.specs.NextBodies.{for-fit, for-selected, for-left-out}
+use Rattle.storing.specs.AddWithin.{grows-one}
 use Rattle.wiring.proofs.nexts.add_selected.Statement.{statement}
 use Rattle.wiring.proofs.nexts.add_selected.Tie as tie
 
@@ -30,10 +31,7 @@ shared-slice-read-add-node : tie.Need-shared-slice-read-add-node
 shared-slice-read-add-node c = search needs
 
 add-node-requires : tie.Need-add-node-requires
-add-node-requires c κs =
-    let at-wide : tie.After-wide = search in
-    let at-start : tie.Start = search in
-    let a = at-start .args in for-fit (a .args .now) (a .falls .now) _ _ (a .key) (a .o) _ (at-wide .wide .ensures) (at-start .pre)
+add-node-requires c κs = tt
 
 same-length : tie.Need-same-length
 same-length c = search needs
@@ -45,7 +43,7 @@ returns c =
     let at-wide : tie.After-wide = search in
     let at-start : tie.Start = search in
     let a = at-start .args in
-    for-selected (a .args .now) (a .falls .now) _ _ (a .key) (a .o) _ (at-wide .wide .ensures) _ _ (sym (at-selects .selects .ensures) ∙ at-then1 .if1 .taken) (c .before .before .add-node .ensures)
+    for-selected (a .args .now) (a .falls .now) _ _ (a .key) (a .o) _ (at-wide .wide .ensures) _ _ (sym (at-selects .selects .ensures) ∙ at-then1 .if1 .taken) (grows-one (for-fit (a .args .now) (a .falls .now) _ _ (a .key) (a .o) _ (at-wide .wide .ensures) (at-start .pre)) (c .before .before .add-node .ensures))
 
 returns-2 : tie.Need-returns-2
 returns-2 c =

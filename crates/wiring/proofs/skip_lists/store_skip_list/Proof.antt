@@ -2,6 +2,7 @@
 use native.Mathlib.Omega.{arith}
 use borrow.Author.Needs.{needs}
 use Rattle.passes.specs.SkipLists.{list-kept, skip-list-ready, skip-total, skip-room, skip-over, skip-fits, skip-store}
+use Rattle.storing.specs.Appending.{told-appended}
 use Rattle.wiring.proofs.skip_lists.store_skip_list.Statement.{statement}
 use Rattle.wiring.proofs.skip_lists.store_skip_list.Tie as tie
 
@@ -38,12 +39,7 @@ start-of-list-of c = search
 ruleset ways = (start-of-list-of)
 
 append-list-requires : tie.Need-append-list-requires
-append-list-requires c κs =
-    let at-skip-list : tie.After-skip-list = search in
-    let at-else1 : tie.Else1 = search in
-    let at-list-of : tie.After-list-of = search in
-    let at-start : tie.Start = search ways in
-    skip-fits (at-start .pre) (at-list-of .list-of .ensures) (at-skip-list .skip-list .ensures) (at-else1 .if1 .left)
+append-list-requires c κs = tt
 
 same-length-2 : tie.Need-same-length-2
 same-length-2 c = search needs
@@ -57,9 +53,13 @@ same-length-4 c = search needs
 returns-2 : tie.Need-returns-2
 returns-2 c =
     let at-skip-list : tie.After-skip-list = search in
+    let at-else1 : tie.Else1 = search in
     let at-list-of : tie.After-list-of = search in
     let at-start : tie.Start = search ways in
-    skip-store (at-start .pre) (at-list-of .list-of .ensures) (at-skip-list .skip-list .ensures) (c .before .before .before .before .append-list .ensures)
+    let p = at-start .pre in
+    let l = at-list-of .list-of .ensures in
+    let k = at-skip-list .skip-list .ensures in
+    skip-store p l k (told-appended _ (list-kept k) (skip-fits p l k (at-else1 .if1 .left)) (c .before .before .before .before .append-list .ensures))
 
 pub store-skip-list-spec : {M : Type 1} → statement M
 store-skip-list-spec =

@@ -1,7 +1,7 @@
 -- `wire_lists`: counted, then written where the edges fit. Assumes nothing.
 use mathlib.Core.Path.{refl, sym, _∙_}
 use native.Mathlib.Omega.{arith}
-use Rattle.wiring.specs.WireLaws.{ready-count, write-ready, wired-yes, wired-no}
+use Rattle.wiring.specs.WireLaws.{ready-count, wired-yes, wired-no}
 use Rattle.wiring.proofs.wire.wire_lists.Statement.{statement}
 use Rattle.wiring.proofs.wire.wire_lists.Tie as tie
 
@@ -45,19 +45,8 @@ edges-fit-requires c κs = tt
 slice-aggregate-write-graph : tie.Need-slice-aggregate-write-graph
 slice-aggregate-write-graph c = let at-scratch2 : tie.After-scratch2 = search in sym (at-scratch2 .scratch2 .given)
 
-slice-aggregate-write-graph-2 : tie.Need-slice-aggregate-write-graph-2
-slice-aggregate-write-graph-2 c = let at-buffer2 : tie.After-buffer2 = search in sym (at-buffer2 .buffer2 .given)
-
 write-graph-requires : tie.Need-write-graph-requires
-write-graph-requires c κs =
-    let at-then1 : tie.Then1 = search in
-    let at-edges-fit : tie.After-edges-fit = search in
-    let at-buffer2 : tie.After-buffer2 = search in
-    let at-lists : tie.After-lists = search in
-    let at-count-graph : tie.After-count-graph = search in
-    let at-start : tie.Start = search ways in
-    let f = at-edges-fit .edges-fit in
-    write-ready (at-start .pre .0) (at-start .pre .1) (at-count-graph .count-graph .ensures) (f .result) (f .ensures) (at-then1 .if1 .taken) (at-lists .lists .given) _ (at-buffer2 .buffer2 .given)
+write-graph-requires c κs = tt
 
 same-length : tie.Need-same-length
 same-length c =
@@ -75,20 +64,22 @@ same-length-3 : tie.Need-same-length-3
 same-length-3 c = search
 
 same-length-4 : tie.Need-same-length-4
-same-length-4 c = c .before .before .before .before .succ .given
+same-length-4 c = let at-succ : tie.After-succ = search in at-succ .succ .given
 
 same-length-5 : tie.Need-same-length-5
-same-length-5 c = c .before .before .pred .given
+same-length-5 c = let at-pred : tie.After-pred = search in at-pred .pred .given
 
 returns : tie.Need-returns
 returns c =
+    let at-pred : tie.After-pred = search in
+    let at-succ : tie.After-succ = search in
     let at-write-graph : tie.After-write-graph = search in
     let at-then1 : tie.Then1 = search in
     let at-edges-fit : tie.After-edges-fit = search in
     let at-lists : tie.After-lists = search in
     let at-count-graph : tie.After-count-graph = search in
     let at-start : tie.Start = search ways in
-    (refl, wired-yes (at-count-graph .count-graph .ensures) (at-start .pre .1) (at-edges-fit .edges-fit .result) (at-edges-fit .edges-fit .ensures) (at-then1 .if1 .taken) (c .before .before .before .before .succ .given) (c .before .before .pred .given) (omega (arith, at-start .pre .0 .lists-fit, at-lists .lists .given)) (at-write-graph .write-graph .ensures))
+    (refl, wired-yes (at-count-graph .count-graph .ensures) (at-start .pre .1) (at-edges-fit .edges-fit .result) (at-edges-fit .edges-fit .ensures) (at-then1 .if1 .taken) (at-succ .succ .given) (at-pred .pred .given) (omega (arith, at-start .pre .0 .lists-fit, at-lists .lists .given)) (at-write-graph .write-graph .ensures))
 
 same-length-6 : tie.Need-same-length-6
 same-length-6 c = search
@@ -116,7 +107,6 @@ wire-lists-spec =
     count-graph-requires
     edges-fit-requires
     slice-aggregate-write-graph
-    slice-aggregate-write-graph-2
     write-graph-requires
     same-length
     same-length-2
