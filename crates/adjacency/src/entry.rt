@@ -1,5 +1,5 @@
 // A line's entry, read off tables that any caller may have written.
-use crate::successors::entry_of;
+use crate::successors::bounded_entry;
 use layout::columns::ENTRY_ENTRIES;
 use layout::columns::ENTRY_NODE;
 use layout::columns::ENTRY_NUMBER;
@@ -34,6 +34,7 @@ fn first_entry(entries: &[u16], n: usize, number: u16) -> u16
     0
 }
 
+// The entry of the line with that number; refused 25 if the rows, or the entry itself, point outside.
 pub fn ask_entry(counts: &[u32; 6], entries: &[u16], number: u16) -> Entered
     ensures { λ r. ⌜ r ≡ enteredOf (entryAt (now (counts .entry)) (now (entries .entry)) number) ⌝ }
 {
@@ -44,7 +45,7 @@ pub fn ask_entry(counts: &[u32; 6], entries: &[u16], number: u16) -> Entered
             place: 0,
         };
     }
-    let e = entry_of(first_entry(entries, n, number));
+    let e = bounded_entry(first_entry(entries, n, number));
     if e == 0 {
         return Entered::Nowhere;
     }

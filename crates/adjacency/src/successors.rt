@@ -13,7 +13,7 @@ pub enum Asked {
 }
 
 // A table's entry as an index.
-pub(crate) fn entry_of(x: u16) -> usize
+pub(crate) fn bounded_entry(x: u16) -> usize
     ensures { λ r. ⌜ (r ≡ x) × (r < 65536) ⌝ }
 {
     x as usize
@@ -37,8 +37,8 @@ fn ask_list(counts: &[u32; 6], lists: &[u16], size: usize, node: usize, column: 
             place: 0,
         };
     }
-    let start = entry_of(lists[node * LIST_ENTRIES + column]);
-    let count = entry_of(lists[node * LIST_ENTRIES + (column + 1)]);
+    let start = bounded_entry(lists[node * LIST_ENTRIES + column]);
+    let count = bounded_entry(lists[node * LIST_ENTRIES + (column + 1)]);
     if size < start + count {
         return Asked::Refused {
             number: 25,
@@ -51,12 +51,14 @@ fn ask_list(counts: &[u32; 6], lists: &[u16], size: usize, node: usize, column: 
     }
 }
 
+// Where a node's successors stand in the edge table, or the refusal.
 pub fn ask_successors(counts: &[u32; 6], lists: &[u16], succ: &[u16], node: usize) -> Asked
     ensures { λ r. ⌜ r ≡ askedOf (successorsAt (now (counts .entry)) (now (lists .entry)) (length (now (succ .entry))) node) ⌝ }
 {
     ask_list(counts, lists, succ.len(), node, 0)
 }
 
+// The same of its predecessors, whose columns come after.
 pub fn ask_predecessors(counts: &[u32; 6], lists: &[u16], pred: &[u16], node: usize) -> Asked
     ensures { λ r. ⌜ r ≡ askedOf (predecessorsAt (now (counts .entry)) (now (lists .entry)) (length (now (pred .entry))) node) ⌝ }
 {

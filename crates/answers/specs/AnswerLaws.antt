@@ -25,7 +25,7 @@ use Rattle.graph.specs.Print.{printedRefusal}
 use Rattle.formatting.specs.Printing.{Puts, puts-is}
 use Rattle.graph.specs.Questions.{Reply, answer}
 use Rattle.frame_lists.specs.FrameAt.{frameAt}
-use Rattle.frame_slices.specs.Told.{FrameTold, framedOf, sliceAfter}
+use Rattle.frame_slices.specs.FrameAnswer.{FrameAnswered, framedOf, sliceAfter}
 use Rattle.statements.specs.StatementAt.{pathStatement, statedOf}
 use Rattle.statements.specs.declared.statement.Stated.{Stated}
 use Rattle.frame_slices.specs.declared.slices.Framed.{Framed}
@@ -37,38 +37,38 @@ use Rattle.answers.specs.declared.words.FrameWords.the-variants as frame
 
 -- ---- the frame list in the room for it
 
-pub framed-list : (q : Reply (List ℕ)) (o o′ : List ℕ) (n : ℕ) → FrameTold q o o′ (framed.Listed n) → (n ≤ length o′) × (q ≡ answer (take n o′))
+pub framed-list : (q : Reply (List ℕ)) (o o′ : List ℕ) (n : ℕ) → FrameAnswered q o o′ (framed.Listed n) → (n ≤ length o′) × (q ≡ answer (take n o′))
 unfolding framedOf sliceAfter padded
 framed-list (answer l) o o′ n g =
-    let m : n ≡ length l = let z = g .told in cc in
+    let m : n ≡ length l = let z = g .answered in cc in
     let s : o′ ≡ l ++ replicate (length o - length l) 0 = g .slice in (
       omega (arith, ap length s, length-append l (replicate (length o - length l) 0), m),
       ap answer (sym (ap (λ (z : ℕ). take z o′) m ∙ ap (take (length l)) s ∙ take-at l (replicate (length o - length l) 0) (length l) refl)),
     )
-framed-list (Reply.refused k p) o o′ n g = let z : _≡_ {A = ℕ} 0 1 = let e = g .told in cc in absurd (omega arith)
+framed-list (Reply.refused k p) o o′ n g = let z : _≡_ {A = ℕ} 0 1 = let e = g .answered in cc in absurd (omega arith)
 
-pub framed-refused : (q : Reply (List ℕ)) (o o′ : List ℕ) (n p : ℕ) → FrameTold q o o′ (framed.Refused n p) → q ≡ Reply.refused n p
+pub framed-refused : (q : Reply (List ℕ)) (o o′ : List ℕ) (n p : ℕ) → FrameAnswered q o o′ (framed.Refused n p) → q ≡ Reply.refused n p
 unfolding framedOf
-framed-refused (answer l) o o′ n p g = let z : _≡_ {A = ℕ} 0 1 = let e = g .told in cc in absurd (omega arith)
+framed-refused (answer l) o o′ n p g = let z : _≡_ {A = ℕ} 0 1 = let e = g .answered in cc in absurd (omega arith)
 framed-refused (Reply.refused k j) o o′ n p g =
-    let x : k ≡ n = let e = g .told in cc in
-    let y : j ≡ p = let e = g .told in cc in
+    let x : k ≡ n = let e = g .answered in cc in
+    let y : j ≡ p = let e = g .answered in cc in
     rw (x, y) refl
 
-module _ (c t a f i u : List ℕ) (h n : ℕ) (v : Name) (g : Bool) (o o′ : List ℕ) (r : Framed) (told : FrameTold (frameAt (getD c 0 0) (getD c 1 0) t a f i u h n v g (length o)) o o′ r) (size : length o ≡ 4096) where
+module _ (c t a f i u : List ℕ) (h n : ℕ) (v : Name) (g : Bool) (o o′ : List ℕ) (r : Framed) (told : FrameAnswered (frameAt (getD c 0 0) (getD c 1 0) t a f i u h n v g (length o)) o o′ r) (size : length o ≡ 4096) where
   pub frame-fits : (m : ℕ) → r ≡ framed.Listed m → m ≤ length o′
-  frame-fits m e = framed-list (frameAt (getD c 0 0) (getD c 1 0) t a f i u h n v g (length o)) o o′ m (subst (FrameTold (frameAt (getD c 0 0) (getD c 1 0) t a f i u h n v g (length o)) o o′) e told) .0
+  frame-fits m e = framed-list (frameAt (getD c 0 0) (getD c 1 0) t a f i u h n v g (length o)) o o′ m (subst (FrameAnswered (frameAt (getD c 0 0) (getD c 1 0) t a f i u h n v g (length o)) o o′) e told) .0
 
   pub frame-put : (m : ℕ) → r ≡ framed.Listed m → listRow (bytes "(frame") (take m o′) ≡ frameAnswer c t a f i u h n v g
   unfolding frameAnswer replyRow
   frame-put m e =
-      let q = framed-list (frameAt (getD c 0 0) (getD c 1 0) t a f i u h n v g (length o)) o o′ m (subst (FrameTold (frameAt (getD c 0 0) (getD c 1 0) t a f i u h n v g (length o)) o o′) e told) .1 in
+      let q = framed-list (frameAt (getD c 0 0) (getD c 1 0) t a f i u h n v g (length o)) o o′ m (subst (FrameAnswered (frameAt (getD c 0 0) (getD c 1 0) t a f i u h n v g (length o)) o o′) e told) .1 in
       sym (ap (replyRow (listRow (bytes "(frame"))) (ap (frameAt (getD c 0 0) (getD c 1 0) t a f i u h n v g) (sym size) ∙ q))
 
   pub frame-turned : (m p : ℕ) → r ≡ framed.Refused m p → printedRefusal m p ≡ frameAnswer c t a f i u h n v g
   unfolding frameAnswer replyRow
   frame-turned m p e =
-      let q = framed-refused (frameAt (getD c 0 0) (getD c 1 0) t a f i u h n v g (length o)) o o′ m p (subst (FrameTold (frameAt (getD c 0 0) (getD c 1 0) t a f i u h n v g (length o)) o o′) e told) in
+      let q = framed-refused (frameAt (getD c 0 0) (getD c 1 0) t a f i u h n v g (length o)) o o′ m p (subst (FrameAnswered (frameAt (getD c 0 0) (getD c 1 0) t a f i u h n v g (length o)) o o′) e told) in
       sym (ap (replyRow (listRow (bytes "(frame"))) (ap (frameAt (getD c 0 0) (getD c 1 0) t a f i u h n v g) (sym size) ∙ q))
 
 -- ---- the numbers of a path

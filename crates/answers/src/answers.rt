@@ -42,6 +42,7 @@ ghost use Rattle.answers.specs.Flowask.{pathQuestion, frameQuestion, wor
 ghost use Rattle.answers.specs.AnswersAt.{successorsAnswer, predecessorsAnswer, pathAnswer, frameAnswer, numberAnswer, answerAt};
 ghost use Rattle.answers.specs.QuestionWords.{formAt};
 
+// The row of a node's successors, or its refusal.
 fn put_successors(
     out: &mut [u8],
     at: usize,
@@ -57,6 +58,7 @@ fn put_successors(
     put_asked(out, at, b"(successors", part, a)
 }
 
+// The row of a node's predecessors, or its refusal.
 fn put_predecessors(
     out: &mut [u8],
     at: usize,
@@ -181,6 +183,7 @@ fn frame_room() -> [u16; MAX_STMTS]
     [0u16; MAX_STMTS]
 }
 
+// The row of a frame list, or its refusal; there is room for all nodes.
 fn put_frame(
     out: &mut [u8],
     at: usize,

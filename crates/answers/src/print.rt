@@ -49,6 +49,7 @@ fn put_word(out: &mut [u8], at: usize, k: usize) -> usize
     r
 }
 
+// A statement: its node and its word.
 fn put_stmt(out: &mut [u8], at: usize, node: usize, word: usize) -> usize
     ensures { λ r. ⌜ Puts (now (out .entry)) at (now (out .exit)) r (stmtRow node (getD words word [])) ⌝ }
 {
@@ -59,6 +60,7 @@ fn put_stmt(out: &mut [u8], at: usize, node: usize, word: usize) -> usize
     put_bytes(out, r, b")\n")
 }
 
+// The answer to a question for a statement, as a row.
 pub(crate) fn put_stated(out: &mut [u8], at: usize, s: Stated) -> usize
     ensures { λ r. ⌜ Puts (now (out .entry)) at (now (out .exit)) r (statedRow s) ⌝ }
 {
@@ -68,6 +70,7 @@ pub(crate) fn put_stated(out: &mut [u8], at: usize, s: Stated) -> usize
     }
 }
 
+// The row of an entry that is there.
 fn put_entry(out: &mut [u8], at: usize, id: usize) -> usize
     ensures { λ r. ⌜ Puts (now (out .entry)) at (now (out .exit)) r (enteredRow (Entered.Node id)) ⌝ }
 {
@@ -76,6 +79,7 @@ fn put_entry(out: &mut [u8], at: usize, id: usize) -> usize
     put_bytes(out, r, b")\n")
 }
 
+// The answer to a question for an entry, as a row.
 pub(crate) fn put_entered(out: &mut [u8], at: usize, e: Entered) -> usize
     ensures { λ r. ⌜ Puts (now (out .entry)) at (now (out .exit)) r (enteredRow e) ⌝ }
 {

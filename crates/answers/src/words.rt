@@ -113,6 +113,7 @@ pub(crate) fn open_row(w: &[u8]) -> Opened
     }
 }
 
+// Where the spaces stand in a row of four words.
 fn four_words(s: &[u8]) -> Four
     ensures { λ r. ⌜ FourWords (now (s .entry)) r ⌝ }
 {

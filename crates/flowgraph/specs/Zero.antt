@@ -19,8 +19,8 @@ use Rattle.adjacency.specs.ListsAt.{listAt, successorsAt, predecessorsAt}
 use Rattle.adjacency.specs.EntryAt.{nodeIn, entryAt}
 use Rattle.statements.specs.StatementAt.{ifRows, recordOutside, stmtAt, childAt, ifFound, statementFrom, pathStatement, unlessRefused, nodeStatement}
 use Rattle.frame_lists.specs.FrameAt.{frameOutside, frameRead, frameIn, frameAt}
-use Rattle.telling.specs.BuildTold.{numberOf}
-use Rattle.telling.specs.QuestionTold.{codeOf}
+use Rattle.c_answers.specs.BuildNumbers.{numberOf}
+use Rattle.c_answers.specs.QuestionNumbers.{codeOf}
 
 -- ---- a refusal's number is above 0
 

@@ -1,11 +1,12 @@
 // The frame list: its length; the list itself stands in `out`.
+use c_answers::frame::number_of_frame;
 use questions::frame::frame_successors;
-use telling::frame::tell_framed;
 ghost use lib.ListN.{length, getD};
 ghost use Rattle.frame_lists.specs.FrameAt.{frameAt};
-ghost use Rattle.telling.specs.QuestionTold.{ListTold};
+ghost use Rattle.c_answers.specs.QuestionNumbers.{ListNumbered};
 
 #[no_mangle]
+// `frame_successors` for C: the list's length; the list stands in the lent slice.
 pub extern "C" fn flow_frame(
     counts: &[u32; 6],
     stmts: &[u16],
@@ -20,7 +21,7 @@ pub extern "C" fn flow_frame(
     out: &mut [u16],
     answer: &mut [usize; 2],
 ) -> u8
-    ensures { λ r. ⌜ ListTold (frameAt (getD (now (counts .entry)) 0 0) (getD (now (counts .entry)) 1 0) (now (stmts .entry)) (now (args .entry)) (now (falls .entry)) (now (lists .entry)) (now (succ .entry)) header node (now (name .entry)) flag (length (now (out .entry)))) (now (out .entry)) (now (out .exit)) r (now (answer .exit)) ⌝ }
+    ensures { λ r. ⌜ ListNumbered (frameAt (getD (now (counts .entry)) 0 0) (getD (now (counts .entry)) 1 0) (now (stmts .entry)) (now (args .entry)) (now (falls .entry)) (now (lists .entry)) (now (succ .entry)) header node (now (name .entry)) flag (length (now (out .entry)))) (now (out .entry)) (now (out .exit)) r (now (answer .exit)) ⌝ }
 {
     let framed = frame_successors(
         counts,
@@ -35,5 +36,5 @@ pub extern "C" fn flow_frame(
         flag,
         out,
     );
-    tell_framed(framed, answer)
+    number_of_frame(framed, answer)
 }

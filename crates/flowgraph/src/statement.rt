@@ -1,23 +1,25 @@
 // A node's statement and the statement at a path: its node and the number of its opening word.
+use c_answers::statement::number_of_statement;
 use questions::statement::resolve_path;
 use questions::statement::stmt_at;
-use telling::statement::tell_stated;
 ghost use Rattle.statements.specs.StatementAt.{nodeStatement, pathStatement};
-ghost use Rattle.telling.specs.QuestionTold.{pairWords, Told};
+ghost use Rattle.c_answers.specs.QuestionNumbers.{pairWords, Numbered};
 
 #[no_mangle]
+// `stmt_at` for C: the node and the number of its word.
 pub extern "C" fn flow_statement(
     counts: &[u32; 6],
     stmts: &[u16],
     node: usize,
     answer: &mut [usize; 2],
 ) -> u8
-    ensures { λ r. ⌜ Told pairWords (nodeStatement (now (counts .entry)) (now (stmts .entry)) node) r (now (answer .exit)) ⌝ }
+    ensures { λ r. ⌜ Numbered pairWords (nodeStatement (now (counts .entry)) (now (stmts .entry)) node) r (now (answer .exit)) ⌝ }
 {
-    tell_stated(stmt_at(counts, stmts, node), answer)
+    number_of_statement(stmt_at(counts, stmts, node), answer)
 }
 
 #[no_mangle]
+// `resolve_path` for C: the node at the path and the number of its word.
 pub extern "C" fn flow_path(
     counts: &[u32; 6],
     stmts: &[u16],
@@ -25,7 +27,7 @@ pub extern "C" fn flow_path(
     path: &[u16],
     answer: &mut [usize; 2],
 ) -> u8
-    ensures { λ r. ⌜ Told pairWords (pathStatement (now (counts .entry)) (now (stmts .entry)) line (now (path .entry))) r (now (answer .exit)) ⌝ }
+    ensures { λ r. ⌜ Numbered pairWords (pathStatement (now (counts .entry)) (now (stmts .entry)) line (now (path .entry))) r (now (answer .exit)) ⌝ }
 {
-    tell_stated(resolve_path(counts, stmts, line, path), answer)
+    number_of_statement(resolve_path(counts, stmts, line, path), answer)
 }

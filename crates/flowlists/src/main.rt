@@ -9,6 +9,7 @@ enum Byte {
     End,
 }
 
+// One byte of the input, while there is one.
 fn next_byte() -> Byte {
     let mut byte = [0u8; 1];
     if io::read_full(STDIN_FILENO, &mut byte) == 0 {
@@ -17,7 +18,8 @@ fn next_byte() -> Byte {
     Byte::Got(byte[0])
 }
 
-fn wide(b: u8) -> usize
+// A byte as a number that can be counted with.
+fn wide_byte(b: u8) -> usize
     ensures { λ r. ⌜ r ≡ b ⌝ }
 {
     b as usize
@@ -39,12 +41,13 @@ fn next_length() -> Next {
         if b == 10 {
             return Next::Length(n);
         }
-        n = n % 10000000 * 10 + wide(b % 48);
+        n = n % 10000000 * 10 + wide_byte(b % 48);
         k += 1;
     }
     Next::End
 }
 
+// The answer behind a row with its byte count.
 fn print_framed(answer: &[u8]) {
     io::print_decimal(STDOUT_FILENO, answer.len() as u64);
     io::write_all(STDOUT_FILENO, b"\n");
@@ -63,6 +66,7 @@ fn answer_part(text: &mut [u8], n: usize) {
     print_framed(&out[..r]);
 }
 
+// Room for the longest text that a test has.
 fn answer_text(n: usize) {
     let mut text = [0u8; 131072];
     answer_part(&mut text, n);

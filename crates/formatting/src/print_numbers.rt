@@ -7,6 +7,7 @@ ghost use Rattle.listings.specs.Bytes.{decimal};
 ghost use Rattle.graph.specs.Print.{spaced};
 ghost use Rattle.formatting.specs.Printing.{Puts};
 
+// A byte that does not fit is dropped.
 pub fn put_byte(out: &mut [u8], at: usize, b: u8) -> usize
     ensures { λ r. ⌜ Puts (now (out .entry)) at (now (out .exit)) r (b ∷ []) ⌝ }
 {
@@ -17,6 +18,7 @@ pub fn put_byte(out: &mut [u8], at: usize, b: u8) -> usize
     at
 }
 
+// Bytes one after the other, as many as fit.
 pub fn put_bytes(out: &mut [u8], at: usize, word: &[u8]) -> usize
     ensures { λ r. ⌜ Puts (now (out .entry)) at (now (out .exit)) r (now (word .entry)) ⌝ }
 {
@@ -29,6 +31,7 @@ pub fn put_bytes(out: &mut [u8], at: usize, word: &[u8]) -> usize
     r
 }
 
+// The byte of a digit.
 fn digit(x: usize) -> u8
     requires { ⌜ x < 10 ⌝ }
     ensures { λ r. ⌜ r ≡ 48 + x ⌝ }
@@ -55,6 +58,7 @@ pub fn put_number(out: &mut [u8], at: usize, x: usize) -> usize
     put_decimal(out, r, x)
 }
 
+// Each number of a list with a space before it.
 pub fn put_spaced(out: &mut [u8], at: usize, list: &[u16]) -> usize
     ensures { λ r. ⌜ Puts (now (out .entry)) at (now (out .exit)) r (spaced (now (list .entry))) ⌝ }
 {

@@ -17,7 +17,7 @@ use Rattle.graph.specs.Questions.{Reply, refused, kept, ifRoom}
 use Rattle.adjacency.specs.ListsAt.{successorsAt, partOf}
 use Rattle.adjacency.specs.ListsAtLaws.{successors-part}
 use Rattle.frame_lists.specs.FrameAt.{endsFrame, keepsShared, frameRead, shortTables, partOutside, fallOutside, frameOutside, frameIn, frameAt}
-use Rattle.frame_slices.specs.Told.{FrameTold}
+use Rattle.frame_slices.specs.FrameAnswer.{FrameAnswered}
 use Rattle.statements.specs.StatementAt.{noStatement, unlessRefused}
 use Rattle.frame_slices.specs.declared.slices.Framed.{Framed}
 
@@ -213,8 +213,8 @@ pub name-key : (v : Name) → isName v ≡ true → keyAnswer (asKey (parseName 
 unfolding parseName
 name-key v e = rw e
 
-pub answer-as : (q p : Reply (List ℕ)) (out t : List ℕ) (r : Framed) → q ≡ p → FrameTold q out t r → FrameTold p out t r
-answer-as q p out t r e g = subst (λ (z : Reply (List ℕ)). FrameTold z out t r) e g
+pub answer-as : (q p : Reply (List ℕ)) (out t : List ℕ) (r : Framed) → q ≡ p → FrameAnswered q out t r → FrameAnswered p out t r
+answer-as q p out t r e g = subst (λ (z : Reply (List ℕ)). FrameAnswered z out t r) e g
 
 module _ (lines n : ℕ) (stmts args falls lists succ : List ℕ) (h i : ℕ) (v : Name) (flag : Bool) (room : ℕ) where
   pub at-3 : isName v ≡ false → frameAt lines n stmts args falls lists succ h i v flag room ≡ refused 3 0

@@ -29,15 +29,17 @@ ghost use Rattle.reader.specs.Operands.{keyAnswer};
 ghost use Rattle.tables.specs.Columns.{succPart};
 ghost use Rattle.graph.specs.Questions.{kept, ifRoom};
 ghost use Rattle.frame_lists.specs.FrameAt.{forgetsWord, endsFrame, keepsShared, shortTables, partOutside, fallOutside, frameOutside, frameRead, frameIn, frameAt};
-ghost use Rattle.frame_slices.specs.Told.{FrameTold};
+ghost use Rattle.frame_slices.specs.FrameAnswer.{FrameAnswered};
 ghost use Rattle.frame_lists.specs.FrameChecks.{PartInside, FrameInside};
 
+// The words that end a frame of any name.
 fn forgets(word: u16) -> bool
     ensures { λ r. ⌜ r ≡ forgetsWord word ⌝ }
 {
     word == CLR || (word == RUN || word == RETURN)
 }
 
+// Whether a statement ends the frame of that name.
 fn ends_frame(word: u16, arg: u64, key: u64) -> bool
     ensures { λ r. ⌜ r ≡ endsFrame word arg key ⌝ }
 {
@@ -47,6 +49,7 @@ fn ends_frame(word: u16, arg: u64, key: u64) -> bool
     word == FOR && arg == key
 }
 
+// A NEXT under the flag keeps what the header has too.
 fn keeps_shared(word: u16, flag: bool) -> bool
     ensures { λ r. ⌜ r ≡ keepsShared word flag ⌝ }
 {
@@ -63,7 +66,7 @@ fn keep_part(
     out: &mut [u16],
 ) -> Framed
     requires { ⌜ PartInside (now counts) (now lists) (now succ) header × PartInside (now counts) (now lists) (now succ) node ⌝ }
-    ensures { λ r. ⌜ FrameTold (ifRoom (length (now (out .entry))) (kept (succPart (now (lists .entry)) (now (succ .entry)) header) (succPart (now (lists .entry)) (now (succ .entry)) node))) (now (out .entry)) (now (out .exit)) r ⌝ }
+    ensures { λ r. ⌜ FrameAnswered (ifRoom (length (now (out .entry))) (kept (succPart (now (lists .entry)) (now (succ .entry)) header) (succPart (now (lists .entry)) (now (succ .entry)) node))) (now (out .entry)) (now (out .exit)) r ⌝ }
 {
     let own = successors(counts, lists, succ, node);
     let shared = successors(counts, lists, succ, header);
@@ -73,7 +76,7 @@ fn keep_part(
 // All successors.
 fn copy_part(counts: &[u32; 6], lists: &[u16], succ: &[u16], node: usize, out: &mut [u16]) -> Framed
     requires { ⌜ PartInside (now counts) (now lists) (now succ) node ⌝ }
-    ensures { λ r. ⌜ FrameTold (ifRoom (length (now (out .entry))) (succPart (now (lists .entry)) (now (succ .entry)) node)) (now (out .entry)) (now (out .exit)) r ⌝ }
+    ensures { λ r. ⌜ FrameAnswered (ifRoom (length (now (out .entry))) (succPart (now (lists .entry)) (now (succ .entry)) node)) (now (out .entry)) (now (out .exit)) r ⌝ }
 {
     copy_list(successors(counts, lists, succ, node), out)
 }
@@ -93,7 +96,7 @@ fn write_frame(
     out: &mut [u16],
 ) -> Framed
     requires { ⌜ FrameInside (now counts) (now stmts) (now args) (now falls) (now lists) (now succ) header node ⌝ }
-    ensures { λ r. ⌜ FrameTold (ifRoom (length (now (out .entry))) (frameRead (now (stmts .entry)) (now (args .entry)) (now (falls .entry)) (now (lists .entry)) (now (succ .entry)) header node key flag)) (now (out .entry)) (now (out .exit)) r ⌝ }
+    ensures { λ r. ⌜ FrameAnswered (ifRoom (length (now (out .entry))) (frameRead (now (stmts .entry)) (now (args .entry)) (now (falls .entry)) (now (lists .entry)) (now (succ .entry)) header node key flag)) (now (out .entry)) (now (out .exit)) r ⌝ }
 {
     let word = stmts[node * STMT_ENTRIES];
     if ends_frame(word, args[node * ARG_ENTRIES], key) {
@@ -136,6 +139,7 @@ fn part_outside(lists: &[u16], succ: &[u16], i: usize) -> bool
     succ.len() - start < wide(lists[i * LIST_ENTRIES + SUCC_COUNT])
 }
 
+// Only a call's fall is read, so only that one is tested.
 fn fall_outside(n: usize, stmts: &[u16], falls: &[u16], i: usize) -> bool
     requires { ⌜ (i * 12 < length (now stmts)) × (i * 3 < length (now falls)) ⌝ }
     ensures { λ r. ⌜ r ≡ fallOutside n (now (stmts .entry)) (now (falls .entry)) i ⌝ }
@@ -172,6 +176,7 @@ fn frame_outside(
     fall_outside(n, stmts, falls, node)
 }
 
+// The key of a name that is known to be one.
 fn key_answer(k: NameKey) -> u64
     ensures { λ r. ⌜ r ≡ keyAnswer k ⌝ }
 {
@@ -198,7 +203,7 @@ fn frame_of(
     out: &mut [u16],
 ) -> Framed
     requires { ⌜ n ≡ getD (now counts) 1 0 ⌝ }
-    ensures { λ r. ⌜ FrameTold (frameIn lines n (now (stmts .entry)) (now (args .entry)) (now (falls .entry)) (now (lists .entry)) (now (succ .entry)) header node key flag (length (now (out .entry)))) (now (out .entry)) (now (out .exit)) r ⌝ }
+    ensures { λ r. ⌜ FrameAnswered (frameIn lines n (now (stmts .entry)) (now (args .entry)) (now (falls .entry)) (now (lists .entry)) (now (succ .entry)) header node key flag (length (now (out .entry)))) (now (out .entry)) (now (out .exit)) r ⌝ }
 {
     if n <= header {
         return Framed::Refused {
@@ -251,7 +256,7 @@ pub fn ask_frame(
     flag: bool,
     out: &mut [u16],
 ) -> Framed
-    ensures { λ r. ⌜ FrameTold (frameAt (getD (now (counts .entry)) 0 0) (getD (now (counts .entry)) 1 0) (now (stmts .entry)) (now (args .entry)) (now (falls .entry)) (now (lists .entry)) (now (succ .entry)) header node (now (name .entry)) flag (length (now (out .entry)))) (now (out .entry)) (now (out .exit)) r ⌝ }
+    ensures { λ r. ⌜ FrameAnswered (frameAt (getD (now (counts .entry)) 0 0) (getD (now (counts .entry)) 1 0) (now (stmts .entry)) (now (args .entry)) (now (falls .entry)) (now (lists .entry)) (now (succ .entry)) header node (now (name .entry)) flag (length (now (out .entry)))) (now (out .entry)) (now (out .exit)) r ⌝ }
 {
     if is_name(name) {
         let key = key_answer(key_of(name));

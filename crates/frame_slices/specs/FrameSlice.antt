@@ -15,7 +15,7 @@ use Rattle.graph.specs.Lists.{has, keep}
 use Rattle.graph_laws.specs.Adding.{decode}
 use Rattle.layout.specs.Zeroed.{clearedBehind}
 use Rattle.graph.specs.Questions.{Reply, answer, refused, kept, ifRoom}
-use Rattle.frame_slices.specs.Told.{FrameTold, framedOf, sliceAfter}
+use Rattle.frame_slices.specs.FrameAnswer.{FrameAnswered, framedOf, sliceAfter}
 use Rattle.frame_slices.specs.declared.slices.Framed.{Framed}
 use Rattle.frame_slices.specs.declared.slices.Framed.the-variants.{Listed, Refused}
 
@@ -103,17 +103,17 @@ room-short : (room : ℕ) (l : List ℕ) → room < length l → ifRoom room l �
 unfolding ifRoom
 room-short room l h = rw (lt-leb (length l) room h)
 
-told-by : (q : Reply (List ℕ)) (out t : List ℕ) (r : Framed) (p : Reply (List ℕ)) → q ≡ p → r ≡ framedOf p → t ≡ sliceAfter p out → FrameTold q out t r
-told-by q out t r p e f g = record { told = f ∙ ap framedOf (sym e); slice = g ∙ ap (λ (z : Reply (List ℕ)). sliceAfter z out) (sym e) }
+answered-by : (q : Reply (List ℕ)) (out t : List ℕ) (r : Framed) (p : Reply (List ℕ)) → q ≡ p → r ≡ framedOf p → t ≡ sliceAfter p out → FrameAnswered q out t r
+answered-by q out t r p e f g = record { answered = f ∙ ap framedOf (sym e); slice = g ∙ ap (λ (z : Reply (List ℕ)). sliceAfter z out) (sym e) }
 
 -- a refused question writes nothing
-pub told-refused : (q : Reply (List ℕ)) (out : List ℕ) (n p : ℕ) → q ≡ refused n p → FrameTold q out out (Refused n p)
+pub answered-refused : (q : Reply (List ℕ)) (out : List ℕ) (n p : ℕ) → q ≡ refused n p → FrameAnswered q out out (Refused n p)
 unfolding framedOf sliceAfter
-told-refused q out n p e = told-by q out out (Refused n p) (refused n p) e refl refl
+answered-refused q out n p e = answered-by q out out (Refused n p) (refused n p) e refl refl
 
 -- "28 the frame answer is longer than the slice lent for it (place: the answer's length)"
-pub told-long : (l out : List ℕ) (n : ℕ) → n ≡ length l → length out < n → FrameTold (ifRoom (length out) l) out out (Refused 28 n)
-told-long l out n e h = told-refused (ifRoom (length out) l) out 28 n (room-short (length out) l (omega arith) ∙ ap (λ (k : ℕ). refused 28 k) (sym e))
+pub answered-long : (l out : List ℕ) (n : ℕ) → n ≡ length l → length out < n → FrameAnswered (ifRoom (length out) l) out out (Refused 28 n)
+answered-long l out n e h = answered-refused (ifRoom (length out) l) out 28 n (room-short (length out) l (omega arith) ∙ ap (λ (k : ℕ). refused 28 k) (sym e))
 
 padded-front : (l out t : List ℕ) → length l ≤ length out → t ≡ l ++ drop (length l) out → clearedBehind (length l) t ≡ padded (length out) l
 unfolding clearedBehind padded
@@ -123,19 +123,19 @@ padded-front l out t h e =
     rw (f, k)
 
 -- the list stands at the front of t, and the rest of t became zero
-pub told-list : (l out t u : List ℕ) (n : ℕ) → n ≡ length l → n ≤ length out → t ≡ l ++ drop (length l) out → u ≡ clearedBehind n t → FrameTold (ifRoom (length out) l) out u (Listed n)
+pub answered-list : (l out t u : List ℕ) (n : ℕ) → n ≡ length l → n ≤ length out → t ≡ l ++ drop (length l) out → u ≡ clearedBehind n t → FrameAnswered (ifRoom (length out) l) out u (Listed n)
 unfolding framedOf sliceAfter
-told-list l out t u n e h f g =
-    told-by (ifRoom (length out) l) out u (Listed n) (answer l) (room-for (length out) l (omega arith)) (ap Listed e)
+answered-list l out t u n e h f g =
+    answered-by (ifRoom (length out) l) out u (Listed n) (answer l) (room-for (length out) l (omega arith)) (ap Listed e)
     (g ∙ ap (λ (k : ℕ). clearedBehind k t) e ∙ padded-front l out t (omega arith) f)
 
-pub told-none : (out t : List ℕ) → t ≡ replicate (length out) 0 → FrameTold (ifRoom (length out) []) out t (Listed 0)
+pub answered-none : (out t : List ℕ) → t ≡ replicate (length out) 0 → FrameAnswered (ifRoom (length out) []) out t (Listed 0)
 unfolding framedOf sliceAfter
-told-none out t e = told-by (ifRoom (length out) []) out t (Listed 0) (answer []) (room-for (length out) [] (omega arith)) refl (e ∙ sym (padded-nil (length out)))
+answered-none out t e = answered-by (ifRoom (length out) []) out t (Listed 0) (answer []) (room-for (length out) [] (omega arith)) refl (e ∙ sym (padded-nil (length out)))
 
 -- by another list that is the same
-pub told-as : (l m out t : List ℕ) (r : Framed) → l ≡ m → FrameTold (ifRoom (length out) l) out t r → FrameTold (ifRoom (length out) m) out t r
-told-as l m out t r e g = subst (λ (z : List ℕ). FrameTold (ifRoom (length out) z) out t r) e g
+pub answered-as : (l m out t : List ℕ) (r : Framed) → l ≡ m → FrameAnswered (ifRoom (length out) l) out t r → FrameAnswered (ifRoom (length out) m) out t r
+answered-as l m out t r e g = subst (λ (z : List ℕ). FrameAnswered (ifRoom (length out) z) out t r) e g
 
 pub decode-none : (t : ℕ) → t ≡ 0 → [] ≡ decode t
 decode-none t e = ap decode (sym e)

@@ -1,3 +1,3 @@
-pub mod Told
+pub mod FrameAnswer
 pub mod FrameLaws
 pub mod FrameSlice

@@ -7,7 +7,7 @@ ghost use Prim.Native.Nat.{_≤_};
 ghost use lib.ListN.{length, drop};
 ghost use Rattle.graph_laws.specs.Adding.{decode};
 ghost use Rattle.graph.specs.Questions.{kept, ifRoom};
-ghost use Rattle.frame_slices.specs.Told.{FrameTold};
+ghost use Rattle.frame_slices.specs.FrameAnswer.{FrameAnswered};
 
 pub enum Framed {
     Listed { len: usize },
@@ -58,8 +58,9 @@ fn store_list(list: &[u16], out: &mut [u16])
     }
 }
 
+// The whole list, if it fits the slice.
 pub fn copy_list(list: &[u16], out: &mut [u16]) -> Framed
-    ensures { λ r. ⌜ FrameTold (ifRoom (length (now (out .entry))) (now (list .entry))) (now (out .entry)) (now (out .exit)) r ⌝ }
+    ensures { λ r. ⌜ FrameAnswered (ifRoom (length (now (out .entry))) (now (list .entry))) (now (out .entry)) (now (out .exit)) r ⌝ }
 {
     let len = list.len();
     if out.len() < len {
@@ -73,8 +74,9 @@ pub fn copy_list(list: &[u16], out: &mut [u16]) -> Framed
     Framed::Listed { len }
 }
 
+// What the header has too, if it fits; counted first, since a refusal writes nothing.
 pub fn keep_shared(list: &[u16], header: &[u16], out: &mut [u16]) -> Framed
-    ensures { λ r. ⌜ FrameTold (ifRoom (length (now (out .entry))) (kept (now (header .entry)) (now (list .entry)))) (now (out .entry)) (now (out .exit)) r ⌝ }
+    ensures { λ r. ⌜ FrameAnswered (ifRoom (length (now (out .entry))) (kept (now (header .entry)) (now (list .entry)))) (now (out .entry)) (now (out .exit)) r ⌝ }
 {
     let count = count_kept(list, header);
     if out.len() < count {
@@ -88,8 +90,9 @@ pub fn keep_shared(list: &[u16], header: &[u16], out: &mut [u16]) -> Framed
     Framed::Listed { len: count }
 }
 
+// The empty list fits every slice.
 pub fn give_nothing(out: &mut [u16]) -> Framed
-    ensures { λ r. ⌜ FrameTold (ifRoom (length (now (out .entry))) []) (now (out .entry)) (now (out .exit)) r ⌝ }
+    ensures { λ r. ⌜ FrameAnswered (ifRoom (length (now (out .entry))) []) (now (out .entry)) (now (out .exit)) r ⌝ }
 {
     zero16(out);
     Framed::Listed { len: 0 }
@@ -97,7 +100,7 @@ pub fn give_nothing(out: &mut [u16]) -> Framed
 
 // The node t - 1, where t is not 0.
 pub fn give_fall(t: u16, out: &mut [u16]) -> Framed
-    ensures { λ r. ⌜ FrameTold (ifRoom (length (now (out .entry))) (decode t)) (now (out .entry)) (now (out .exit)) r ⌝ }
+    ensures { λ r. ⌜ FrameAnswered (ifRoom (length (now (out .entry))) (decode t)) (now (out .entry)) (now (out .exit)) r ⌝ }
 {
     if t == 0 {
         return give_nothing(out);

@@ -16,7 +16,7 @@ use Rattle.listings.specs.Every.{All, all[], all∷}
 use Rattle.graph.specs.Edges.{Frame, Stacks, emptyStacks, Move, stays, opens, closes, joins, Moves, onFors, onStack, ruleOf, noMoves, movesOf, nodeMoves, framesAfter, stacksAfter, poppedBodies, closedBody, own, Stack, loopStack, doStack, sent, Edge, fromNode, toFall, wired, orphans, edges, ends}
 use Rattle.graph_laws.specs.PerNode.{Openers, noOpeners, openersAfter, after, meets, pops, Fact, factOf, facts, moveOn, metOn, fallOf, fallAt, bodyMet, perNode}
 use Rattle.graph_laws.specs.EdgeLaws.{Outside, out-head, out-tail, ends-append, ends-own, ends-other}
-use Rattle.graph_laws.specs.StackLaws.{openerOf, all-after, openers-after, desc[], Unknown, unknown-after, never-sent, Turns, end, turn, idle, late-law}
+use Rattle.graph_laws.specs.StackLaws.{openerOf, all-after, openers-after, desc[], Unknown, unknown-after, never-sent, Turns, end, turn, idle, closing-law}
 use Rattle.graph_laws.specs.ForLaws.{frameAt, fors-after, bodies-law}
 
 pub length-facts : (i : ℕ) (ns : List Node) (st : Openers) → length (facts i ns st) ≡ length ns
@@ -263,10 +263,10 @@ unfolding edges perNode emptyStacks noOpeners moveOn metOn
 per-node es ns i f at =
     let F = facts 0 ns noOpeners in
     let z : 0 + i ≡ i = omega arith in
-    let own-and-late = walk F es i f 0 ns noOpeners emptyStacks (λ j. rw zero-add) (record { fors = refl; loops = refl; bodies = all[] }) all[] all[] i z at in
-    let loop-late = late-law loopStack i 0 (turns-of loopStack 0 ns noOpeners [] refl) desc[] all[] i f z at in
-    let do-late = late-law doStack i 0 (turns-of doStack 0 ns noOpeners [] refl) desc[] all[] i f z at in
-    rw (ends-append, own-and-late, loop-late, do-late, orphans-law i (dispatchTargets ns) 0 ns noOpeners i f z at) (simp append-assoc)
+    let own-and-closing = walk F es i f 0 ns noOpeners emptyStacks (λ j. rw zero-add) (record { fors = refl; loops = refl; bodies = all[] }) all[] all[] i z at in
+    let loop-closing = closing-law loopStack i 0 (turns-of loopStack 0 ns noOpeners [] refl) desc[] all[] i f z at in
+    let do-closing = closing-law doStack i 0 (turns-of doStack 0 ns noOpeners [] refl) desc[] all[] i f z at in
+    rw (ends-append, own-and-closing, loop-closing, do-closing, orphans-law i (dispatchTargets ns) 0 ns noOpeners i f z at) (simp append-assoc)
 
 -- there are no edges from elsewhere
 pub no-edges : (es : Entries) (ns : List Node) (i : ℕ) → length ns ≤ i → ends i (edges es ns) ≡ []

@@ -253,16 +253,16 @@ module _ (i : ℕ) where
       pass-doif x (g .opener ∷ []) f F E (joining (g .opener)) p t (refl, e) (doif-law x (suc k) r (le-step hi) (deep p (never-snoc i (g .joined) k p′ (lt-eqb i k hi)) e h))
 
 -- ---- what the stack sends to node i
-late-skip : (s : Stack) (g : Fact) (F : List Fact) (i : ℕ) (m : Move) (x : Met) → Misses i (metOn s g) → ((o : ℕ) → x ≡ joining o → isClosing o (metOn s g) ≡ false)
+closing-skip : (s : Stack) (g : Fact) (F : List Fact) (i : ℕ) (m : Move) (x : Met) → Misses i (metOn s g) → ((o : ℕ) → x ≡ joining o → isClosing o (metOn s g) ≡ false)
     → late s F i m x ≡ late s (g ∷ F) i m x
 unfolding late closerFall doifFalls
-late-skip s g F i joins nothing h c = refl
-late-skip s g F i joins (closing o) h c = refl
-late-skip s g F i joins (joining o) h c = sym (falls-no s (isClosing o) g F (c o refl))
-late-skip loopStack g F i opens x h c = refl
-late-skip doStack g F i opens x h c = sym (doif-skip i false g F h)
-late-skip s g F i stays x h c = refl
-late-skip s g F i closes x h c = refl
+closing-skip s g F i joins nothing h c = refl
+closing-skip s g F i joins (closing o) h c = refl
+closing-skip s g F i joins (joining o) h c = sym (falls-no s (isClosing o) g F (c o refl))
+closing-skip loopStack g F i opens x h c = refl
+closing-skip doStack g F i opens x h c = sym (doif-skip i false g F h)
+closing-skip s g F i stays x h c = refl
+closing-skip s g F i closes x h c = refl
 
 module _ (s : Stack) where
   -- a frame that is closed now is not joined later
@@ -297,14 +297,14 @@ at-turn s i k g joins {F = F} z (desc∷ {f = c} p d) (all∷ w u) t r =
 
 module _ (s : Stack) (i : ℕ) where
   -- from node k on, where node i is the j-th
-  pub late-law : (k : ℕ) {fs : List Frame} {F : List Fact} {E : List Edge} → Turns s k fs F E → Descending k fs → Unknown s i fs
+  pub closing-law : (k : ℕ) {fs : List Frame} {F : List Fact} {E : List Edge} → Turns s k fs F E → Descending k fs → Unknown s i fs
       → (j : ℕ) (f : Fact) → k + j ≡ i → getElem? F j ≡ some f → ends i E ≡ late s F i (moveOn s (nodeMoves (f .stmt))) (metOn s f)
-  late-law k end d u j f z at = absurd (let z : _≡_ {A = ℕ} 0 1 = cc in omega arith)
-  late-law k (turn {fs} {f = g} {F} {E} m q t r) d u zero f z at =
+  closing-law k end d u j f z at = absurd (let z : _≡_ {A = ℕ} 0 1 = cc in omega arith)
+  closing-law k (turn {fs} {f = g} {F} {E} m q t r) d u zero f z at =
       let same : g ≡ f = cc in
       turn-never i (sent s m fs) (g .fall) E (never-sent s i m u) ∙ at-turn s i k g m (omega arith) d u t r ∙ rw (← same, q, t)
-  late-law k (turn {fs} {f = g} {F} {E} m q t r) d u (suc j) f z at =
+  closing-law k (turn {fs} {f = g} {F} {E} m q t r) d u (suc j) f z at =
       let n = ne-eqb i k (λ e. omega arith) in
       turn-never i (sent s m fs) (g .fall) E (never-sent s i m u)
-      ∙ late-law (suc k) r (desc-after k (g .fall) m d) (unknown-after s i k (g .fall) m n u) j f (omega arith) at
-      ∙ late-skip s g F i _ _ (rw t (misses i m (absent k i (omega arith) d))) (λ o e. rw t (closed-before s k (g .fall) m d r j f at o e))
+      ∙ closing-law (suc k) r (desc-after k (g .fall) m d) (unknown-after s i k (g .fall) m n u) j f (omega arith) at
+      ∙ closing-skip s g F i _ _ (rw t (misses i m (absent k i (omega arith) d))) (λ o e. rw t (closed-before s k (g .fall) m d r j f at o e))

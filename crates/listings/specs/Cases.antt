@@ -15,13 +15,13 @@ pub record Case : Type 0 where
   pub number : ℕ
   pub place : ℕ
 
-unfoldable pub told : Answer → List ℕ
-told (listing L) = 0 ∷ 0 ∷ []
-told (refusal n p) = n ∷ p ∷ []
+unfoldable pub answered : Answer → List ℕ
+answered (listing L) = 0 ∷ 0 ∷ []
+answered (refusal n p) = n ∷ p ∷ []
 
 unfoldable pub right : List Case → Bool
 right [] = true
-right (c ∷ cs) = same (told (read (c .text))) (c .number ∷ c .place ∷ []) && right cs
+right (c ∷ cs) = same (answered (read (c .text))) (c .number ∷ c .place ∷ []) && right cs
 
 unfoldable pub whole : String → ℕ → ℕ → Case
 whole s n p = record { text = bytes s; number = n; place = p }
@@ -78,5 +78,5 @@ cases =
     ∷ []
 
 pub computed : T (right cases)
-unfolding opened told right whole taken refused times numbers deep cases
+unfolding opened answered right whole taken refused times numbers deep cases
 computed = tt

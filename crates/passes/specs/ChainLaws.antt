@@ -8,7 +8,7 @@ use lib.ListN.{length, getD}
 use Rattle.listings.specs.Every.{All, all∷}
 use Rattle.graph.specs.Lists.{each}
 use Rattle.graph_laws.specs.Adding.{decode, Added, added-none, added-both}
-use Rattle.passes.specs.Late.{FitsPart, fallBy, fallFrom, FallFits, FallFitsFrom, AboveNode, ElseChain, chain[], chain∷, ElsesFit, ElsesAdded, elsesOr, DoifAdded, closerFrom, CloserFits}
+use Rattle.passes.specs.Closing.{FitsPart, fallBy, fallFrom, FallFits, FallFitsFrom, AboveNode, ElseChain, chain[], chain∷, ElsesFit, ElsesAdded, elsesOr, DoifAdded, closerFrom, CloserFits}
 
 -- ---- one node
 module _ (falls : List ℕ) where

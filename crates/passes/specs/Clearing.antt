@@ -19,7 +19,7 @@ pub record SetsCleared (stmts : List ℕ) (n : ℕ) (sets sets′ : List ℕ) : 
   pub kept : (e : ℕ) → ((e / 64 < n) × (getD stmts ((e / 64) * 12) 0 ≡ returnWord) → ⊥) → getD sets′ e 0 ≡ getD sets e 0
 
 -- on all tables: where these hold no n statements with their sets, nothing changes
-pub record ClearTold (stmts : List ℕ) (n : ℕ) (sets sets′ : List ℕ) : Type 0 where
+pub record ClearAnswered (stmts : List ℕ) (n : ℕ) (sets sets′ : List ℕ) : Type 0 where
   pub fitting : setsFit stmts n sets ≡ true → SetsCleared stmts n sets sets′
   pub other : setsFit stmts n sets ≡ false → sets′ ≡ sets
 

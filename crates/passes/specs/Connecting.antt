@@ -23,7 +23,7 @@ use Rattle.graph.specs.Nodes.{branchTarget, allocate, lineEntry, nodesBefore, n
 use Rattle.passes.specs.Held.{StmtsHeld}
 use Rattle.passes.specs.LineEntries.{entryPairs, pairs-append, pairs-length, entries-length, second-at, stmts-line}
 use Rattle.passes.specs.LineSearch.{EntryTable, EntryFound}
-use Rattle.passes.specs.Falls.{leads, fallRows, Head, leaf, fork, headSize, headRow, fallsOf, headFalls, Spans, HeadAt, HeadOk, Written, targetOf, BranchLed, RowConnected, StmtConnected, BranchConnected, LinesConnected, AllLines}
+use Rattle.passes.specs.Falls.{leads, fallRows, Head, leaf, fork, headSize, headRow, fallsOf, headFalls, Spans, HeadAt, HeadOk, FallsWritten, targetOf, BranchLed, RowConnected, StmtConnected, BranchConnected, LinesConnected, AllLines}
 use Rattle.passes.specs.FallLaws.{rows-append, falls-nodes, falls-length, rows-length, sets-before, sets-padded, RecsAt, recs-split, recs-at, spans-recs, Prefix, prefix-∅, prefix-all, prefix-le, More, more, row-width}
 use Rattle.tables.specs.Stores.{sets-append}
 
@@ -101,7 +101,7 @@ module _ (entries : List ℕ) (k : ℕ) (rows : List ℕ) (depth from end next :
   unfolding size fallsOf
   branch-start = record { p = ∅; pre = prefix-∅ s; at = omega arith; table = refl }
 
-  pub branch-end : (u : List ℕ) (i : ℕ) → end ≤ i → Gone es from end next t u i s → Written true t u from (fallsOf es from next s)
+  pub branch-end : (u : List ℕ) (i : ℕ) → end ≤ i → Gone es from end next t u i s → FallsWritten true t u from (fallsOf es from next s)
   branch-end u i h g =
       let q : g .p ≡ s = prefix-all (g .pre) (omega (arith, g .at)) in
       record { done = refl; table = g .table ∙ rw (le-ltb i end h, q) }
@@ -123,7 +123,7 @@ module _ (entries : List ℕ) (k : ℕ) (rows : List ℕ) (depth from end next :
         let F = fallsOf es from (suc i) p in
         let G = headFalls es i g (m .head) in
         let eh : e ≡ i + headSize (m .head) = ee ∙ head-end rows i (m .head) at-i in
-        let w : Written r u v i G = f es et d dd (m .head) at-i (m .ok) eh in
+        let w : FallsWritten r u v i G = f es et d dd (m .head) at-i (m .ok) eh in
         let tf : u ≡ sets t (from * 3) F = tu ∙ rw (lt-ltb i end h, add-one) in
         let lf : i * 3 ≡ from * 3 + length F = omega (arith, falls-length es from (suc i) p) in
         let fe : fallsOf es from g (m .then) ≡ F ++ G = rw q (m .rows-are es g) in (
@@ -189,8 +189,8 @@ module _ (entries : List ℕ) (k : ℕ) (rows : List ℕ) (depth i end next : �
         let FA = fallsOf es (suc i) next a in
         let FB = fallsOf es (suc i + size a) next b in
         let w₀ : t₁ ≡ sets t (i * 3) H = row es et x a y b (at .0) mi en in
-        let wa : Written r₁ t₁ u (suc i) FA = rw (add-one i) at (g₁ es et (suc d) (deeper depth d h dd) a (rw add-one (at .1)) (ok .2) (mi ∙ rw add-one)) in
-        let wb : Written r u v (suc i + size a) FB = rw mi at (g₂ es et (suc d) (deeper depth d h dd) b (rw mi (at .2)) (ok .3) (en ∙ rw mi)) in
+        let wa : FallsWritten r₁ t₁ u (suc i) FA = rw (add-one i) at (g₁ es et (suc d) (deeper depth d h dd) a (rw add-one (at .1)) (ok .2) (mi ∙ rw add-one)) in
+        let wb : FallsWritten r u v (suc i + size a) FB = rw mi at (g₂ es et (suc d) (deeper depth d h dd) b (rw mi (at .2)) (ok .3) (en ∙ rw mi)) in
         let la : suc i * 3 ≡ i * 3 + length H = omega (arith, row-width es i next (fork x a y b)) in
         let lb : (suc i + size a) * 3 ≡ suc i * 3 + length FA = omega (arith, falls-length es (suc i) next a) in
         record {
@@ -335,11 +335,11 @@ ahead-start table k rows t n ls ok et sh =
       same = append-nil _;
     }
 
-pub ahead-end : (es : Entries) (ns table rows t u : List ℕ) (l end next : ℕ) → l ≡ 0 → Ahead es ns table rows t u l end next → Written true t u 0 ns
+pub ahead-end : (es : Entries) (ns table rows t u : List ℕ) (l end next : ℕ) → l ≡ 0 → Ahead es ns table rows t u l end next → FallsWritten true t u 0 ns
 unfolding count total nodesBefore fallRows
 ahead-end es ns table rows t u l end next z a = none-left (a .lines) (a .after) (a .done) (omega (arith, a .left)) (a .table) (a .same)
   where
-    none-left : (ls : Lines) (e : Option ℕ) (done : List ℕ) → count ls ≡ 0 → u ≡ sets t (total ls * 3) done → fallRows es (nodesBefore e ls) ++ done ≡ ns → Written true t u 0 ns
+    none-left : (ls : Lines) (e : Option ℕ) (done : List ℕ) → count ls ≡ 0 → u ≡ sets t (total ls * 3) done → fallRows es (nodesBefore e ls) ++ done ≡ ns → FallsWritten true t u 0 ns
     none-left nolines e done c eu ea = record { done = refl; table = eu ∙ ap (sets t 0) ea }
     none-left (line ls n s) e done c eu ea = absurd (omega arith)
 

@@ -106,7 +106,7 @@ HeadOk d (fork t a u b) = (d ≤ 16) × (branchNumber t ≡ 0 → ⊥) × StmtsO
 -- ---- contracts, for whatever the tables hold
 
 -- found: the records said where the statements are
-pub record Written (found : Bool) (t u : List ℕ) (i : ℕ) (rows : List ℕ) : Type 0 where
+pub record FallsWritten (found : Bool) (t u : List ℕ) (i : ℕ) (rows : List ℕ) : Type 0 where
   pub done : found ≡ true
   pub table : u ≡ sets t (i * 3) rows
 
@@ -130,12 +130,12 @@ RowConnected entries k rows i m end next t u =
 abbrev pub StmtConnected : (entries : List ℕ) (k : ℕ) (rows : List ℕ) (depth i end next : ℕ) → List ℕ → List ℕ → Bool → Type 0
 StmtConnected entries k rows depth i end next t u r =
     (es : Entries) → EntryTable es entries k → (d : ℕ) → d + depth ≡ 17 → (h : Head) → HeadAt rows i h → HeadOk d h → end ≡ i + headSize h
-    → Written r t u i (headFalls es i next h)
+    → FallsWritten r t u i (headFalls es i next h)
 
 abbrev pub BranchConnected : (entries : List ℕ) (k : ℕ) (rows : List ℕ) (depth from end next : ℕ) → List ℕ → List ℕ → Bool → Type 0
 BranchConnected entries k rows depth from end next t u r =
     (es : Entries) → EntryTable es entries k → (d : ℕ) → d + depth ≡ 17 → (s : Stmts) → Spans rows from s → StmtsOk d s → end ≡ from + size s
-    → Written r t u from (fallsOf es from next s)
+    → FallsWritten r t u from (fallsOf es from next s)
 
 -- a table of zeros becomes the rows of all nodes, and zeros past them
 pub record AllConnected (ls : Lines) (found : Bool) (t u : List ℕ) : Type 0 where
@@ -149,4 +149,4 @@ LinesConnected table rows count n t u r =
 -- the same into any table
 abbrev pub AllLines : (entries rows : List ℕ) (count n : ℕ) → List ℕ → List ℕ → Bool → Type 0
 AllLines table rows count n t u r =
-    (ls : Lines) → LinesOk ls → EntryTable (entries ls) table count → StmtsHeld ls rows n → Written r t u 0 (fallRows (entries ls) (nodes ls))
+    (ls : Lines) → LinesOk ls → EntryTable (entries ls) table count → StmtsHeld ls rows n → FallsWritten r t u 0 (fallRows (entries ls) (nodes ls))

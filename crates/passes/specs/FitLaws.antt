@@ -7,7 +7,7 @@ use lib.ListN.{length}
 use Rattle.listings.specs.Every.{All, all[], all∷}
 use Rattle.graph_laws.specs.Adding.{decode}
 use Rattle.passes.specs.Growing.{Grown, Grows, RoomFor, grown-room}
-use Rattle.passes.specs.Late.{FitsPart}
+use Rattle.passes.specs.Closing.{FitsPart}
 
 decode-below : (m t : ℕ) → t ≤ m → All (λ (a : ℕ). a < m) (decode t)
 decode-below m zero h = all[]

@@ -18,10 +18,10 @@ pub mod FramePass
 pub mod FramePassLaws
 pub mod LinkLaws
 pub mod LinkRows
-pub mod Late
+pub mod Closing
 pub mod FitLaws
 pub mod ChainLaws
-pub mod LateLaws
+pub mod ClosingLaws
 pub mod FrameCases
 pub mod ListedNodes
 pub mod ForStack
@@ -76,6 +76,6 @@ pub mod RegionLaws
 pub mod Paths
 pub mod GraphHeld
 pub mod GraphReads
-pub mod Spread
-pub mod SpreadLaws
+pub mod ByRows
+pub mod ByRowsLaws
 pub mod TableForms

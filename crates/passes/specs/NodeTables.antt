@@ -26,7 +26,7 @@ use Rattle.passes.specs.Frames.{metNumber, eitherMet, frameMet, metEntry
 use Rattle.passes.specs.FrameRows.{met-entry}
 use Rattle.passes.specs.FramePassLaws.{either-nothing}
 use Rattle.passes.specs.LinkLaws.{frame-below}
-use Rattle.passes.specs.LateLaws.{number-below}
+use Rattle.passes.specs.ClosingLaws.{number-below}
 use Rattle.passes.specs.ListedNodes.{Listed, FallsListed}
 use Rattle.passes.specs.ForLinks.{linkedRows, poppedBy}
 use Rattle.passes.specs.ForLinkLaws.{other-links}

@@ -37,7 +37,7 @@ use Rattle.passes.specs.ForLinkLaws.{other-links}
 use Rattle.passes.specs.TableReads.{fall-of, links-edges, link-entry, targets-fit, linked-length, link-of}
 use Rattle.passes.specs.Prepared.{linkTable, Prepared, isCall, isReturn, linkEntries, Roles}
 use Rattle.tables.specs.Columns.{callWord, wordOf, fallEntry}
-use Rattle.passes.specs.LateLaws.{number-below}
+use Rattle.passes.specs.ClosingLaws.{number-below}
 
 -- ---- calls, RETURNs, and the others
 

@@ -19,7 +19,7 @@ use Rattle.listings.specs.ListingText.{Within}
 use Rattle.listings.specs.RoundTrip.{accepted-in-form}
 use borrow.Author.Tests.{leb-true}
 use Rattle.reader.specs.Answer.{listedOf}
-use Rattle.reader.specs.Listed.{lineEntries, stmtEntries, argEntries, Written}
+use Rattle.reader.specs.Listed.{lineEntries, stmtEntries, argEntries, RecordsWritten}
 use Rattle.reader.specs.declared.listing.Listed.{Listed}
 use Rattle.layout.specs.Zeroed.{clearedBehind, cleared-length}
 
@@ -101,10 +101,10 @@ front-length k t u h e = sym (length-take-le k u (omega (arith, ap length e, cle
 
 module _ (b : Answer) (ok : ReadWithin b) (kl kn : ℕ) (lines stmts args : List ℕ) (hl : kl ≤ length lines) (hs : kn * 12 ≤ length stmts) (ha : kn * 64 ≤ length args) where
   pub fitting-read : (l₀ t₀ a₀ : List ℕ) → l₀ ≡ clearedBehind kl lines → t₀ ≡ clearedBehind (kn * 12) stmts → a₀ ≡ clearedBehind (kn * 64) args → (c l t a : List ℕ) (r : Listed)
-      → Written b (length (take kl l₀)) (length (take (kn * 12) t₀)) (length (take (kn * 64) a₀)) c l t a r
+      → RecordsWritten b (length (take kl l₀)) (length (take (kn * 12) t₀)) (length (take (kn * 64) a₀)) c l t a r
       → FittingRead b kl kn (length lines) (length stmts) (length args) c (l ++ drop kl l₀) (t ++ drop (kn * 12) t₀) (a ++ drop (kn * 64) a₀) r
   fitting-read l₀ t₀ a₀ el et ea c l t a r w₀ =
-      let w : Written b kl (kn * 12) (kn * 64) c l t a r = rw (← (front-length kl lines l₀ hl el), ← (front-length (kn * 12) stmts t₀ hs et), ← (front-length (kn * 64) args a₀ ha ea)) at w₀ in
+      let w : RecordsWritten b kl (kn * 12) (kn * 64) c l t a r = rw (← (front-length kl lines l₀ hl el), ← (front-length (kn * 12) stmts t₀ hs et), ← (front-length (kn * 64) args a₀ ha ea)) at w₀ in
       record {
         answer = w .answer;
         counts = w .counts;

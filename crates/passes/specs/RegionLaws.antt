@@ -31,7 +31,7 @@ use Rattle.graph_laws.specs.EdgeBounds.{Ids}
 use Rattle.passes.specs.Prepared.{linkEntries, Roles}
 use Rattle.passes.specs.Spans.{SpansGrow, Spanned, mem-place, mem-take, mem-drop, part-place}
 use Rattle.passes.specs.Regions.{callsBelow, targetRow, backFrom, TargetsFit, CallFits, CallsReady, EntryCalls, SetAdded, CallsBack, ReturnsBy, RegionJoined, RegionsJoined, SetsFound, ReturnRows, SetsClear, ListedJoined, EntriesReady}
-use Rattle.passes.specs.WalkTables.{CallsRead, callsReadable, walksReadable, read-calls, RegionsTold}
+use Rattle.passes.specs.WalkTables.{CallsRead, callsReadable, walksReadable, read-calls, RegionsAnswered}
 use Rattle.passes.specs.WalkLaws.{mem-getD, id-at, all-take, stored-own}
 
 -- ---- lists
@@ -518,9 +518,9 @@ module _ (stmts falls links lists edges : List ℕ) (n : ℕ) (sets : List ℕ) 
   walks-by h good e = rw h e
 
   -- what the call leaves, on tables of a listing
-  pub told-graph : (sets′ : List ℕ) (r : Bool) (W : Wired) → Roles W stmts falls links n → Stored lists edges n (skipSteps W) → n * 64 ≤ length sets → SetsClear stmts n sets
-      → RegionsTold stmts falls links lists edges n sets sets′ r → ReturnRows W stmts n sets sets′
+  pub answered-graph : (sets′ : List ℕ) (r : Bool) (W : Wired) → Roles W stmts falls links n → Stored lists edges n (skipSteps W) → n * 64 ≤ length sets → SetsClear stmts n sets
+      → RegionsAnswered stmts falls links lists edges n sets sets′ r → ReturnRows W stmts n sets sets′
   unfolding walksReadable
-  told-graph sets′ r W s t fits z f =
+  answered-graph sets′ r W s t fits z f =
       let y = both-so (listsReadable lists edges n) (callsReadable stmts falls links n sets) (stored-read (s .few) t) (read-calls stmts falls links n sets (roles-read W stmts falls links n s) fits) in
       stored-graph W stmts falls links lists edges n sets sets′ s t fits z (f .found (f .answer ∙ y))

@@ -38,7 +38,7 @@ walksReadable stmts falls links lists edges n sets = listsReadable lists edges n
 
 -- ---- what the walks promise on all tables: false stands for refusal 25
 
-pub record RegionsTold (stmts falls links lists edges : List ℕ) (n : ℕ) (sets sets′ : List ℕ) (r : Bool) : Type 0 where
+pub record RegionsAnswered (stmts falls links lists edges : List ℕ) (n : ℕ) (sets sets′ : List ℕ) (r : Bool) : Type 0 where
   pub answer : r ≡ walksReadable stmts falls links lists edges n sets
   pub refused : r ≡ false → sets′ ≡ sets
   pub found : r ≡ true → SetsFound stmts falls links (storedList lists edges) n sets sets′

@@ -32,8 +32,8 @@ use Rattle.graph_laws.specs.Theorems.{factsOf, lists-per-node}
 use Rattle.passes.specs.OpenerLaws.{some-at, node-of, fall-at, stmt-at}
 use Rattle.passes.specs.ListedNodes.{SimpleListed, SlotsCounted, ForKind, isFor, isNext, isOther, for-kind, for-number}
 use Rattle.passes.specs.LineSearch.{table-nodes}
-use Rattle.passes.specs.Late.{FitsPart, LateTables, LateReady, lateEdges, LateAdded}
-use Rattle.passes.specs.LateLaws.{late-ready}
+use Rattle.passes.specs.Closing.{FitsPart, ClosingTables, ClosingReady, closingEdges, ClosingAdded}
+use Rattle.passes.specs.ClosingLaws.{closing-ready}
 use Rattle.passes.specs.Growing.{Grown, Grows, all-left, all-right, grown-added}
 use Rattle.passes.specs.NextBodies.{PoppedRoom, SelectRoom, orphanBodies}
 use Rattle.passes.specs.NextBodyLaws.{dispatched-below}
@@ -70,8 +70,8 @@ call-number w h = go (eqb w 8) refl h
     go false e q = inr (eqb-true w 12 q)
 
 module _ {L : Listing} {stmts ks entries falls links frames ds : List ℕ} {lines n d : ℕ} (P : Prepared L stmts ks entries falls links frames ds lines n d) where
-  pub late-tables : LateTables stmts falls frames (wire L .nodes)
-  late-tables = record {
+  pub closing-tables : ClosingTables stmts falls frames (wire L .nodes)
+  closing-tables = record {
     worded = λ i x e. P .listed i x e .word;
     falling = λ j f e. let x = node-of loopStack (wire L .nodes) j f e in falling P j (x .0) (x .1) ∙ ap nodeNumber (sym (fall-at loopStack (wire L .nodes) j (x .0) f (x .1) e));
     framed = P .framed;
@@ -83,11 +83,11 @@ module _ {L : Listing} {stmts ks entries falls links frames ds : List ℕ} {line
   module _ (args : List ℕ) (i : ℕ) (lt : i < n) (kept : Keys stmts ks args i) (size : length args ≡ length ks) where
     -- the edges that the code adds, in its order
     abbrev edgesBy : Fact → List ℕ
-    edgesBy f = ownEdges stmts entries falls links frames lines i ++ (lateEdges (facts 0 (wire L .nodes) noOpeners) i f ++ orphanBodies stmts args falls (take d ds) i)
+    edgesBy f = ownEdges stmts entries falls links frames lines i ++ (closingEdges (facts 0 (wire L .nodes) noOpeners) i f ++ orphanBodies stmts args falls (take d ds) i)
 
     module _ (x : Node) (f : Fact) (ex : getElem? (wire L .nodes) i ≡ some x) (ef : getElem? (facts 0 (wire L .nodes) noOpeners) i ≡ some f) where
       edges-are : edgesBy f ≡ perNode (wire L .entries) (dispatchTargets (wire L .nodes)) (facts 0 (wire L .nodes) noOpeners) i f
-      unfolding perNode lateEdges
+      unfolding perNode closingEdges
       edges-are =
           let s : orphanEdges (dispatchTargets (wire L .nodes)) (x .stmt) ≡ orphanEdges (dispatchTargets (wire L .nodes)) (f .stmt) = ap (orphanEdges (dispatchTargets (wire L .nodes))) (sym (stmt-at loopStack (wire L .nodes) i x f ex ef)) in
           rw (own-are P i lt x f ex ef, orphan-are P args i x lt ex kept size, s) (simp append-assoc)
@@ -99,11 +99,11 @@ module _ {L : Listing} {stmts ks entries falls links frames ds : List ℕ} {line
       own-ids : Ids n (ownEdges stmts entries falls links frames lines i)
       own-ids = all-left (ownEdges stmts entries falls links frames lines i) _ edges-ids
 
-      late-ids : Ids n (lateEdges (facts 0 (wire L .nodes) noOpeners) i f)
-      late-ids = all-left (lateEdges (facts 0 (wire L .nodes) noOpeners) i f) (orphanBodies stmts args falls (take d ds) i) (all-right (ownEdges stmts entries falls links frames lines i) _ edges-ids)
+      closing-ids : Ids n (closingEdges (facts 0 (wire L .nodes) noOpeners) i f)
+      closing-ids = all-left (closingEdges (facts 0 (wire L .nodes) noOpeners) i f) (orphanBodies stmts args falls (take d ds) i) (all-right (ownEdges stmts entries falls links frames lines i) _ edges-ids)
 
       orphan-ids : Ids n (orphanBodies stmts args falls (take d ds) i)
-      orphan-ids = all-right (lateEdges (facts 0 (wire L .nodes) noOpeners) i f) (orphanBodies stmts args falls (take d ds) i) (all-right (ownEdges stmts entries falls links frames lines i) _ edges-ids)
+      orphan-ids = all-right (closingEdges (facts 0 (wire L .nodes) noOpeners) i f) (orphanBodies stmts args falls (take d ds) i) (all-right (ownEdges stmts entries falls links frames lines i) _ edges-ids)
 
       few-args : 7 ≤ getD stmts (i * 12) 0 → getD stmts (i * 12 + 10) 0 ≤ 64
       few-args h =
@@ -152,15 +152,15 @@ module _ {L : Listing} {stmts ks entries falls links frames ds : List ℕ} {line
     pub after-own : (part p : List ℕ) (r : ℕ) → n ≤ length part → Grows part 0 p r (ownEdges stmts entries falls links frames lines i) → Grown n p r
     after-own part p r h a = a .grown n (grown-start n part h) (own-ids (here .0) (fact .0) (here .1) (fact .1))
 
-    pub late-room : (p : List ℕ) (r : ℕ) → Grown n p r → FitsPart p r × LateReady stmts falls frames i (length p)
-    late-room p r g = (
+    pub closing-room : (p : List ℕ) (r : ℕ) → Grown n p r → FitsPart p r × ClosingReady stmts falls frames i (length p)
+    closing-room p r g = (
       record { within = g .within; distinct = g .distinct; below = all-map (λ (a : ℕ) h. omega (arith, g .room)) (g .below) },
-      late-ready stmts falls frames i (length p) (wire L .nodes) late-tables (omega (arith, P .nodes-are)) (omega (arith, P .nodes-are, g .room)) (fits L),
+      closing-ready stmts falls frames i (length p) (wire L .nodes) closing-tables (omega (arith, P .nodes-are)) (omega (arith, P .nodes-are, g .room)) (fits L),
     )
 
-    pub after-late : (p q : List ℕ) (r s : ℕ) → Grown n p r → LateAdded stmts falls frames i p r q s → length q ≡ length p → s ≤ length q → Grown n q s
-    after-late p q r s g a e h =
-        grown-added n p q r s (lateEdges (facts 0 (wire L .nodes) noOpeners) i (fact .0)) (a (wire L .nodes) late-tables (fact .0) (fact .1)) e h g (late-ids (here .0) (fact .0) (here .1) (fact .1))
+    pub after-closing : (p q : List ℕ) (r s : ℕ) → Grown n p r → ClosingAdded stmts falls frames i p r q s → length q ≡ length p → s ≤ length q → Grown n q s
+    after-closing p q r s g a e h =
+        grown-added n p q r s (closingEdges (facts 0 (wire L .nodes) noOpeners) i (fact .0)) (a (wire L .nodes) closing-tables (fact .0) (fact .1)) e h g (closing-ids (here .0) (fact .0) (here .1) (fact .1))
 
     pub orphan-room : (q : List ℕ) (s : ℕ) → Grown n q s → ((i * 12 + 12 ≤ length stmts) × (i * 64 + 64 ≤ length args) × (d ≤ length ds)) × (SlotsCounted stmts i × SelectRoom args falls (take d ds) q s)
     orphan-room q s g = (
@@ -178,9 +178,9 @@ module _ {L : Listing} {stmts ks entries falls links frames ds : List ℕ} {line
         ⊎-elim (λ e. sym (own-jump stmts entries falls links frames lines i (omega arith) (λ z. omega arith) (omega arith)))
         (λ e. sym (own-jump stmts entries falls links frames lines i (omega arith) (λ z. omega arith) (omega arith))) (call-number (getD stmts (i * 12) 0) w)
 
-    call-late : callWord (getD stmts (i * 12) 0) ≡ true → lateEdges (facts 0 (wire L .nodes) noOpeners) i (fact .0) ≡ []
-    unfolding lateEdges late noMoves
-    call-late w =
+    call-closing : callWord (getD stmts (i * 12) 0) ≡ true → closingEdges (facts 0 (wire L .nodes) noOpeners) i (fact .0) ≡ []
+    unfolding closingEdges late noMoves
+    call-closing w =
         let s = stmt-at loopStack (wire L .nodes) i (here .0) (fact .0) (here .1) (fact .1) in
         let m : nodeMoves (fact .0 .stmt) ≡ noMoves = call-moves (fact .0 .stmt) (ap (λ (y : NodeStmt). callWord (stmtNumber y)) s ∙ ap callWord (sym (P .listed i (here .0) (here .1) .word)) ∙ w) in
         rw m
@@ -192,17 +192,17 @@ module _ {L : Listing} {stmts ks entries falls links frames ds : List ℕ} {line
     pub call-made : callWord (getD stmts (i * 12) 0) ≡ true → addAll [] (jumpEdges stmts falls links i) ≡ base (wire L) i
     unfolding factsOf
     call-made w =
-        let e : edgesBy (fact .0) ≡ jumpEdges stmts falls links i = rw (call-own w, call-late w, call-orphan w) (append-nil (jumpEdges stmts falls links i)) in
+        let e : edgesBy (fact .0) ≡ jumpEdges stmts falls links i = rw (call-own w, call-closing w, call-orphan w) (append-nil (jumpEdges stmts falls links i)) in
         ap (addAll []) (sym e ∙ edges-are (here .0) (fact .0) (here .1) (fact .1)) ∙ sym (lists-per-node L i (fact .0) (fact .1))
 
     -- ---- the list that they make
 
-    pub list-made : (part p q z : List ℕ) (r s t : ℕ) → Added part 0 p r (ownEdges stmts entries falls links frames lines i) → LateAdded stmts falls frames i p r q s
+    pub list-made : (part p q z : List ℕ) (r s t : ℕ) → Added part 0 p r (ownEdges stmts entries falls links frames lines i) → ClosingAdded stmts falls frames i p r q s
         → Added q s z t (orphanBodies stmts args falls (take d ds) i) → length z ≡ length part → t ≤ length z → ListIs (base (wire L) i) part z t
     unfolding factsOf
     list-made part p q z r s t a b c e h =
-        let l = lateEdges (facts 0 (wire L .nodes) noOpeners) i (fact .0) in
+        let l = closingEdges (facts 0 (wire L .nodes) noOpeners) i (fact .0) in
         let o = orphanBodies stmts args falls (take d ds) i in
-        let m = added-both part p z 0 r t (ownEdges stmts entries falls links frames lines i) (l ++ o) a (added-both p q z r s t l o (b (wire L .nodes) late-tables (fact .0) (fact .1)) c) in
+        let m = added-both part p z 0 r t (ownEdges stmts entries falls links frames lines i) (l ++ o) a (added-both p q z r s t l o (b (wire L .nodes) closing-tables (fact .0) (fact .1)) c) in
         let is : take t z ≡ base (wire L) i = m .list ∙ ap (addAll []) (edges-are (here .0) (fact .0) (here .1) (fact .1)) ∙ sym (lists-per-node L i (fact .0) (fact .1)) in
         record { count = sym (length-take-le t z h) ∙ ap length is; list = is; size = e; within = omega arith }

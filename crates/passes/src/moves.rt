@@ -36,6 +36,7 @@ pub fn loop_move(word: u16) -> FrameMove
     FrameMove::Stays
 }
 
+// What a word does to the DO stack.
 pub fn do_move(word: u16) -> FrameMove
     ensures { λ r. ⌜ moveOf r ≡ doMove word ⌝ }
 {

@@ -32,10 +32,10 @@ use Rattle.passes.specs.ListedNodes.{SimpleListed, StmtListed, Listed, key-same
 use Rattle.passes.specs.OpenerLaws.{some-at}
 use Rattle.passes.specs.GraphReads.{nodes-readable}
 use Rattle.passes.specs.TableReads.{fall-of}
-use Rattle.passes.specs.LateLaws.{number-below}
+use Rattle.passes.specs.ClosingLaws.{number-below}
 use Rattle.graph.specs.Questions.{refused, kept, frameSimple, frameBy, frameOf, frameList, ifNode, ifRoom, askFrame}
 use Rattle.frame_lists.specs.FrameAt.{forgetsWord, endsFrame, keepsShared, frameRead, shortTables, partOutside, fallOutside, frameOutside, frameIn, frameAt}
-use Rattle.frame_slices.specs.Told.{FrameTold}
+use Rattle.frame_slices.specs.FrameAnswer.{FrameAnswered}
 use Rattle.frame_lists.specs.FrameChecks.{answer-as}
 use Rattle.statements.specs.StatementAt.{noStatement, unlessRefused}
 use Rattle.questions.specs.PathAnswers.{stated, recorded-by}
@@ -48,8 +48,8 @@ abbrev byWord : (w a k : ℕ) → Bool → (ss hs ks : List ℕ) → List ℕ
 byWord w a k flag ss hs ks = pick (endsFrame w a k) [] (pick (keepsShared w flag) (kept hs ss) (pick (callWord w) ks ss))
 
 -- a FOR has the key of its name
-abbrev KeyTold : ℕ → Name → NodeStmt → Type 0
-KeyTold a v s = (u : Name) (t : Tier) → s ≡ simple (for u t) → eqb a (nameKey v) ≡ same u v
+abbrev KeyAnswered : ℕ → Name → NodeStmt → Type 0
+KeyAnswered a v s = (u : Name) (t : Tier) → s ≡ simple (for u t) → eqb a (nameKey v) ≡ same u v
 
 for-pick : (x y : Bool) (ss : List ℕ) → x ≡ y → pick x [] ss ≡ pick y [] ss
 for-pick x y ss e = ap (λ (b : Bool). pick b [] ss) e
@@ -59,7 +59,7 @@ block-word : (w : BlockWord) (a k : ℕ) (flag : Bool) (ss hs ks : List ℕ) →
 unfolding endsFrame forgetsWord keepsShared callWord stmtNumber stmtWord simpleWord
 block-word w a k flag ss hs ks = rw (block-never (λ n. endsFrame n a k) refl w, block-never (λ n. keepsShared n flag) refl w, block-never callWord refl w)
 
-by-word : (s : NodeStmt) (a : ℕ) (v : Name) (flag : Bool) (ss hs ks c : List ℕ) → KeyTold a v s → pick (callWord (stmtNumber s)) ks [] ≡ c
+by-word : (s : NodeStmt) (a : ℕ) (v : Name) (flag : Bool) (ss hs ks c : List ℕ) → KeyAnswered a v s → pick (callWord (stmtNumber s)) ks [] ≡ c
     → byWord (stmtNumber s) a (nameKey v) flag ss hs ks ≡ frameBy (stmtRole s) v flag ss hs c s
 unfolding endsFrame forgetsWord keepsShared callWord stmtNumber stmtWord simpleWord condWord wordIndex words first same bytes openingWords stmtRole simpleRole frameBy frameSimple onSimple onFor onNext
 by-word (simple (for u t)) a v flag ss hs ks c f e = for-pick (eqb a (nameKey v)) (same u v) ss (f u t refl)
@@ -80,9 +80,9 @@ by-word (cond if x y) a v flag ss hs ks c f e = refl
 by-word (cond ifelse x y) a v flag ss hs ks c f e = refl
 by-word (cond rcomp x y) a v flag ss hs ks c f e = refl
 
-key-told : (ts ks : List ℕ) (i : ℕ) (v : Name) (s : NodeStmt) → isName v ≡ true → StmtListed ts ks i s → KeyTold (getD ks (i * 64) 0) v s
+key-answered : (ts ks : List ℕ) (i : ℕ) (v : Name) (s : NodeStmt) → isName v ≡ true → StmtListed ts ks i s → KeyAnswered (getD ks (i * 64) 0) v s
 unfolding argsOf SimpleOk
-key-told ts ks i v s ok l u t q =
+key-answered ts ks i v s ok l u t q =
     let m : SimpleListed ts ks i (for u t) = subst (StmtListed ts ks i) q l in
     let z : i * 64 ≡ i * 64 + 0 = omega arith in
     ap (λ (j : ℕ). eqb (getD ks j 0) (nameKey v)) z ∙ ap (λ (k : ℕ). eqb k (nameKey v)) (m .args 0 (omega arith)) ∙ key-same v u ok (m .names) ∙ same-sym v u
@@ -133,7 +133,7 @@ module _ {L : Listing} {lines n : ℕ} {stmts args falls lists succ : List ℕ} 
         let l = g .listed i d e in
         let c : pick (callWord (stmtNumber (d .stmt))) (fallEntry falls i) [] ≡ continuation (wire L) i = ap (λ (w : ℕ). pick (callWord w) (fallEntry falls i) []) (sym (l .word)) ∙ g .continues i d e in
         rw (l .word, g .lists-are h a, g .lists-are i b)
-        (by-word (d .stmt) (getD args (i * 64) 0) v flag (successors L i) (successors L h) (fallEntry falls i) (continuation (wire L) i) (key-told stmts args i v (d .stmt) ok (l .stmt)) c
+        (by-word (d .stmt) (getD args (i * 64) 0) v flag (successors L i) (successors L h) (fallEntry falls i) (continuation (wire L) i) (key-answered stmts args i v (d .stmt) ok (l .stmt)) c
         ∙ node-list d e)
 
     read-is : frameRead stmts args falls lists succ h i (nameKey v) flag ≡ frameList L h i v flag
@@ -204,6 +204,6 @@ module _ (L : Listing) (s : Sizes) (T : Tables) (ok : Within L) (f : LongEnough 
       ∙ frame-is frame-tables h i v flag room
 
   -- so what `ask_frame` promises is the answer of the listing's graph
-  pub frame-told : (h i : ℕ) (v : Name) (flag : Bool) (out out′ : List ℕ) (r : Framed)
-      → FrameTold (frameAt (getD (T .counts) 0 0) (getD (T .counts) 1 0) (T .stmts) (T .args) (T .falls) (T .lists) (T .succ) h i v flag (length out)) out out′ r → FrameTold (askFrame L h i v flag (length out)) out out′ r
-  frame-told h i v flag out out′ r g = answer-as _ _ out out′ r (frame-built h i v flag (length out)) g
+  pub frame-answered : (h i : ℕ) (v : Name) (flag : Bool) (out out′ : List ℕ) (r : Framed)
+      → FrameAnswered (frameAt (getD (T .counts) 0 0) (getD (T .counts) 1 0) (T .stmts) (T .args) (T .falls) (T .lists) (T .succ) h i v flag (length out)) out out′ r → FrameAnswered (askFrame L h i v flag (length out)) out out′ r
+  frame-answered h i v flag out out′ r g = answer-as _ _ out out′ r (frame-built h i v flag (length out)) g

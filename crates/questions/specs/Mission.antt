@@ -28,7 +28,7 @@ use Rattle.adjacency.specs.ListsAt.{successorsAt, predecessorsAt, listReply, pa
 use Rattle.adjacency.specs.EntryAt.{entryAt}
 use Rattle.statements.specs.StatementAt.{nodeStatement, pathStatement}
 use Rattle.frame_lists.specs.FrameAt.{frameAt}
-use Rattle.frame_slices.specs.Told.{framedOf, sliceAfter, FrameTold}
+use Rattle.frame_slices.specs.FrameAnswer.{framedOf, sliceAfter, FrameAnswered}
 use Rattle.frame_slices.specs.declared.slices.Framed.{Framed}
 
 -- ---- demand 1
@@ -101,7 +101,7 @@ pub record Questions (L : Listing) (T : Tables) : Type 0 where
   -- whatever slice is lent, by what the routine promises: the answer is that of the graph for its room; an accepted build "zeroes its tables past the used
   -- parts, and so does the frame question its slice"; "a refused question writes nothing"
   pub slice : (header node : ℕ) (v : Name) (flag : Bool) (out out′ : List ℕ) (r : Framed)
-      → FrameTold (frameAt (getD (T .counts) 0 0) (getD (T .counts) 1 0) (T .stmts) (T .args) (T .falls) (T .lists) (T .succ) header node v flag (length out)) out out′ r
+      → FrameAnswered (frameAt (getD (T .counts) 0 0) (getD (T .counts) 1 0) (T .stmts) (T .args) (T .falls) (T .lists) (T .succ) header node v flag (length out)) out out′ r
       → (r ≡ framedOf (askFrame L header node v flag (length out))) × (out′ ≡ sliceAfter (askFrame L header node v flag (length out)) out)
 
 -- ---- the mission

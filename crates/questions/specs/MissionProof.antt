@@ -31,7 +31,7 @@ use Rattle.adjacency.specs.ListsAt.{listReply, partOf}
 use Rattle.questions.specs.Mission.{NodeWritten, Demand2, listOf, Questions, Mission, MissionMet}
 use Rattle.questions.specs.TableAnswers.{successors-are, predecessors-are, entry-is}
 use Rattle.questions.specs.StatementAnswers.{path-answer, node-answer}
-use Rattle.questions.specs.FrameBuilt.{frame-built, frame-told}
+use Rattle.questions.specs.FrameBuilt.{frame-built, frame-answered}
 
 part-list : (q : Reply (ℕ × ℕ)) (t : List ℕ) → partOf q t ≡ listOf (listReply q t)
 unfolding partOf listReply listOf
@@ -75,7 +75,7 @@ module _ (L : Listing) (s : Sizes) (T : Tables) (ok : Within L) (g : LongEnough 
         path = path-answer L s T ok g w;
         entry = entry-is L s T ok g w;
         frame = frame-built L s T ok g w;
-        slice = λ h i v flag out out′ r q. let t = frame-told L s T ok g w h i v flag out out′ r q in (t .told, t .slice);
+        slice = λ h i v flag out out′ r q. let t = frame-answered L s T ok g w h i v flag out out′ r q in (t .answered, t .slice);
       }
 
   demand3 : L .handlers ≡ false → Demand3 L (succPart (T .lists) (T .succ))

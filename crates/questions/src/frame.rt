@@ -3,7 +3,7 @@ use frame_lists::frame::ask_frame;
 use frame_slices::slices::Framed;
 ghost use lib.ListN.{length, getD};
 ghost use Rattle.frame_lists.specs.FrameAt.{frameAt};
-ghost use Rattle.frame_slices.specs.Told.{FrameTold};
+ghost use Rattle.frame_slices.specs.FrameAnswer.{FrameAnswered};
 
 // Header, node, name and flag: the list at the front of `out` and zeros behind, or the refusal and `out` as it was.
 pub fn frame_successors(
@@ -19,7 +19,7 @@ pub fn frame_successors(
     flag: bool,
     out: &mut [u16],
 ) -> Framed
-    ensures { λ r. ⌜ FrameTold (frameAt (getD (now (counts .entry)) 0 0) (getD (now (counts .entry)) 1 0) (now (stmts .entry)) (now (args .entry)) (now (falls .entry)) (now (lists .entry)) (now (succ .entry)) header node (now (name .entry)) flag (length (now (out .entry)))) (now (out .entry)) (now (out .exit)) r ⌝ }
+    ensures { λ r. ⌜ FrameAnswered (frameAt (getD (now (counts .entry)) 0 0) (getD (now (counts .entry)) 1 0) (now (stmts .entry)) (now (args .entry)) (now (falls .entry)) (now (lists .entry)) (now (succ .entry)) header node (now (name .entry)) flag (length (now (out .entry)))) (now (out .entry)) (now (out .exit)) r ⌝ }
 {
     ask_frame(
         counts,

@@ -30,7 +30,7 @@ unfoldable pub argEntries : Listing → List ℕ
 argEntries L = argRows (lineRecs (L .lines))
 
 -- the answer and every entry, of tables with nl, ns and na entries; b: what was read
-pub record Written (b : Answer) (nl ns na : ℕ) (c l t a : List ℕ) (r : Listed) : Type 0 where
+pub record RecordsWritten (b : Answer) (nl ns na : ℕ) (c l t a : List ℕ) (r : Listed) : Type 0 where
   pub answer : r ≡ listedOf (answerOf nl ns na b)
   pub counts : c ≡ tableOf countsOf (answerOf nl ns na b) 6
   pub lines : l ≡ tableOf lineEntries (answerOf nl ns na b) nl
@@ -62,7 +62,7 @@ module _ (text counts lines stmts args : List ℕ) (h : Bool) (nl ns : ℕ) (j :
   judged-small = let f = accepted-in-form text (j .tree) (j .reads) .0 .within in (omega (arith, f .lineCount, j .lineCount), omega (arith, f .stmtCount, j .stmtCount))
 
   -- a table is too short
-  refuses : (n p : ℕ) → fitted (length lines) (length stmts) (length args) (j .tree) ≡ refusal n p → Written (read text) (length lines) (length stmts) (length args) counts lines stmts args (listed.Refused n p)
+  refuses : (n p : ℕ) → fitted (length lines) (length stmts) (length args) (j .tree) ≡ refusal n p → RecordsWritten (read text) (length lines) (length stmts) (length args) counts lines stmts args (listed.Refused n p)
   unfolding answerOf tableOf listedOf
   refuses n p e =
       let a : answerOf (length lines) (length stmts) (length args) (read text) ≡ refusal n p = ap (answerOf (length lines) (length stmts) (length args)) (j .reads) ∙ e in
@@ -74,14 +74,14 @@ module _ (text counts lines stmts args : List ℕ) (h : Bool) (nl ns : ℕ) (j :
         args = j .zeroArgs ∙ sym (ap (λ (z : Answer). tableOf argEntries z (length args)) a);
       }
 
-  pub short-lines : length lines < nl → Written (read text) (length lines) (length stmts) (length args) counts lines stmts args (listed.Refused 21 nl)
+  pub short-lines : length lines < nl → RecordsWritten (read text) (length lines) (length stmts) (length args) counts lines stmts args (listed.Refused 21 nl)
   unfolding fitted
   short-lines b =
       let c = count (j .tree .lines) in
       let p : length lines < c = omega (arith, j .lineCount) in
       rw (j .lineCount) (refuses 21 c (rw (lt-leb c (length lines) p)))
 
-  pub short-stmts : nl ≤ length lines → length stmts / 12 < ns → Written (read text) (length lines) (length stmts) (length args) counts lines stmts args (listed.Refused 22 ns)
+  pub short-stmts : nl ≤ length lines → length stmts / 12 < ns → RecordsWritten (read text) (length lines) (length stmts) (length args) counts lines stmts args (listed.Refused 22 ns)
   unfolding fitted
   short-stmts b c =
       let k = count (j .tree .lines) in
@@ -90,7 +90,7 @@ module _ (text counts lines stmts args : List ℕ) (h : Bool) (nl ns : ℕ) (j :
       let q : length stmts / 12 < m = omega (arith, j .stmtCount) in
       rw (j .stmtCount) (refuses 22 m (rw (le-leb k (length lines) p, lt-leb m (length stmts / 12) q)))
 
-  pub short-args : nl ≤ length lines → ns ≤ length stmts / 12 → length args / 64 < ns → Written (read text) (length lines) (length stmts) (length args) counts lines stmts args (listed.Refused 22 ns)
+  pub short-args : nl ≤ length lines → ns ≤ length stmts / 12 → length args / 64 < ns → RecordsWritten (read text) (length lines) (length stmts) (length args) counts lines stmts args (listed.Refused 22 ns)
   unfolding fitted
   short-args b c d =
       let k = count (j .tree .lines) in
@@ -126,7 +126,7 @@ module _ (text counts lines stmts args : List ℕ) (h : Bool) (nl ns : ℕ) (j :
         ap (answerOf (length lines) (length stmts) (length args)) (j .reads) ∙ rw (le-leb k (length lines) p, le-leb m (length stmts / 12) q, le-leb m (length args / 64) s)
 
     pub judged-written : (x y z : ℕ) (k n t a : List ℕ) → x ≡ nl → y ≡ ns → z ≡ handlerNumber h → k ≡ x ∷ y ∷ z ∷ 0 ∷ 0 ∷ 0 ∷ [] → Filled text lines stmts args n t a
-        → Written (read text) (length lines) (length stmts) (length args) k n t a (listed.Accepted h nl ns)
+        → RecordsWritten (read text) (length lines) (length stmts) (length args) k n t a (listed.Accepted h nl ns)
     unfolding tableOf listedOf lineEntries stmtEntries argEntries padded countsOf
     judged-written x y z k n t a p q s i f =
         let g = f (j .tree) (j .reads) in
@@ -158,7 +158,7 @@ module _ (text c n t a : List ℕ) (nl ns na : ℕ) (zc : c ≡ 0 ∷ 0 ∷ 0 �
       let q = was-accepted (read text) h l s (sym e ∙ is) in
       record { tree = q .0; reads = q .1; handlers = q .2; lineCount = q .3; stmtCount = q .4; zeroCounts = zc; zeroLines = zeros nl n zn; zeroStmts = zeros ns t zt; zeroArgs = zeros na a za }
 
-  pub zeroed-refused : (m p : ℕ) → v ≡ listed.Refused m p → Written (read text) nl ns na c n t a (listed.Refused m p)
+  pub zeroed-refused : (m p : ℕ) → v ≡ listed.Refused m p → RecordsWritten (read text) nl ns na c n t a (listed.Refused m p)
   unfolding answerOf tableOf listedOf
   zeroed-refused m p e =
       let q : answerOf nl ns na (read text) ≡ refusal m p = ap (answerOf nl ns na) (was-refused (read text) m p (sym e ∙ is)) in
@@ -171,7 +171,7 @@ module _ (text c n t a : List ℕ) (nl ns na : ℕ) (zc : c ≡ 0 ∷ 0 ∷ 0 �
       }
 
   -- by the lengths of the zeroed tables
-  pub zeroed-written : (c′ n′ t′ a′ : List ℕ) (r : Listed) → Written (read text) (length n) (length t) (length a) c′ n′ t′ a′ r → Written (read text) nl ns na c′ n′ t′ a′ r
+  pub zeroed-written : (c′ n′ t′ a′ : List ℕ) (r : Listed) → RecordsWritten (read text) (length n) (length t) (length a) c′ n′ t′ a′ r → RecordsWritten (read text) nl ns na c′ n′ t′ a′ r
   zeroed-written c′ n′ t′ a′ r w =
-      subst (λ (k : ℕ). Written (read text) k ns na c′ n′ t′ a′ r) (long nl n zn)
-      (subst (λ (k : ℕ). Written (read text) (length n) k na c′ n′ t′ a′ r) (long ns t zt) (subst (λ (k : ℕ). Written (read text) (length n) (length t) k c′ n′ t′ a′ r) (long na a za) w))
+      subst (λ (k : ℕ). RecordsWritten (read text) k ns na c′ n′ t′ a′ r) (long nl n zn)
+      (subst (λ (k : ℕ). RecordsWritten (read text) (length n) k na c′ n′ t′ a′ r) (long ns t zt) (subst (λ (k : ℕ). RecordsWritten (read text) (length n) (length t) k c′ n′ t′ a′ r) (long na a za) w))

@@ -41,6 +41,7 @@ pub(crate) struct Walk {
     pub(crate) index: u16,
 }
 
+// The node of a holder, which is one more.
 fn node_of(holder: u16) -> usize
     requires { ⌜ 0 < holder ⌝ }
     ensures { λ r. ⌜ r ≡ holder - 1 ⌝ }
@@ -48,6 +49,7 @@ fn node_of(holder: u16) -> usize
     wide(holder) - 1
 }
 
+// The index of the next statement of the same holder.
 fn next_index(k: u16) -> u16
     requires { ⌜ k ≤ 4096 ⌝ }
     ensures { λ r. ⌜ r ≡ k + 1 ⌝ }
@@ -117,7 +119,8 @@ fn to_row(t: &mut [u16], s: State, w: Walk, n: u16) -> Walk
     w
 }
 
-fn entry_of(s: State, w: Walk, word: usize, end: usize, g: Given) -> Entry
+// What is known of a statement at its row.
+fn record_entry(s: State, w: Walk, word: usize, end: usize, g: Given) -> Entry
     requires { ⌜ (0 < s .lines) × (s .lines ≤ 1024) × (word ≤ 28) × (end ≤ 4096) × (g .count ≤ 64) ⌝ }
     ensures { λ r. ⌜ r ≡ entryOf s w word end g ⌝ }
 {
@@ -132,17 +135,19 @@ fn entry_of(s: State, w: Walk, word: usize, end: usize, g: Given) -> Entry
     }
 }
 
+// The record of a statement that holds none; the next one stands beside it.
 fn add_simple(stmts: &mut [u16], s: State, w: Walk, word: usize, given: Given) -> Walk
     requires { ⌜ AddReady (now stmts) s w word × (given .count ≤ 64) ⌝ }
     ensures { λ r. ⌜ (r ≡ addedWalk w) × (now (stmts .exit) ≡ addSimple (now (stmts .entry)) s w word given) ⌝ }
 {
-    append(stmts, s.stmts, entry_of(s, w, word, s.stmts + 1, given));
+    append(stmts, s.stmts, record_entry(s, w, word, s.stmts + 1, given));
     Walk {
         holder: w.holder,
         index: next_index(w.index),
     }
 }
 
+// The record of an IF, whose branches are not read yet; the next statement stands inside it.
 fn add_cond(stmts: &mut [u16], s: State, w: Walk, k: usize) -> Walk
     requires { ⌜ AddReady (now stmts) s w (k + 2) ⌝ }
     ensures { λ r. ⌜ (r ≡ insideWalk s) × (now (stmts .exit) ≡ addCond (now (stmts .entry)) s w k) ⌝ }
@@ -151,7 +156,7 @@ fn add_cond(stmts: &mut [u16], s: State, w: Walk, k: usize) -> Walk
         count: 0,
         detail: 0,
     };
-    append(stmts, s.stmts, entry_of(s, w, k + 2, 0, none));
+    append(stmts, s.stmts, record_entry(s, w, k + 2, 0, none));
     Walk {
         holder: narrow(s.stmts + 1),
         index: 0,

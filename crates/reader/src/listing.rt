@@ -11,7 +11,7 @@ ghost use mathlib.Core.Path.{_≡_};
 ghost use lib.ListN.{length};
 ghost use Rattle.listings.specs.Read.{read};
 ghost use Rattle.listings.specs.Records.{handlerNumber};
-ghost use Rattle.reader.specs.Listed.{Judged, Written};
+ghost use Rattle.reader.specs.Listed.{Judged, RecordsWritten};
 
 // handlers: whether ON KEY, ON ERROR or RESUME occurs; how many lines and statements. Or document 01's number and place.
 pub enum Listed {
@@ -26,6 +26,7 @@ pub enum Listed {
     },
 }
 
+// The handlers as the counts have them.
 fn handler_number(handlers: bool) -> u32
     ensures { λ r. ⌜ r ≡ handlerNumber handlers ⌝ }
 {
@@ -47,7 +48,7 @@ fn write_listing(
     ns: usize,
 ) -> Listed
     requires { ⌜ Judged (now text) (now counts) (now lines) (now stmts) (now args) handlers nl ns ⌝ }
-    ensures { λ r. ⌜ Written (read (now (text .entry))) (length (now (lines .entry))) (length (now (stmts .entry))) (length (now (args .entry))) (now (counts .exit)) (now (lines .exit)) (now (stmts .exit)) (now (args .exit)) r ⌝ }
+    ensures { λ r. ⌜ RecordsWritten (read (now (text .entry))) (length (now (lines .entry))) (length (now (stmts .entry))) (length (now (args .entry))) (now (counts .exit)) (now (lines .exit)) (now (stmts .exit)) (now (args .exit)) r ⌝ }
 {
     if lines.len() < nl {
         return Listed::Refused {
@@ -84,7 +85,7 @@ pub fn read_listing(
     stmts: &mut [u16],
     args: &mut [u64],
 ) -> Listed
-    ensures { λ r. ⌜ Written (read (now (text .entry))) (length (now (lines .entry))) (length (now (stmts .entry))) (length (now (args .entry))) (now (counts .exit)) (now (lines .exit)) (now (stmts .exit)) (now (args .exit)) r ⌝ }
+    ensures { λ r. ⌜ RecordsWritten (read (now (text .entry))) (length (now (lines .entry))) (length (now (stmts .entry))) (length (now (args .entry))) (now (counts .exit)) (now (lines .exit)) (now (stmts .exit)) (now (args .exit)) r ⌝ }
 {
     put_counts(counts, 0, 0, 0);
     zero16(lines);

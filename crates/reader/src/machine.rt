@@ -34,6 +34,7 @@ pub(crate) enum Step {
     Refused(u8),
 }
 
+// Before the first row.
 pub(crate) fn start_state() -> State
     ensures { λ r. ⌜ r ≡ asState start ⌝ }
 {
@@ -102,6 +103,7 @@ fn one_more(s: State, position: u8, word: u64) -> State
     }
 }
 
+// The module's row comes first, and once.
 fn step_module(s: State, h: bool) -> Step
     ensures { λ r. ⌜ r ≡ stepModule s h ⌝ }
 {
@@ -121,12 +123,14 @@ fn step_module(s: State, h: bool) -> Step
     Step::Refused(2)
 }
 
+// Wide enough for the number after 65535.
 fn wide_number(n: u16) -> u32
     ensures { λ r. ⌜ r ≡ n ⌝ }
 {
     n as u32
 }
 
+// A line above the last one, or 4; line 1,025 is 5. `last` is one more than the last number.
 fn step_line(s: State, n: u16) -> Step
     ensures { λ r. ⌜ r ≡ stepLine s n ⌝ }
 {
@@ -153,6 +157,7 @@ fn step_line(s: State, n: u16) -> Step
     Step::Refused(2)
 }
 
+// A statement that holds none: 6, 7 and 8 are tested in this order.
 fn step_simple(s: State, count: usize) -> Step
     ensures { λ r. ⌜ r ≡ stepSimple s count ⌝ }
 {
@@ -171,12 +176,14 @@ fn step_simple(s: State, count: usize) -> Step
     Step::Refused(2)
 }
 
+// As wide as the packed shape of the open IFs.
 fn wide_word(k: usize) -> u64
     ensures { λ r. ⌜ r ≡ k ⌝ }
 {
     k as u64
 }
 
+// An IF opens; its branches are due next.
 fn step_cond(s: State, k: usize) -> Step
     ensures { λ r. ⌜ r ≡ stepCond s k ⌝ }
 {
@@ -218,6 +225,7 @@ fn is_complete(word: u64, branches: u64) -> bool
     false
 }
 
+// A branch opens: the IF goes to the packed shape until it ends.
 fn step_stmts(s: State) -> Step
     requires { ⌜ (s .open_conds < 2251799813685248) × (s .word ≤ 2) × (s .branches ≤ 2) × (s .depth ≤ 17) ⌝ }
     ensures { λ r. ⌜ r ≡ stepStmts s ⌝ }
@@ -241,6 +249,7 @@ fn step_stmts(s: State) -> Step
     Step::Refused(2)
 }
 
+// A branch that only names a line.
 fn step_to(s: State) -> Step
     requires { ⌜ s .branches ≤ 2 ⌝ }
     ensures { λ r. ⌜ r ≡ stepTo s ⌝ }
@@ -288,6 +297,7 @@ fn end_of_stmts(s: State) -> Step
     })
 }
 
+// A `)`: of statements, of an IF with all its branches, or of the module.
 fn step_end(s: State) -> Step
     ensures { λ r. ⌜ r ≡ stepEnd s ⌝ }
 {

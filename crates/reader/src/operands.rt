@@ -23,18 +23,20 @@ pub(crate) struct Given {
     pub(crate) detail: u16,
 }
 
-fn wide(x: u16) -> u64
+// As wide as an argument.
+fn wide_argument(x: u16) -> u64
     ensures { λ r. ⌜ r ≡ x ⌝ }
 {
     x as u64
 }
 
+// The value of a word that is known to be a number.
 fn number_answer(p: ParsedNumber) -> u64
     ensures { λ r. ⌜ r ≡ numberAnswer p ⌝ }
 {
     match p {
         ParsedNumber::Refused(_) => 0,
-        ParsedNumber::Value(v) => wide(v),
+        ParsedNumber::Value(v) => wide_argument(v),
     }
 }
 
@@ -48,7 +50,8 @@ fn key_answer(k: NameKey) -> u64
     }
 }
 
-fn entry_of(slots: bool, w: &[u8]) -> u64
+// An argument as it is stored: a slot's key or a number.
+fn operand_of(slots: bool, w: &[u8]) -> u64
     ensures { λ r. ⌜ r ≡ entryBy slots (now (w .entry)) ⌝ }
 {
     if slots {
@@ -57,6 +60,7 @@ fn entry_of(slots: bool, w: &[u8]) -> u64
     number_answer(number(w))
 }
 
+// A tier as it is stored; `static` is 0.
 fn tier_of(w: &[u8]) -> u16
     ensures { λ r. ⌜ r ≡ tierEntry (now (w .entry)) ⌝ }
 {
@@ -69,6 +73,7 @@ fn tier_of(w: &[u8]) -> u16
     0
 }
 
+// A mark as it is stored; `plain` is 0.
 fn mark_of(w: &[u8]) -> u16
     ensures { λ r. ⌜ r ≡ markEntry (now (w .entry)) ⌝ }
 {
@@ -88,7 +93,7 @@ fn put_words(s: &[u8], slots: bool, part: &mut [u64]) -> Given
     loop {
         let e = find(&s[at..], 32);
         let to = at + e;
-        part[n] = entry_of(slots, &s[at..to]);
+        part[n] = operand_of(slots, &s[at..to]);
         n += 1;
         if to == s.len() {
             return Given {
@@ -106,7 +111,7 @@ fn put_for(s: &[u8], part: &mut [u64]) -> Given
     ensures { λ r. ⌜ Put (map (entryBy true) (take 1 (split 32 (now (s .entry))))) (tierEntry (join 32 (drop 1 (split 32 (now (s .entry)))))) (now (part .entry)) (now (part .exit)) r ⌝ }
 {
     let e = find(s, 32);
-    part[0] = entry_of(true, &s[0..e]);
+    part[0] = operand_of(true, &s[0..e]);
     if e == s.len() {
         return Given {
             count: 1,

@@ -48,6 +48,7 @@ pub(crate) enum Row {
     Cond(usize),
 }
 
+// A statement's row, or the refusal of its arguments.
 fn simple_row(k: usize, t: ArgCheck) -> Row
     ensures { λ r. ⌜ r ≡ simpleBy k t ⌝ }
 {
@@ -76,6 +77,7 @@ fn refused_row(number: u8, due: u8) -> Row
     Row::Refused { number, due }
 }
 
+// A `to` row by its number.
 fn to_row(n: ParsedNumber) -> Row
     ensures { λ r. ⌜ r ≡ toByNumber n ⌝ }
 {
@@ -85,6 +87,7 @@ fn to_row(n: ParsedNumber) -> Row
     }
 }
 
+// A line's row by its number.
 fn line_row(n: ParsedNumber) -> Row
     ensures { λ r. ⌜ r ≡ lineByNumber n ⌝ }
 {
@@ -269,6 +272,7 @@ fn accepted_form(s: &[u8], closed: bool) -> Row
     accepted_args(k, closed, &s[from..])
 }
 
+// What a row of an accepted text says; nothing is judged again.
 pub(crate) fn accepted_row(s: &[u8]) -> Row
     requires { ⌜ WellFormed (asRow (contentOf (rowOf (now s)))) ⌝ }
     ensures { λ r. ⌜ r ≡ uncounted (asRow (contentOf (rowOf (now (s .entry))))) ⌝ }

@@ -36,7 +36,8 @@ pub(crate) fn put_counts(counts: &mut [u32; 6], lines: u32, stmts: u32, handlers
     *counts = [lines, stmts, handlers, 0, 0, 0];
 }
 
-fn put_row(part: &mut [u16], e: Entry)
+// All twelve entries, so that nothing older is left among them.
+fn put_record(part: &mut [u16], e: Entry)
     requires { ⌜ 12 ≤ length (now part) ⌝ }
     ensures { λ _. ⌜ now (part .exit) ≡ entryRow e ++ drop 12 (now (part .entry)) ⌝ }
 {
@@ -60,9 +61,10 @@ pub(crate) fn append(t: &mut [u16], n: usize, e: Entry)
     ensures { λ _. ⌜ now (t .exit) ≡ appendRow (now (t .entry)) n e ⌝ }
 {
     let at = n * STMT_ENTRIES;
-    put_row(&mut t[at..], e);
+    put_record(&mut t[at..], e);
 }
 
+// Column c of record i.
 pub(crate) fn store(t: &mut [u16], i: usize, c: usize, v: u16)
     requires { ⌜ (i * 12 + 12 ≤ length (now t)) × (i ≤ 4096) × (c < 12) ⌝ }
     ensures { λ _. ⌜ now (t .exit) ≡ set (now (t .entry)) (i * 12 + c) v ⌝ }
@@ -70,6 +72,7 @@ pub(crate) fn store(t: &mut [u16], i: usize, c: usize, v: u16)
     t[i * STMT_ENTRIES + c] = v;
 }
 
+// Column c of record i, read.
 pub(crate) fn fetch(t: &[u16], i: usize, c: usize) -> u16
     requires { ⌜ (i * 12 + 12 ≤ length (now t)) × (i ≤ 4096) × (c < 12) ⌝ }
     ensures { λ r. ⌜ r ≡ getD (now (t .entry)) (i * 12 + c) 0 ⌝ }
@@ -77,6 +80,7 @@ pub(crate) fn fetch(t: &[u16], i: usize, c: usize) -> u16
     t[i * STMT_ENTRIES + c]
 }
 
+// An index as an entry.
 pub(crate) fn narrow(x: usize) -> u16
     requires { ⌜ x < 65536 ⌝ }
     ensures { λ r. ⌜ r ≡ x ⌝ }
@@ -84,6 +88,7 @@ pub(crate) fn narrow(x: usize) -> u16
     x as u16
 }
 
+// An index as a used count.
 pub(crate) fn narrow32(x: usize) -> u32
     requires { ⌜ x < 65536 ⌝ }
     ensures { λ r. ⌜ r ≡ x ⌝ }

@@ -22,7 +22,7 @@ pub record Unchanged (at : ℕ) (lists lists′ succ succ′ : List ℕ) (r : �
   pub lists-same : lists′ ≡ lists
   pub succ-same : succ′ ≡ succ
 
-pub record AppendTold (node at : ℕ) (l lists lists′ succ succ′ : List ℕ) (r : ℕ) : Type 0 where
+pub record AppendAnswered (node at : ℕ) (l lists lists′ succ succ′ : List ℕ) (r : ℕ) : Type 0 where
   pub fitting : appendFits node at (length l) lists succ ≡ true → Appended node at (length l) l lists lists′ succ succ′ r
   pub other : appendFits node at (length l) lists succ ≡ false → Unchanged at lists lists′ succ succ′ r
 
@@ -59,17 +59,17 @@ module _ (node at count : ℕ) (lists succ : List ℕ) where
     append-by h = rw (le-leb (node * 4 + 4) (length lists) f, le-leb (at + count) (length succ) h)
 
 module _ {node at : ℕ} {l lists lists′ succ succ′ : List ℕ} {r : ℕ} where
-  pub told-fits : (x : Bool) → x ≡ appendFits node at (length l) lists succ → x ≡ true → Appended node at (length l) (take (length l) l) lists lists′ succ succ′ r → AppendTold node at l lists lists′ succ succ′ r
-  told-fits x e t a =
+  pub answered-fits : (x : Bool) → x ≡ appendFits node at (length l) lists succ → x ≡ true → Appended node at (length l) (take (length l) l) lists lists′ succ succ′ r → AppendAnswered node at l lists lists′ succ succ′ r
+  answered-fits x e t a =
       let q = take-all (length l) l (omega arith) in
       record { fitting = λ h. rw q at a; other = λ h. no (sym t ∙ e ∙ h) }
 
-pub told-other : (node at : ℕ) (l lists succ : List ℕ) (x : Bool) → x ≡ appendFits node at (length l) lists succ → x ≡ false → AppendTold node at l lists lists succ succ at
-told-other node at l lists succ x e f = record { fitting = λ h. no (sym h ∙ sym e ∙ f); other = λ h. record { answer = refl; lists-same = refl; succ-same = refl } }
+pub answered-other : (node at : ℕ) (l lists succ : List ℕ) (x : Bool) → x ≡ appendFits node at (length l) lists succ → x ≡ false → AppendAnswered node at l lists lists succ succ at
+answered-other node at l lists succ x e f = record { fitting = λ h. no (sym h ∙ sym e ∙ f); other = λ h. record { answer = refl; lists-same = refl; succ-same = refl } }
 
 -- ---- where it fits
 
-pub told-appended : {node at : ℕ} {l lists lists′ succ succ′ : List ℕ} {r : ℕ} (count : ℕ) → count ≡ length l → (count ≤ length l) × (at + count ≤ length succ) × (at + count < 65536) × (node * 4 + 4 ≤ length lists)
-    → AppendTold node at l lists lists′ succ succ′ r → Appended node at count (take count l) lists lists′ succ succ′ r
-told-appended {node} {at} {l} {lists} {succ = succ} count e f t =
+pub answered-appended : {node at : ℕ} {l lists lists′ succ succ′ : List ℕ} {r : ℕ} (count : ℕ) → count ≡ length l → (count ≤ length l) × (at + count ≤ length succ) × (at + count < 65536) × (node * 4 + 4 ≤ length lists)
+    → AppendAnswered node at l lists lists′ succ succ′ r → Appended node at count (take count l) lists lists′ succ succ′ r
+answered-appended {node} {at} {l} {lists} {succ = succ} count e f t =
     appended-as (sym e) (sym (take-all count l (omega arith))) (t .fitting (fits-append node at (length l) lists succ (f .3) (omega (arith, f .1, e)) (omega (arith, f .2, e))))

@@ -16,7 +16,7 @@ use Rattle.tables.specs.Columns.{succPart, callWord, wordOf}
 use Rattle.tables.specs.Readable.{everyBelow, idsBelow, listsReadable, ListsRead, both-so, every-at, every-all, lists-read, read-lists}
 use Rattle.passes.specs.Sets.{membersOf}
 use Rattle.passes.specs.ReturnSets.{setOf}
-use Rattle.passes.specs.Clearing.{SetsCleared, ClearTold}
+use Rattle.passes.specs.Clearing.{SetsCleared, ClearAnswered}
 use Rattle.passes.specs.EdgeTable.{joinedLists, listsTo, length-lists, listRows, ListsStored, columns-past}
 use Rattle.passes.specs.Counting.{sumTo}
 use Rattle.passes.specs.Regions.{targetRow}
@@ -68,9 +68,9 @@ pub record NothingStored (counts args lists succ pred counts′ args′ lists′
   pub succ-are : succ′ ≡ succ
   pub pred-are : pred′ ≡ pred
 
-abbrev pub TablesTold : Stored → (stmts args : List ℕ) (n rows : ℕ) (counts lists : List ℕ) (targets : ℕ) (succ pred : List ℕ) (ls : List (List ℕ)) (counts′ args′ lists′ succ′ pred′ : List ℕ) → Type 0
-TablesTold (stored.Written edges) stmts args n rows counts lists targets succ pred ls counts′ args′ lists′ succ′ pred′ = GraphStored stmts args n rows counts lists targets succ pred ls counts′ args′ lists′ succ′ pred′
-TablesTold (stored.Refused number place) stmts args n rows counts lists targets succ pred ls counts′ args′ lists′ succ′ pred′ = NothingStored counts args lists succ pred counts′ args′ lists′ succ′ pred′
+abbrev pub TablesAnswered : Stored → (stmts args : List ℕ) (n rows : ℕ) (counts lists : List ℕ) (targets : ℕ) (succ pred : List ℕ) (ls : List (List ℕ)) (counts′ args′ lists′ succ′ pred′ : List ℕ) → Type 0
+TablesAnswered (stored.Written edges) stmts args n rows counts lists targets succ pred ls counts′ args′ lists′ succ′ pred′ = GraphStored stmts args n rows counts lists targets succ pred ls counts′ args′ lists′ succ′ pred′
+TablesAnswered (stored.Refused number place) stmts args n rows counts lists targets succ pred ls counts′ args′ lists′ succ′ pred′ = NothingStored counts args lists succ pred counts′ args′ lists′ succ′ pred′
 
 -- the lists and their predecessors, total edges in all
 pub record EdgesStored (n : ℕ) (lists lists′ succ succ′ pred pred′ : List ℕ) (ls : List (List ℕ)) (total : ℕ) : Type 0 where
@@ -79,14 +79,14 @@ pub record EdgesStored (n : ℕ) (lists lists′ succ succ′ pred pred′ : Lis
   pub succ-are : succ′ ≡ joinedLists ls ++ drop (length (joinedLists ls)) succ
   pub pred-are : pred′ ≡ joinedLists (sourcesOf ls) ++ drop (length (joinedLists ls)) pred
 
-pub record StoredTold (readable : Bool) (stmts args : List ℕ) (n rows : ℕ) (counts lists : List ℕ) (targets : ℕ) (succ pred : List ℕ) (ls : List (List ℕ)) (counts′ args′ lists′ succ′ pred′ : List ℕ) (r : Stored) : Type 0 where
+pub record StoredAnswered (readable : Bool) (stmts args : List ℕ) (n rows : ℕ) (counts lists : List ℕ) (targets : ℕ) (succ pred : List ℕ) (ls : List (List ℕ)) (counts′ args′ lists′ succ′ pred′ : List ℕ) (r : Stored) : Type 0 where
   pub answer : r ≡ storedOf readable (edgesFit (length (joinedLists ls)) (length succ) (length pred)) (length (joinedLists ls))
-  pub tables : TablesTold r stmts args n rows counts lists targets succ pred ls counts′ args′ lists′ succ′ pred′
+  pub tables : TablesAnswered r stmts args n rows counts lists targets succ pred ls counts′ args′ lists′ succ′ pred′
 
 -- on all tables
-abbrev pub GraphTold : (handlers : Bool) (stmts args falls links : List ℕ) (n rows : ℕ) (counts lists scratch returns : List ℕ) (targets : ℕ) (succ pred counts′ args′ lists′ succ′ pred′ : List ℕ) → Stored → Type 0
-GraphTold handlers stmts args falls links n rows counts lists scratch returns targets succ pred counts′ args′ lists′ succ′ pred′ r =
-    StoredTold (graphReadable handlers stmts args falls links n rows lists scratch returns targets) stmts args n rows counts lists targets succ pred (finalLists handlers stmts args falls links n lists scratch returns targets) counts′ args′ lists′ succ′ pred′ r
+abbrev pub GraphAnswered : (handlers : Bool) (stmts args falls links : List ℕ) (n rows : ℕ) (counts lists scratch returns : List ℕ) (targets : ℕ) (succ pred counts′ args′ lists′ succ′ pred′ : List ℕ) → Stored → Type 0
+GraphAnswered handlers stmts args falls links n rows counts lists scratch returns targets succ pred counts′ args′ lists′ succ′ pred′ r =
+    StoredAnswered (graphReadable handlers stmts args falls links n rows lists scratch returns targets) stmts args n rows counts lists targets succ pred (finalLists handlers stmts args falls links n lists scratch returns targets) counts′ args′ lists′ succ′ pred′ r
 
 -- ---- what the test says
 
@@ -257,7 +257,7 @@ module _ {handlers : Bool} {stmts args falls links : List ℕ} {n : ℕ} {lists 
       total-few = omega (arith, done .used, f .few)
 
     -- the whole
-    pub graph-stored : {rows total : ℕ} {counts counts′ args′ lists′ succ′ pred′ : List ℕ} → EdgesStored n lists lists′ succ succ′ pred pred′ ls total → ClearTold stmts n args args′
+    pub graph-stored : {rows total : ℕ} {counts counts′ args′ lists′ succ′ pred′ : List ℕ} → EdgesStored n lists lists′ succ succ′ pred pred′ ls total → ClearAnswered stmts n args args′
         → counts′ ≡ set (set (set counts 3 total) 4 targets) 5 rows → GraphStored stmts args n rows counts lists targets succ pred ls counts′ args′ lists′ succ′ pred′
     graph-stored {rows} {total} {counts} e c k =
         record {
@@ -318,21 +318,21 @@ module _ (edges s p : ℕ) (ls : List (List ℕ)) (e : edges ≡ length (joinedL
   told : (y : Bool) → x ≡ y → storedOf true y edges ≡ storedOf true (edgesFit (length (joinedLists ls)) s p) (length (joinedLists ls))
   told y z = rw (← e, ← t, z)
 
-  pub told-fits : x ≡ true → stored.Written edges ≡ storedOf true (edgesFit (length (joinedLists ls)) s p) (length (joinedLists ls))
+  pub answered-fits : x ≡ true → stored.Written edges ≡ storedOf true (edgesFit (length (joinedLists ls)) s p) (length (joinedLists ls))
   unfolding storedOf
-  told-fits y = told true y
+  answered-fits y = told true y
 
-  pub told-many : x ≡ false → stored.Refused 23 edges ≡ storedOf true (edgesFit (length (joinedLists ls)) s p) (length (joinedLists ls))
+  pub answered-many : x ≡ false → stored.Refused 23 edges ≡ storedOf true (edgesFit (length (joinedLists ls)) s p) (length (joinedLists ls))
   unfolding storedOf
-  told-many y = told false y
+  answered-many y = told false y
 
-pub told-outside : (fits : Bool) (edges : ℕ) → stored.Refused 25 0 ≡ storedOf false fits edges
+pub answered-outside : (fits : Bool) (edges : ℕ) → stored.Refused 25 0 ≡ storedOf false fits edges
 unfolding storedOf
-told-outside fits edges = refl
+answered-outside fits edges = refl
 
 pub nothing : (counts args lists succ pred : List ℕ) → NothingStored counts args lists succ pred counts args lists succ pred
 nothing counts args lists succ pred = record { counts-are = refl; args-are = refl; lists-are = refl; succ-are = refl; pred-are = refl }
 
-pub told-as : {a b : Bool} {stmts args : List ℕ} {n rows : ℕ} {counts lists : List ℕ} {targets : ℕ} {succ pred : List ℕ} {ls : List (List ℕ)} {counts′ args′ lists′ succ′ pred′ : List ℕ} {r : Stored} → a ≡ b
-    → StoredTold a stmts args n rows counts lists targets succ pred ls counts′ args′ lists′ succ′ pred′ r → StoredTold b stmts args n rows counts lists targets succ pred ls counts′ args′ lists′ succ′ pred′ r
-told-as e t = rw (← e) t
+pub answered-as : {a b : Bool} {stmts args : List ℕ} {n rows : ℕ} {counts lists : List ℕ} {targets : ℕ} {succ pred : List ℕ} {ls : List (List ℕ)} {counts′ args′ lists′ succ′ pred′ : List ℕ} {r : Stored} → a ≡ b
+    → StoredAnswered a stmts args n rows counts lists targets succ pred ls counts′ args′ lists′ succ′ pred′ r → StoredAnswered b stmts args n rows counts lists targets succ pred ls counts′ args′ lists′ succ′ pred′ r
+answered-as e t = rw (← e) t

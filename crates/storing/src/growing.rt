@@ -16,7 +16,7 @@ ghost use Rattle.passes.specs.NodeList.{jumpEdges};
 ghost use Rattle.storing.specs.AddWithin.{AddedIn, jumpReadable, jumpRead};
 
 // Adds the node t - 1 once behind the first n entries, where t is not 0 and the part is not full; answers how many there are then.
-pub fn add_node(part: &mut [u16], n: usize, t: u16) -> usize
+pub fn add_edge(part: &mut [u16], n: usize, t: u16) -> usize
     ensures { λ r. ⌜ AddedIn (now (part .entry)) n (now (part .exit)) r (decode t) ⌝ }
 {
     if t == 0 {
@@ -40,7 +40,7 @@ pub fn add_targets(row: &[u16], part: &mut [u16], n: usize) -> usize
     let mut r = n;
     let mut k: usize = 0;
     while k < row.len() {
-        r = add_node(part, r, row[k]);
+        r = add_edge(part, r, row[k]);
         k += 1;
     }
     r
@@ -79,7 +79,7 @@ pub(crate) fn put_jump(
     if stmts[i * STMT_ENTRIES] < ONGOTO {
         return r;
     }
-    add_node(part, r, falls[i * FALL_ENTRIES])
+    add_edge(part, r, falls[i * FALL_ENTRIES])
 }
 
 // The same on any tables: nothing where node i cannot be read. A RETURN has no target here.

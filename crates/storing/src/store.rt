@@ -9,7 +9,7 @@ ghost use Prim.Native.Nat.{_+_, _*_, _<_, _≤_};
 ghost use lib.ListN.{length, take, drop};
 ghost use Rattle.passes.specs.EdgeTable.{Appended};
 ghost use Rattle.tables.specs.Columns.{succStart, succCount};
-ghost use Rattle.storing.specs.Appending.{appendFits, AppendTold};
+ghost use Rattle.storing.specs.Appending.{appendFits, AppendAnswered};
 
 // The first count entries of a list go to the front of the part; what stands behind them stays.
 pub(crate) fn store_list(part: &mut [u16], list: &[u16], count: usize)
@@ -65,7 +65,7 @@ pub fn append_list(
     at: usize,
     list: &[u16],
 ) -> usize
-    ensures { λ r. ⌜ AppendTold node at (now (list .entry)) (now (lists .entry)) (now (lists .exit)) (now (succ .entry)) (now (succ .exit)) r ⌝ }
+    ensures { λ r. ⌜ AppendAnswered node at (now (list .entry)) (now (lists .entry)) (now (lists .exit)) (now (succ .entry)) (now (succ .exit)) r ⌝ }
 {
     if append_fits(node, at, list.len(), lists, succ) {
         return put_list(lists, succ, node, at, list, list.len());

@@ -10,7 +10,7 @@ ghost use mathlib.Core.Path.{_≡_};
 ghost use mathlib.Core.Bool.{true};
 ghost use Prim.Native.Nat.{_≤_, _<_};
 ghost use lib.ListN.{length, set};
-ghost use Rattle.storing.specs.StoredGraph.{finalLists, GraphRead, GraphReady, EdgesStored, GraphStored, StoredTold, GraphTold};
+ghost use Rattle.storing.specs.StoredGraph.{finalLists, GraphRead, GraphReady, EdgesStored, GraphStored, StoredAnswered, GraphAnswered};
 
 // How many edges the graph has, which is in the tables; or document 01's number and place.
 pub enum Stored {
@@ -132,7 +132,7 @@ fn write_fitting(
     buffer: &mut [u16],
 ) -> Stored
     requires { ⌜ (rows ≤ 1024) × GraphRead handlers (now stmts) (now args) (now falls) (now links) n (now lists) (now scratch) (now returns) targets × (length (now buffer) ≡ 4096) ⌝ }
-    ensures { λ r. ⌜ StoredTold true (now (stmts .entry)) (now (args .entry)) n rows (now (counts .entry)) (now (lists .entry)) targets (now (succ .entry)) (now (pred .entry)) (finalLists handlers (now (stmts .entry)) (now (args .entry)) (now (falls .entry)) (now (links .entry)) n (now (lists .entry)) (now (scratch .entry)) (now (returns .entry)) targets) (now (counts .exit)) (now (args .exit)) (now (lists .exit)) (now (succ .exit)) (now (pred .exit)) r ⌝ }
+    ensures { λ r. ⌜ StoredAnswered true (now (stmts .entry)) (now (args .entry)) n rows (now (counts .entry)) (now (lists .entry)) targets (now (succ .entry)) (now (pred .entry)) (finalLists handlers (now (stmts .entry)) (now (args .entry)) (now (falls .entry)) (now (links .entry)) n (now (lists .entry)) (now (scratch .entry)) (now (returns .entry)) targets) (now (counts .exit)) (now (args .exit)) (now (lists .exit)) (now (succ .exit)) (now (pred .exit)) r ⌝ }
 {
     let edges = count_lists(
         handlers,
@@ -190,7 +190,7 @@ pub fn write_graph(
     succ: &mut [u16],
     pred: &mut [u16],
 ) -> Stored
-    ensures { λ r. ⌜ GraphTold handlers (now (stmts .entry)) (now (args .entry)) (now (falls .entry)) (now (links .entry)) n rows (now (counts .entry)) (now (lists .entry)) (now (scratch .entry)) (now (returns .entry)) targets (now (succ .entry)) (now (pred .entry)) (now (counts .exit)) (now (args .exit)) (now (lists .exit)) (now (succ .exit)) (now (pred .exit)) r ⌝ }
+    ensures { λ r. ⌜ GraphAnswered handlers (now (stmts .entry)) (now (args .entry)) (now (falls .entry)) (now (links .entry)) n rows (now (counts .entry)) (now (lists .entry)) (now (scratch .entry)) (now (returns .entry)) targets (now (succ .entry)) (now (pred .entry)) (now (counts .exit)) (now (args .exit)) (now (lists .exit)) (now (succ .exit)) (now (pred .exit)) r ⌝ }
 {
     let mut buffer = no_list();
     if graph_readable(

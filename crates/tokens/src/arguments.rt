@@ -49,6 +49,7 @@ pub fn are_words(s: &[u8]) -> bool
     !fresh
 }
 
+// 0 for one of the three tiers; any other word is no form.
 fn tier_refusal(w: &[u8]) -> u8
     ensures { λ r. ⌜ r ≡ refusalOf (parseTier (now (w .entry))) ⌝ }
 {
@@ -64,6 +65,7 @@ fn tier_refusal(w: &[u8]) -> u8
     2
 }
 
+// 0 for one of the two marks; any other word is no form.
 fn mark_refusal(w: &[u8]) -> u8
     ensures { λ r. ⌜ r ≡ refusalOf (parseMark (now (w .entry))) ⌝ }
 {
@@ -76,6 +78,7 @@ fn mark_refusal(w: &[u8]) -> u8
     2
 }
 
+// 0 for a name, 3 where one is due and none stands.
 fn name_refusal(w: &[u8]) -> u8
     ensures { λ r. ⌜ r ≡ refusalOf (parseName (now (w .entry))) ⌝ }
 {
@@ -85,6 +88,7 @@ fn name_refusal(w: &[u8]) -> u8
     3
 }
 
+// The number of what was refused, 0 for a value.
 fn number_refusal(n: ParsedNumber) -> u8
     ensures { λ r. ⌜ r ≡ numberRefusal n ⌝ }
 {

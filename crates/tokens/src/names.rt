@@ -1,6 +1,6 @@
 // Names and their keys.
+use super::numbers::byte_value;
 use super::numbers::is_digit;
-use super::numbers::wide;
 ghost use mathlib.Core.Path.{_≡_};
 ghost use mathlib.Core.Bool.{_&&_, _||_};
 ghost use mathlib.Core.List.{[]};
@@ -17,12 +17,14 @@ pub enum NameKey {
     Key(u64),
 }
 
+// A to Z.
 fn is_capital(b: u8) -> bool
     ensures { λ r. ⌜ r ≡ isCapital b ⌝ }
 {
     65 <= b && b <= 90
 }
 
+// What may follow a name's first letter.
 fn is_letter(b: u8) -> bool
     ensures { λ r. ⌜ r ≡ (isCapital b || isDigit b) ⌝ }
 {
@@ -32,6 +34,7 @@ fn is_letter(b: u8) -> bool
     is_digit(b)
 }
 
+// `%` or `$`.
 fn is_suffix(b: u8) -> bool
     ensures { λ r. ⌜ r ≡ (eqb b 37 || eqb b 36) ⌝ }
 {
@@ -49,6 +52,7 @@ fn ends_name(w: &[u8], i: usize) -> bool
     i + 1 == w.len()
 }
 
+// A capital, then at most seven capitals or digits, then a suffix or none.
 pub fn is_name(w: &[u8]) -> bool
     ensures { λ r. ⌜ r ≡ isName (now (w .entry)) ⌝ }
 {
@@ -84,7 +88,7 @@ pub fn key_of(w: &[u8]) -> NameKey
     let mut i: usize = w.len();
     while 0 < i {
         i -= 1;
-        a = a * 64 + (wide(w[i]) - 32);
+        a = a * 64 + (byte_value(w[i]) - 32);
     }
     NameKey::Key(a)
 }

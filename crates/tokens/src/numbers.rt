@@ -11,18 +11,21 @@ pub enum ParsedNumber {
     Value(u16),
 }
 
-pub(crate) fn wide(x: u8) -> u64
+// A byte as a number, wide enough for a key or a value.
+pub(crate) fn byte_value(x: u8) -> u64
     ensures { λ r. ⌜ r ≡ x ⌝ }
 {
     x as u64
 }
 
+// 0 to 9.
 pub(crate) fn is_digit(b: u8) -> bool
     ensures { λ r. ⌜ r ≡ isDigit b ⌝ }
 {
     48 <= b && b <= 57
 }
 
+// Whether there are only digits.
 fn all_digits(w: &[u8]) -> bool
     ensures { λ r. ⌜ r ≡ all isDigit (now (w .entry)) ⌝ }
 {
@@ -36,6 +39,7 @@ fn all_digits(w: &[u8]) -> bool
     true
 }
 
+// A single 0 is no leading zero.
 fn no_leading_zero(w: &[u8]) -> bool
     ensures { λ r. ⌜ r ≡ noLeadingZero (now (w .entry)) ⌝ }
 {
@@ -53,7 +57,7 @@ fn value_of(w: &[u8]) -> u64
     let mut v: u64 = 0;
     let mut i: usize = 0;
     while i < w.len() {
-        v = v * 10 + (wide(w[i]) - 48);
+        v = v * 10 + (byte_value(w[i]) - 48);
         if 65535 < v {
             return 65536;
         }

@@ -19,6 +19,7 @@ pub fn find(s: &[u8], b: u8) -> usize
     i
 }
 
+// The same bytes.
 pub fn equal(a: &[u8], w: &[u8]) -> bool
     ensures { λ r. ⌜ r ≡ same (now (a .entry)) (now (w .entry)) ⌝ }
 {

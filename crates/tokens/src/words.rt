@@ -191,6 +191,7 @@ const KINDS: [u8; 28] = [
     5,
 ];
 
+// A byte as an index; its bound is what the tables need.
 fn wide_byte(x: u8) -> usize
     ensures { λ r. ⌜ (r ≡ x) × (r < 256) ⌝ }
 {
@@ -205,6 +206,7 @@ fn row_at(i: usize) -> [u8; 8]
     WORDS[i]
 }
 
+// How many bytes opening word i has.
 fn length_of(i: usize) -> usize
     requires { ⌜ i < 28 ⌝ }
     ensures { λ r. ⌜ (r ≡ length (getD words i [])) × (r ≤ 8) ⌝ }

@@ -6,7 +6,7 @@ use layout::words::RETURN;
 use layout::zeroing::zero64;
 ghost use Prim.Native.Nat.{_+_, _*_, _≤_, _<_};
 ghost use lib.ListN.{length};
-ghost use Rattle.passes.specs.Clearing.{SetCleared, SetsCleared, ClearTold};
+ghost use Rattle.passes.specs.Clearing.{SetCleared, SetsCleared, ClearAnswered};
 
 // Clears the set of node i, where that is a RETURN.
 fn clear_set(stmts: &[u16], i: usize, sets: &mut [u64])
@@ -35,7 +35,7 @@ pub(crate) fn clear_returns(stmts: &[u16], sets: &mut [u64], n: usize)
 
 // The same on any tables: where they are too short for n nodes, nothing changes.
 pub fn clear_sets(stmts: &[u16], sets: &mut [u64], n: usize)
-    ensures { λ _. ⌜ ClearTold (now (stmts .entry)) n (now (sets .entry)) (now (sets .exit)) ⌝ }
+    ensures { λ _. ⌜ ClearAnswered (now (stmts .entry)) n (now (sets .entry)) (now (sets .exit)) ⌝ }
 {
     if sets_fit(stmts, sets, n) {
         clear_returns(stmts, sets, n);

@@ -21,6 +21,7 @@ fn row_bit(rows: &[u64], i: usize, j: usize) -> u64
     (rows[i * ARG_ENTRIES + j / 64] >> (j % 64)) % 2
 }
 
+// Row i as a set of its own, so that the rows can change meanwhile.
 fn row_copy(rows: &[u64], i: usize) -> [u64; 64]
     requires { ⌜ (i < 4096) × (i * 64 + 64 ≤ length (now rows)) ⌝ }
     ensures { λ r. ⌜ r ≡ setOf (now (rows .entry)) i ⌝ }

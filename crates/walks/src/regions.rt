@@ -26,7 +26,7 @@ ghost use Rattle.passes.specs.Sets.{oneIf, Put};
 ghost use Rattle.tables.specs.Columns.{callWord, wordOf};
 ghost use Rattle.passes.specs.Regions.{callsBelow, backFrom, CallFits, EntryCalls, SetAdded, ListedJoined, RegionJoined, RegionsJoined, SetsFound, EntriesReady};
 ghost use Rattle.passes.specs.Walk.{Stored, storedList};
-ghost use Rattle.passes.specs.WalkTables.{CallsRead, RegionsTold};
+ghost use Rattle.passes.specs.WalkTables.{CallsRead, RegionsAnswered};
 
 // Puts node i behind the first m entries, if it is a call.
 fn list_call(stmts: &[u16], i: usize, calls: &mut [u16], m: usize) -> usize
@@ -231,7 +231,7 @@ pub fn region_return_edges(
     n: usize,
     sets: &mut [u64],
 ) -> bool
-    ensures { λ r. ⌜ RegionsTold (now (stmts .entry)) (now (falls .entry)) (now (links .entry)) (now (lists .entry)) (now (edges .entry)) n (now (sets .entry)) (now (sets .exit)) r ⌝ }
+    ensures { λ r. ⌜ RegionsAnswered (now (stmts .entry)) (now (falls .entry)) (now (links .entry)) (now (lists .entry)) (now (edges .entry)) n (now (sets .entry)) (now (sets .exit)) r ⌝ }
 {
     if walks_readable(stmts, falls, links, lists, edges, n, sets) {
         join_regions(stmts, falls, links, lists, edges, n, sets);

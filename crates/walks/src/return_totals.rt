@@ -29,6 +29,7 @@ fn return_size(handlers: bool, stmts: &[u16], sets: &[u64], i: usize, targets: u
     count_members(&sets[start..end])
 }
 
+// How many edges all RETURNs have together.
 fn sum_returns(handlers: bool, stmts: &[u16], sets: &[u64], n: usize, targets: usize) -> usize
     requires { ⌜ (n ≤ 4096) × (n * 12 ≤ length (now stmts)) × (n * 64 ≤ length (now sets)) × (targets ≤ 4096) ⌝ }
     ensures { λ r. ⌜ r ≡ sumWhere (λ i. eqb (wordOf (now (stmts .entry)) i) 9) (λ i. returnSize handlers targets (now (sets .entry)) i) n ⌝ }

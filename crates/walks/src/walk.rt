@@ -43,6 +43,7 @@ pub fn no_marks() -> [bool; MAX_STMTS]
     [false; MAX_STMTS]
 }
 
+// An empty worklist with room for all nodes.
 pub(crate) fn no_work() -> [u16; MAX_STMTS]
     ensures { λ r. ⌜ length r ≡ 4096 ⌝ }
 {

@@ -23,9 +23,9 @@ use Rattle.tables.specs.Columns.{wordOf}
 use Rattle.passes.specs.PreparedLaws.{prepared-roles, return-row}
 use Rattle.passes.specs.ReturnTotals.{sumWhere, returnSize, returnTotal, sum-where-on, total-is}
 use Rattle.passes.specs.ReturnTargets.{TargetsListed, FallsFit, targets-are, roles-falls}
-use Rattle.passes.specs.WalkTables.{RegionsTold}
-use Rattle.passes.specs.RegionLaws.{told-graph}
-use Rattle.passes.specs.Spread.{SpreadTo}
+use Rattle.passes.specs.WalkTables.{RegionsAnswered}
+use Rattle.passes.specs.RegionLaws.{answered-graph}
+use Rattle.passes.specs.ByRows.{ReturnsByRows}
 use Rattle.passes.specs.FillRows.{FillReady}
 use Rattle.passes.specs.EdgeCount.{edge-count, edges-joined}
 use Rattle.wiring.specs.FinalGraph.{ReturnRowsOnly, FinalTables}
@@ -56,17 +56,17 @@ module _ {own : ℕ} {stmts args entries falls links frames dispatched : List �
   returns-through true e L p s = record { size = refl; members = λ q. no q; kept = λ q x z. refl }
   returns-through false e L p s = no (sym e)
 
-  pub regions-found : {args′ : List ℕ} {r : Bool} (h : Bool) → own ≤ 32768 → RegionsTold stmts falls links lists scratch n args args′ r → ReturnsFound h own stmts args entries falls links frames dispatched lines n d lists scratch args′
+  pub regions-found : {args′ : List ℕ} {r : Bool} (h : Bool) → own ≤ 32768 → RegionsAnswered stmts falls links lists scratch n args args′ r → ReturnsFound h own stmts args entries falls links frames dispatched lines n d lists scratch args′
   regions-found {args′} {r} h few f L p s =
-      let w = told-graph stmts falls links lists scratch n args args′ r (wire L) (prepared-roles p) (s few) (p .args-fit) (λ i lt e j g. return-row p i lt e j g) f in
+      let w = answered-graph stmts falls links lists scratch n args args′ r (wire L) (prepared-roles p) (s few) (p .args-fit) (λ i lt e j g. return-row p i lt e j g) f in
       record { size = w .size; members = λ q r lt e. w .members r lt e; kept = λ q x z. w .others x (λ y. z (y .0) (y .1)) }
 
-  pub spread-ready : {room : ℕ} → ReturnsReady own stmts args entries falls links frames dispatched lines n d lists scratch room → FillReady stmts args entries falls links frames dispatched lines n d room
-  spread-ready r = let p = r .prepared in record { listing = r .listing; prepared = p; roles = prepared-roles p; room-for = r .buffer }
+  pub by-rows-ready : {room : ℕ} → ReturnsReady own stmts args entries falls links frames dispatched lines n d lists scratch room → FillReady stmts args entries falls links frames dispatched lines n d room
+  by-rows-ready r = let p = r .prepared in record { listing = r .listing; prepared = p; roles = prepared-roles p; room-for = r .buffer }
 
-  pub spread-found : {args′ : List ℕ} (h : Bool) → (own ≤ 32768 → ⊥) → SpreadTo stmts args entries falls links frames dispatched lines n d args′
+  pub by-rows-found : {args′ : List ℕ} (h : Bool) → (own ≤ 32768 → ⊥) → ReturnsByRows stmts args entries falls links frames dispatched lines n d args′
       → ReturnsFound h own stmts args entries falls links frames dispatched lines n d lists scratch args′
-  spread-found h many f L p s = record { size = f .size; members = λ q r lt e. f .members L p (prepared-roles p) r lt e; kept = λ q. absurd (many q) }
+  by-rows-found h many f L p s = record { size = f .size; members = λ q r lt e. f .members L p (prepared-roles p) r lt e; kept = λ q. absurd (many q) }
 
 -- ---- no graph has many edges
 

@@ -12,7 +12,7 @@ use Rattle.passes.specs.Preparing.{FramesMade, with-frames}
 use Rattle.wiring.specs.CountGraph.{CountReady, CountedTo, GraphCounted}
 use Rattle.wiring.specs.WriteGraph.{WriteHeld, graph-written}
 use Rattle.storing.specs.EdgesFit.{edgesFit, EdgesFit, edges-fit}
-use Rattle.storing.specs.StoredGraph.{GraphTold}
+use Rattle.storing.specs.StoredGraph.{GraphAnswered}
 use Rattle.storing.specs.declared.write_graph.Stored.{Stored}
 
 -- ---- the graph
@@ -52,7 +52,7 @@ module _ {handlers : Bool} {c n d : ℕ} {counts stmts args entries falls links 
 
   pub wired-yes : {counts′ args′ lists′ succ′ pred′ : List ℕ} {answer : Stored} (x : Bool) → x ≡ edgesFit edges (length succ) (length pred) → x ≡ true → length succ′ ≡ length succ
       → length pred′ ≡ length pred → n * 4 ≤ length lists₁
-      → GraphTold handlers stmts args₁ falls links n c counts lists₁ scratch₁ returns₁ targets succ pred counts′ args′ lists′ succ′ pred′ answer
+      → GraphAnswered handlers stmts args₁ falls links n c counts lists₁ scratch₁ returns₁ targets succ pred counts′ args′ lists′ succ′ pred′ answer
       → (L : Listing) → WireHeld L handlers c n counts stmts args entries falls links succ pred → WiringDone L args counts′ args′ lists′ returns₁ succ′ pred′ true edges
   wired-yes {succ′ = succ′} {pred′ = pred′} x q t es ep rows f L w =
       record {

@@ -25,7 +25,7 @@ use Rattle.passes.specs.PreparedLaws.{return-row}
 use Rattle.passes.specs.TableForms.{countTable, count-table, list-table, return-table, succ-table, pred-table}
 use Rattle.storing.specs.EdgesFit.{edgesFit, fit-edges}
 use Rattle.storing.specs.Predecessors.{sourcesOf, sources-are}
-use Rattle.storing.specs.StoredGraph.{graphReadable, finalLists, storedOf, GraphStored, TablesTold, GraphTold, read-graph}
+use Rattle.storing.specs.StoredGraph.{graphReadable, finalLists, storedOf, GraphStored, TablesAnswered, GraphAnswered, read-graph}
 use Rattle.storing.specs.declared.write_graph.Stored.{Stored}
 use Rattle.storing.specs.declared.write_graph.Stored.the-variants as stored
 use Rattle.wiring.specs.FinalGraph.{FinalTables, SkipsHeld, few-through, finals-are, graph-reads}
@@ -126,7 +126,7 @@ module _ {L : Listing} {ks : List ℕ} {handlers : Bool} {stmts args entries fal
       let e = q .edges in
       fit-edges (length (joinedLists ls)) (length succ) (length pred) (record { few = omega (arith, total, e .few-edges); in-succ = omega (arith, total, e .succ-fits); in-pred = omega (arith, total, e .pred-fits) })
 
-  module _ {counts′ args′ lists′ succ′ pred′ : List ℕ} {r : Stored} (f : GraphTold handlers stmts args falls links n lines counts lists scratch returns targets succ pred counts′ args′ lists′ succ′ pred′ r) where
+  module _ {counts′ args′ lists′ succ′ pred′ : List ℕ} {r : Stored} (f : GraphAnswered handlers stmts args falls links n lines counts lists scratch returns targets succ pred counts′ args′ lists′ succ′ pred′ r) where
     -- so the answer is the count of edges
     written : r ≡ stored.Written (length (joinedLists ls))
     unfolding storedOf
@@ -135,7 +135,7 @@ module _ {L : Listing} {ks : List ℕ} {handlers : Bool} {stmts args entries fal
     tables : GraphStored stmts args n lines counts lists targets succ pred ls counts′ args′ lists′ succ′ pred′
     tables = go r written (f .tables)
       where
-        go : (r : Stored) → r ≡ stored.Written (length (joinedLists ls)) → TablesTold r stmts args n lines counts lists targets succ pred ls counts′ args′ lists′ succ′ pred′
+        go : (r : Stored) → r ≡ stored.Written (length (joinedLists ls)) → TablesAnswered r stmts args n lines counts lists targets succ pred ls counts′ args′ lists′ succ′ pred′
             → GraphStored stmts args n lines counts lists targets succ pred ls counts′ args′ lists′ succ′ pred′
         go (stored.Written edges) e t = t
         go (stored.Refused number place) e t = absurd (let z : _≡_ {A = ℕ} 0 1 = cc in omega arith)

@@ -36,6 +36,7 @@ fn store_first_nodes(stmts: &[u16], entries: &mut [u16], n: usize)
     }
 }
 
+// A line without statements has the next line's entry.
 fn entry_or(e: u16, next: u16) -> u16
     ensures { λ r. ⌜ r ≡ entryOr e next ⌝ }
 {

@@ -76,7 +76,8 @@ fn branch_target(
     if from < end { narrow(from + 1) } else { next }
 }
 
-fn put_row(falls: &mut [u16], i: usize, fall: u16, first: u16, second: u16)
+// Where statement i falls, and where its branches lead.
+fn put_falls(falls: &mut [u16], i: usize, fall: u16, first: u16, second: u16)
     requires { ⌜ i * 3 + 3 ≤ length (now falls) ⌝ }
     ensures { λ r. ⌜ now (falls .exit) ≡ sets (now (falls .entry)) (i * 3) (fall ∷ first ∷ second ∷ []) ⌝ }
 {
@@ -119,7 +120,7 @@ fn connect_row(
         end,
         next,
     );
-    put_row(falls, i, next, first, second);
+    put_falls(falls, i, next, first, second);
 }
 
 // Statement i, which ends at `end`, and those in its branches fall to `next`; false if its record does not say where they are (27).
@@ -139,7 +140,7 @@ pub(crate) fn connect_stmt(
 {
     let row = i * STMT_ENTRIES;
     if stmts[row + FORM1] == NO_BRANCH {
-        put_row(falls, i, next, 0, 0);
+        put_falls(falls, i, next, 0, 0);
         return true;
     }
     let m = wide(stmts[row + SECOND]);
@@ -200,7 +201,7 @@ fn start_of(stmts: &[u16], l: usize, end: usize) -> usize
 }
 
 // Each line's statements fall to the next line's entry. From the last line up, where that entry is at hand.
-fn connect_from_last(
+fn connect_top_level(
     entries: &[u16],
     count: usize,
     stmts: &[u16],
@@ -238,5 +239,5 @@ pub(crate) fn connect_lines(
     requires { ⌜ (n * 12 ≤ length (now stmts)) × (n * 3 ≤ length (now falls)) ⌝ }
     ensures { λ r. ⌜ LinesConnected (now (entries .entry)) (now (stmts .entry)) count n (now (falls .entry)) (now (falls .exit)) r ⌝ }
 {
-    connect_from_last(entries, count, stmts, falls, n)
+    connect_top_level(entries, count, stmts, falls, n)
 }

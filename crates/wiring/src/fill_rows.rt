@@ -17,7 +17,7 @@ ghost use Rattle.passes.specs.Closure.{RowIs};
 ghost use Rattle.passes.specs.FillRows.{SkipReady, SkipMade, inPass, RowReady, RowFilled, PassReady, PassFilled, FillReady, RowsFilled};
 
 // The first count nodes of a list, and no others, as a row.
-fn put_row(row: &mut [u64], list: &[u16], count: usize)
+fn put_set(row: &mut [u64], list: &[u16], count: usize)
     requires { ⌜ (length (now row) ≡ 64) × (count ≤ length (now list)) × Ids 4096 (take count (now list)) ⌝ }
     ensures { λ _. ⌜ RowIs (take count (now (list .entry))) (now (row .exit)) ⌝ }
 {
@@ -78,6 +78,7 @@ fn in_pass(nexts: bool, word: u16) -> bool
     !nexts
 }
 
+// Row i becomes the set of its skip list, in the pass that it belongs to.
 fn fill_row(
     stmts: &[u16],
     args: &mut [u64],
@@ -113,9 +114,10 @@ fn fill_row(
     );
     let start = i * ARG_ENTRIES;
     let end = start + 64;
-    put_row(&mut args[start..end], part, count);
+    put_set(&mut args[start..end], part, count);
 }
 
+// All rows of one pass: those of the NEXTs, or all others.
 fn fill_pass(
     stmts: &[u16],
     args: &mut [u64],

@@ -37,6 +37,7 @@ fn no_notes() -> [u64; 512]
     [0u64; 512]
 }
 
+// The remainder under which a key is noted.
 fn note_of(key: u64) -> usize
     ensures { λ r. ⌜ r ≡ noteOf key ⌝ }
 {

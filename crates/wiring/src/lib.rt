@@ -1,12 +1,13 @@
 // The wiring: the records of a listing to its graph.
 pub mod build;
+pub mod by_rows;
+pub mod closing;
 pub mod entries;
 pub mod falls;
 pub mod fill_rows;
 pub mod fors;
 pub mod frames;
 pub mod jumps;
-pub mod late;
 pub mod list_of;
 pub mod nexts;
 pub mod prepare;
@@ -14,7 +15,6 @@ pub mod reading;
 pub mod return_targets;
 pub mod room;
 pub mod skip_lists;
-pub mod spread;
 pub mod stacks;
 pub mod widths;
 pub mod wire;

@@ -1,7 +1,7 @@
 // A node's list, each edge once: what its statement adds, then what later nodes add, then an orphan NEXT's bodies.
-use crate::late::add_late;
+use crate::closing::add_closing;
+use crate::nexts::add_dispatched_back_edges;
 use crate::nexts::add_link;
-use crate::nexts::add_orphan;
 use crate::nexts::add_popped;
 use layout::columns::ARG_ENTRIES;
 use layout::columns::COUNT;
@@ -22,8 +22,8 @@ use layout::words::NEXT;
 use layout::words::RUN;
 use layout::words::STOP;
 use layout::words::UNTIL;
+use storing::growing::add_edge;
 use storing::growing::add_jump;
-use storing::growing::add_node;
 use storing::growing::add_targets;
 ghost use mathlib.Core.Path.{_≡_};
 ghost use Prim.Native.Nat.{_+_, _*_, _≤_};
@@ -45,7 +45,7 @@ fn add_first(entries: &[u16], rows: usize, part: &mut [u16]) -> usize
     if rows == 0 {
         return 0;
     }
-    add_node(part, 0, entries[ENTRY_NODE])
+    add_edge(part, 0, entries[ENTRY_NODE])
 }
 
 // Adds the entry e after the entry `last`: if it is another one, it is not there yet.
@@ -61,7 +61,7 @@ fn add_entry(part: &mut [u16], n: usize, e: u16, last: u16) -> usize
 }
 
 // Adds all line entries. They ascend, so each is compared with the last one only, and nothing is searched for.
-fn add_entries(entries: &[u16], rows: usize, part: &mut [u16]) -> usize
+fn all_line_entry_nodes(entries: &[u16], rows: usize, part: &mut [u16]) -> usize
     requires { ⌜ (rows * 2 ≤ length (now entries)) × RoomToAdd (now part) 0 (each decode (entryColumn 1 rows (now entries))) × Rises 0 (entryColumn 1 rows (now entries)) ⌝ }
     ensures { λ r. ⌜ Grows (now (part .entry)) 0 (now (part .exit)) r (each decode (entryColumn 1 rows (now (entries .entry)))) ⌝ }
 {
@@ -110,7 +110,7 @@ fn add_next(stmts: &[u16], falls: &[u16], links: &[u16], i: usize, part: &mut [u
 {
     let count = wide(stmts[i * STMT_ENTRIES + COUNT]);
     let r = add_popped(falls, links, i, count, part, 0);
-    add_node(part, r, falls[i * FALL_ENTRIES])
+    add_edge(part, r, falls[i * FALL_ENTRIES])
 }
 
 // An UNTIL that closes a frame goes to its body, then it falls; any other adds nothing.
@@ -124,9 +124,10 @@ fn add_until(falls: &[u16], frames: &[u16], i: usize, part: &mut [u16]) -> usize
         return 0;
     }
     let r = add_link(falls, met, part, 0);
-    add_node(part, r, falls[i * FALL_ENTRIES])
+    add_edge(part, r, falls[i * FALL_ENTRIES])
 }
 
+// The words that do not fall are these three.
 fn falls_on(word: u16) -> bool
     ensures { λ r. ⌜ r ≡ fallsWord word ⌝ }
 {
@@ -152,7 +153,7 @@ fn add_block(word: u16, falls: &[u16], frames: &[u16], i: usize, part: &mut [u16
         return add_until(falls, frames, i, part);
     }
     if falls_on(word) {
-        return add_node(part, 0, falls[i * FALL_ENTRIES]);
+        return add_edge(part, 0, falls[i * FALL_ENTRIES]);
     }
     0
 }
@@ -187,7 +188,7 @@ fn add_own(
         return add_next(stmts, falls, links, i, part);
     }
     if word == ANY {
-        return add_entries(entries, lines, part);
+        return all_line_entry_nodes(entries, lines, part);
     }
     add_block(word, falls, frames, i, part)
 }
@@ -210,6 +211,6 @@ pub(crate) fn list_of(
     ensures { λ r. ⌜ ListMade (now (stmts .entry)) (now (args .entry)) (now (entries .entry)) (now (falls .entry)) (now (links .entry)) (now (frames .entry)) (now (dispatched .entry)) lines d i (now (part .entry)) (now (part .exit)) r ⌝ }
 {
     let r = add_own(stmts, entries, falls, links, frames, lines, i, part);
-    let s = add_late(stmts, falls, frames, i, part, r);
-    add_orphan(stmts, args, falls, dispatched, d, i, part, s)
+    let s = add_closing(stmts, falls, frames, i, part, r);
+    add_dispatched_back_edges(stmts, args, falls, dispatched, d, i, part, s)
 }

@@ -7,7 +7,7 @@ use layout::columns::ORPHAN;
 use layout::columns::STMT_ENTRIES;
 use layout::widths::wide;
 use layout::words::NEXT;
-use storing::growing::add_node;
+use storing::growing::add_edge;
 ghost use mathlib.Core.Path.{_≡_};
 ghost use Prim.Native.Nat.{_+_, _*_, _≤_, _<_};
 ghost use lib.ListN.{length, take, getD};
@@ -27,7 +27,7 @@ pub(crate) fn add_link(falls: &[u16], t: u16, part: &mut [u16], n: usize) -> usi
         return n;
     }
     let o = wide(t) - 1;
-    add_node(part, n, falls[o * FALL_ENTRIES])
+    add_edge(part, n, falls[o * FALL_ENTRIES])
 }
 
 // Adds the bodies of the FORs that a row of links names.
@@ -78,7 +78,7 @@ fn add_selected(args: &[u64], falls: &[u16], o: u16, key: u64, part: &mut [u16],
 {
     let k = wide(o);
     if selects(key, args[k * ARG_ENTRIES]) {
-        return add_node(part, n, falls[k * FALL_ENTRIES]);
+        return add_edge(part, n, falls[k * FALL_ENTRIES]);
     }
     n
 }
@@ -161,7 +161,7 @@ fn add_slots(
 }
 
 // Adds, if node i is an orphan NEXT, the bodies of the dispatched FORs that its slots select; there are d of these.
-pub(crate) fn add_orphan(
+pub(crate) fn add_dispatched_back_edges(
     stmts: &[u16],
     args: &[u64],
     falls: &[u16],

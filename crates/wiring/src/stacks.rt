@@ -18,6 +18,7 @@ pub(crate) struct Popped {
     pub(crate) frame: usize,
 }
 
+// A count of bits as an index.
 fn wide32(x: u32) -> usize
     ensures { λ r. ⌜ r ≡ x ⌝ }
 {

@@ -2,6 +2,7 @@
 ghost use mathlib.Core.Path.{_≡_};
 ghost use Prim.Native.Nat.{_<_};
 
+// An index as an entry.
 pub(crate) fn narrow(x: usize) -> u16
     requires { ⌜ x < 65536 ⌝ }
     ensures { λ r. ⌜ r ≡ x ⌝ }

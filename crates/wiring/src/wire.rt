@@ -1,9 +1,9 @@
 // Frames and dispatched FORs; then the lists of the nodes: counted, and written where they fit.
+use crate::by_rows::return_edges_by_filled_rows;
 use crate::fors::list_dispatched;
 use crate::frames::stack_frames;
 use crate::return_targets::list_return_targets;
 use crate::skip_lists::store_skip_lists;
-use crate::spread::spread_return_edges;
 use layout::limits::MAX_EDGES;
 use layout::limits::MAX_STMTS;
 use storing::edge_count::edges_fit;
@@ -84,7 +84,7 @@ fn find_returns(
         return;
     }
     if MAX_EDGES < own {
-        spread_return_edges(
+        return_edges_by_filled_rows(
             stmts,
             args,
             entries,

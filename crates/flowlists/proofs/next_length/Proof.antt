@@ -31,8 +31,8 @@ returns-2 c = search needs
 mul-n : tie.Need-mul-n Inv-loop μ-loop
 mul-n c = search needs
 
-wide-requires : tie.Need-wide-requires Inv-loop μ-loop
-wide-requires c κs = search needs
+wide-byte-requires : tie.Need-wide-byte-requires Inv-loop μ-loop
+wide-byte-requires c κs = search needs
 
 add-n : tie.Need-add-n Inv-loop μ-loop
 add-n c = search needs
@@ -62,7 +62,7 @@ next-length-spec =
     returns
     returns-2
     mul-n
-    wide-requires
+    wide-byte-requires
     add-n
     add-k
     loop-less

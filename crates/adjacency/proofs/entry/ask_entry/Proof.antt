@@ -21,16 +21,16 @@ returns c = let at-rows : tie.After-count-of = search in rows-outside _ _ _ _ (a
 first-entry-requires : tie.Need-first-entry-requires
 first-entry-requires c κs = search needs
 
-entry-of-requires : tie.Need-entry-of-requires
-entry-of-requires c κs = search needs
+bounded-entry-requires : tie.Need-bounded-entry-requires
+bounded-entry-requires c κs = search needs
 
 returns-2 : tie.Need-returns-2
 returns-2 c =
-    let at-entry-of : tie.After-entry-of = search in
+    let at-bounded-entry : tie.After-bounded-entry = search in
     let at-first-entry : tie.After-first-entry = search in
     let at-else1 : tie.Else1 = search in
     let at-rows : tie.After-count-of = search in
-    entered-nowhere _ _ _ _ (at-rows .count-of .ensures .0) (at-else1 .if1 .left) _ (ap entryNode (at-entry-of .entry-of .ensures .0) ∙ at-first-entry .first-entry .ensures) (c .if2 .taken)
+    entered-nowhere _ _ _ _ (at-rows .count-of .ensures .0) (at-else1 .if1 .left) _ (ap entryNode (at-bounded-entry .bounded-entry .ensures .0) ∙ at-first-entry .first-entry .ensures) (c .if2 .taken)
 
 sub-id : tie.Need-sub-id
 sub-id c = search needs
@@ -45,21 +45,21 @@ returns-3 : tie.Need-returns-3
 returns-3 c =
     let at-nodes : tie.After-count-of2 = search in
     let at-else2 : tie.Else2 = search in
-    let at-entry-of : tie.After-entry-of = search in
+    let at-bounded-entry : tie.After-bounded-entry = search in
     let at-first-entry : tie.After-first-entry = search in
     let at-else1 : tie.Else1 = search in
     let at-rows : tie.After-count-of = search in
-    entry-outside _ _ _ _ (at-rows .count-of .ensures .0) (at-else1 .if1 .left) _ (ap entryNode (at-entry-of .entry-of .ensures .0) ∙ at-first-entry .first-entry .ensures) (at-else2 .if2 .left) _ (at-nodes .count-of2 .ensures .0) (c .if3 .taken)
+    entry-outside _ _ _ _ (at-rows .count-of .ensures .0) (at-else1 .if1 .left) _ (ap entryNode (at-bounded-entry .bounded-entry .ensures .0) ∙ at-first-entry .first-entry .ensures) (at-else2 .if2 .left) _ (at-nodes .count-of2 .ensures .0) (c .if3 .taken)
 
 returns-4 : tie.Need-returns-4
 returns-4 c =
     let at-nodes : tie.After-count-of2 = search in
     let at-else2 : tie.Else2 = search in
-    let at-entry-of : tie.After-entry-of = search in
+    let at-bounded-entry : tie.After-bounded-entry = search in
     let at-first-entry : tie.After-first-entry = search in
     let at-else1 : tie.Else1 = search in
     let at-rows : tie.After-count-of = search in
-    entered-node _ _ _ _ (at-rows .count-of .ensures .0) (at-else1 .if1 .left) _ (ap entryNode (at-entry-of .entry-of .ensures .0) ∙ at-first-entry .first-entry .ensures) (at-else2 .if2 .left) _ (at-nodes .count-of2 .ensures .0) (c .if3 .left)
+    entered-node _ _ _ _ (at-rows .count-of .ensures .0) (at-else1 .if1 .left) _ (ap entryNode (at-bounded-entry .bounded-entry .ensures .0) ∙ at-first-entry .first-entry .ensures) (at-else2 .if2 .left) _ (at-nodes .count-of2 .ensures .0) (c .if3 .left)
 
 pub ask-entry-spec : {M : Type 1} → statement M
 ask-entry-spec =
@@ -70,7 +70,7 @@ ask-entry-spec =
     mul-if1
     returns
     first-entry-requires
-    entry-of-requires
+    bounded-entry-requires
     returns-2
     sub-id
     element-copy-out-count-of-2

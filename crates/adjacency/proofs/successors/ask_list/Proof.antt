@@ -20,47 +20,47 @@ mul-if2 c = search needs
 returns-2 : tie.Need-returns-2
 returns-2 c = asked-count _ _ _ _ _ _ _ (c .before .before .count-of .ensures .0) (omega arith) (c .if2 .taken)
 
-mul-entry-of : tie.Need-mul-entry-of
-mul-entry-of c = search needs
+mul-bounded-entry : tie.Need-mul-bounded-entry
+mul-bounded-entry c = search needs
 
-add-entry-of : tie.Need-add-entry-of
-add-entry-of c = search needs
+add-bounded-entry : tie.Need-add-bounded-entry
+add-bounded-entry c = search needs
 
-mul-entry-of-2 : tie.Need-mul-entry-of-2
-mul-entry-of-2 c = search needs
+mul-bounded-entry-2 : tie.Need-mul-bounded-entry-2
+mul-bounded-entry-2 c = search needs
 
-shared-slice-read-entry-of : tie.Need-shared-slice-read-entry-of
-shared-slice-read-entry-of c = search needs
+shared-slice-read-bounded-entry : tie.Need-shared-slice-read-bounded-entry
+shared-slice-read-bounded-entry c = search needs
 
-entry-of-requires : tie.Need-entry-of-requires
-entry-of-requires c κs = search needs
+bounded-entry-requires : tie.Need-bounded-entry-requires
+bounded-entry-requires c κs = search needs
 
-mul-entry-of-3 : tie.Need-mul-entry-of-3
-mul-entry-of-3 c = search needs
+mul-bounded-entry-3 : tie.Need-mul-bounded-entry-3
+mul-bounded-entry-3 c = search needs
 
-add-entry-of-2 : tie.Need-add-entry-of-2
-add-entry-of-2 c = search needs
+add-bounded-entry-2 : tie.Need-add-bounded-entry-2
+add-bounded-entry-2 c = search needs
 
-add-entry-of-3 : tie.Need-add-entry-of-3
-add-entry-of-3 c = search needs
+add-bounded-entry-3 : tie.Need-add-bounded-entry-3
+add-bounded-entry-3 c = search needs
 
-mul-entry-of-4 : tie.Need-mul-entry-of-4
-mul-entry-of-4 c = search needs
+mul-bounded-entry-4 : tie.Need-mul-bounded-entry-4
+mul-bounded-entry-4 c = search needs
 
-shared-slice-read-entry-of-2 : tie.Need-shared-slice-read-entry-of-2
-shared-slice-read-entry-of-2 c = search needs
+shared-slice-read-bounded-entry-2 : tie.Need-shared-slice-read-bounded-entry-2
+shared-slice-read-bounded-entry-2 c = search needs
 
-entry-of-requires-2 : tie.Need-entry-of-requires-2
-entry-of-requires-2 c κs = search needs
+bounded-entry-requires-2 : tie.Need-bounded-entry-requires-2
+bounded-entry-requires-2 c κs = search needs
 
 add-if3 : tie.Need-add-if3
 add-if3 c = search needs
 
 returns-3 : tie.Need-returns-3
-returns-3 c = asked-record _ _ _ _ _ _ _ (c .before .before .before .before .before .before .before .count-of .ensures .0) (c .before .before .before .before .before .before .if1 .left) (c .before .before .before .before .before .if2 .left) _ _ (c .before .before .before .entry-of .ensures .0) (c .before .entry-of2 .ensures .0) (c .if3 .taken)
+returns-3 c = asked-record _ _ _ _ _ _ _ (c .before .before .before .before .before .before .before .count-of .ensures .0) (c .before .before .before .before .before .before .if1 .left) (c .before .before .before .before .before .if2 .left) _ _ (c .before .before .before .bounded-entry .ensures .0) (c .before .bounded-entry2 .ensures .0) (c .if3 .taken)
 
 returns-4 : tie.Need-returns-4
-returns-4 c = asked-part _ _ _ _ _ _ _ (c .before .before .before .before .before .before .before .count-of .ensures .0) (c .before .before .before .before .before .before .if1 .left) (c .before .before .before .before .before .if2 .left) _ _ (c .before .before .before .entry-of .ensures .0) (c .before .entry-of2 .ensures .0) (c .if3 .left)
+returns-4 c = asked-part _ _ _ _ _ _ _ (c .before .before .before .before .before .before .before .count-of .ensures .0) (c .before .before .before .before .before .before .if1 .left) (c .before .before .before .before .before .if2 .left) _ _ (c .before .before .before .bounded-entry .ensures .0) (c .before .bounded-entry2 .ensures .0) (c .if3 .left)
 
 pub ask-list-spec : {M : Type 1} → statement M
 ask-list-spec =
@@ -71,17 +71,17 @@ ask-list-spec =
     returns
     mul-if2
     returns-2
-    mul-entry-of
-    add-entry-of
-    mul-entry-of-2
-    shared-slice-read-entry-of
-    entry-of-requires
-    mul-entry-of-3
-    add-entry-of-2
-    add-entry-of-3
-    mul-entry-of-4
-    shared-slice-read-entry-of-2
-    entry-of-requires-2
+    mul-bounded-entry
+    add-bounded-entry
+    mul-bounded-entry-2
+    shared-slice-read-bounded-entry
+    bounded-entry-requires
+    mul-bounded-entry-3
+    add-bounded-entry-2
+    add-bounded-entry-3
+    mul-bounded-entry-4
+    shared-slice-read-bounded-entry-2
+    bounded-entry-requires-2
     add-if3
     returns-3
     returns-4)

@@ -1,14 +1,14 @@
 -- `flow_build`: what `build` answers and leaves, then told by number and place. Assumes nothing.
 use borrow.Author.Needs.{needs}
-use Rattle.telling.specs.BuildTold.{build-told}
+use Rattle.c_answers.specs.BuildNumbers.{build-numbered}
 use Rattle.flowgraph.proofs.build.flow_build.Statement.{statement}
 use Rattle.flowgraph.proofs.build.flow_build.Tie as tie
 
 build-requires : tie.Need-build-requires
 build-requires c κs = search needs
 
-tell-built-requires : tie.Need-tell-built-requires
-tell-built-requires c κs = search needs
+number-of-build-requires : tie.Need-number-of-build-requires
+number-of-build-requires c κs = search needs
 
 same-length : tie.Need-same-length
 same-length c = search
@@ -41,14 +41,14 @@ same-length-10 : tie.Need-same-length-10
 same-length-10 c = c .before .before .before .pred .given
 
 returns : tie.Need-returns
-returns c = let at-build : tie.After-build = search in build-told (at-build .build .ensures) (c .tell-built .ensures)
+returns c = let at-build : tie.After-build = search in build-numbered (at-build .build .ensures) (c .number-of-build .ensures)
 
 pub flow-build-spec : {M : Type 1} → statement M
 flow-build-spec =
     tie.close
     (tie.spec
     build-requires
-    tell-built-requires
+    number-of-build-requires
     same-length
     same-length-2
     same-length-3

@@ -3,7 +3,7 @@ use mathlib.Core.Path.{sym, ap, _∙_}
 use lib.ListN.{length, getD}
 use Rattle.reader.specs.Operands.{keyAnswer}
 use Rattle.frame_lists.specs.FrameAt.{frameIn, frameAt}
-use Rattle.frame_slices.specs.FrameSlice.{told-refused}
+use Rattle.frame_slices.specs.FrameSlice.{answered-refused}
 use Rattle.frame_lists.specs.FrameChecks.{at-3, at-name, name-key, answer-as}
 use borrow.Author.Needs.{needs}
 use Rattle.frame_lists.proofs.frame.ask_frame.Statement.{statement}
@@ -59,7 +59,7 @@ returns-2 : tie.Need-returns-2
 returns-2 c =
     let start : tie.Start = search in
     let a = start .args in
-    told-refused (frameAt (getD (a .counts .now) 0 0) (getD (a .counts .now) 1 0) (a .stmts .now) (a .args .now) (a .falls .now) (a .lists .now) (a .succ .now) (a .header) (a .node) (a .name .now) (a .flag) (length (a .out .now))) (a .out .now) 3 0 (at-3 (getD (a .counts .now) 0 0) (getD (a .counts .now) 1 0) (a .stmts .now) (a .args .now) (a .falls .now) (a .lists .now) (a .succ .now) (a .header) (a .node) (a .name .now) (a .flag) (length (a .out .now)) (sym (c .before .is-name .ensures) ∙ c .if1 .left))
+    answered-refused (frameAt (getD (a .counts .now) 0 0) (getD (a .counts .now) 1 0) (a .stmts .now) (a .args .now) (a .falls .now) (a .lists .now) (a .succ .now) (a .header) (a .node) (a .name .now) (a .flag) (length (a .out .now))) (a .out .now) 3 0 (at-3 (getD (a .counts .now) 0 0) (getD (a .counts .now) 1 0) (a .stmts .now) (a .args .now) (a .falls .now) (a .lists .now) (a .succ .now) (a .header) (a .node) (a .name .now) (a .flag) (length (a .out .now)) (sym (c .before .is-name .ensures) ∙ c .if1 .left))
 
 pub ask-frame-spec : {M : Type 1} → statement M
 ask-frame-spec =

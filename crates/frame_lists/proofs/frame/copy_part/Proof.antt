@@ -1,7 +1,7 @@
 -- `copy_part`: the part that the successors are. Assumes nothing.
 use mathlib.Core.Path.{_∙_}
 use Rattle.tables.specs.Columns.{succPart}
-use Rattle.frame_slices.specs.FrameSlice.{told-as}
+use Rattle.frame_slices.specs.FrameSlice.{answered-as}
 use Rattle.frame_lists.specs.FrameChecks.{part-is}
 use borrow.Author.Needs.{needs}
 use Rattle.frame_lists.proofs.frame.copy_part.Statement.{statement}
@@ -22,7 +22,7 @@ returns c =
     let own : tie.After-successors = search in
     let a = start .args in
     let z = c .before .before .copy-list in
-    told-as _ (succPart (a .lists .now) (a .succ .now) (a .node)) (a .out .now) _ (z .result) (own .successors .ensures ∙ part-is (a .counts .now) (a .lists .now) (a .succ .now) (a .node) (start .pre)) (z .ensures)
+    answered-as _ (succPart (a .lists .now) (a .succ .now) (a .node)) (a .out .now) _ (z .result) (own .successors .ensures ∙ part-is (a .counts .now) (a .lists .now) (a .succ .now) (a .node) (start .pre)) (z .ensures)
 
 pub copy-part-spec : {M : Type 1} → statement M
 copy-part-spec = tie.close (tie.spec successors-requires copy-list-requires same-length returns)

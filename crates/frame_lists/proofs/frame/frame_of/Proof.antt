@@ -4,7 +4,7 @@ use lib.ListN.{length}
 use Rattle.graph.specs.Questions.{ifRoom}
 use Rattle.frame_lists.specs.FrameAt.{frameRead, frameIn}
 use Rattle.statements.specs.StatementLaws.{statement-inside}
-use Rattle.frame_slices.specs.FrameSlice.{told-refused}
+use Rattle.frame_slices.specs.FrameSlice.{answered-refused}
 use Rattle.frame_lists.specs.FrameChecks.{in-24-header, in-24-node, in-25, in-26, in-list, inside, rows-inside, answer-as}
 use borrow.Author.Needs.{needs}
 use Rattle.frame_lists.proofs.frame.frame_of.Statement.{statement}
@@ -14,13 +14,13 @@ returns : tie.Need-returns
 returns c =
     let start : tie.Start = search in
     let a = start .args in
-    told-refused (frameIn (a .lines) (a .n) (a .stmts .now) (a .args .now) (a .falls .now) (a .lists .now) (a .succ .now) (a .header) (a .node) (a .key) (a .flag) (length (a .out .now))) (a .out .now) 24 (a .header) (in-24-header (a .n) (a .stmts .now) (a .args .now) (a .falls .now) (a .lists .now) (a .succ .now) (a .header) (a .node) (a .lines) (a .key) (a .flag) (length (a .out .now)) (c .if1 .taken))
+    answered-refused (frameIn (a .lines) (a .n) (a .stmts .now) (a .args .now) (a .falls .now) (a .lists .now) (a .succ .now) (a .header) (a .node) (a .key) (a .flag) (length (a .out .now))) (a .out .now) 24 (a .header) (in-24-header (a .n) (a .stmts .now) (a .args .now) (a .falls .now) (a .lists .now) (a .succ .now) (a .header) (a .node) (a .lines) (a .key) (a .flag) (length (a .out .now)) (c .if1 .taken))
 
 returns-2 : tie.Need-returns-2
 returns-2 c =
     let start : tie.Start = search in
     let a = start .args in
-    told-refused (frameIn (a .lines) (a .n) (a .stmts .now) (a .args .now) (a .falls .now) (a .lists .now) (a .succ .now) (a .header) (a .node) (a .key) (a .flag) (length (a .out .now))) (a .out .now) 24 (a .node) (in-24-node (a .n) (a .stmts .now) (a .args .now) (a .falls .now) (a .lists .now) (a .succ .now) (a .header) (a .node) (a .lines) (a .key) (a .flag) (length (a .out .now)) (c .before .if1 .left) (c .if2 .taken))
+    answered-refused (frameIn (a .lines) (a .n) (a .stmts .now) (a .args .now) (a .falls .now) (a .lists .now) (a .succ .now) (a .header) (a .node) (a .key) (a .flag) (length (a .out .now))) (a .out .now) 24 (a .node) (in-24-node (a .n) (a .stmts .now) (a .args .now) (a .falls .now) (a .lists .now) (a .succ .now) (a .header) (a .node) (a .lines) (a .key) (a .flag) (length (a .out .now)) (c .before .if1 .left) (c .if2 .taken))
 
 frame-outside-requires : tie.Need-frame-outside-requires
 frame-outside-requires c κs = search needs
@@ -29,7 +29,7 @@ returns-3 : tie.Need-returns-3
 returns-3 c =
     let start : tie.Start = search in
     let a = start .args in
-    told-refused (frameIn (a .lines) (a .n) (a .stmts .now) (a .args .now) (a .falls .now) (a .lists .now) (a .succ .now) (a .header) (a .node) (a .key) (a .flag) (length (a .out .now))) (a .out .now) 25 0 (in-25 (a .n) (a .stmts .now) (a .args .now) (a .falls .now) (a .lists .now) (a .succ .now) (a .header) (a .node) (a .lines) (a .key) (a .flag) (length (a .out .now)) (c .before .before .before .if1 .left) (c .before .before .if2 .left) (sym (c .before .frame-outside .ensures) ∙ c .if3 .taken))
+    answered-refused (frameIn (a .lines) (a .n) (a .stmts .now) (a .args .now) (a .falls .now) (a .lists .now) (a .succ .now) (a .header) (a .node) (a .key) (a .flag) (length (a .out .now))) (a .out .now) 25 0 (in-25 (a .n) (a .stmts .now) (a .args .now) (a .falls .now) (a .lists .now) (a .succ .now) (a .header) (a .node) (a .lines) (a .key) (a .flag) (length (a .out .now)) (c .before .before .before .if1 .left) (c .before .before .if2 .left) (sym (c .before .frame-outside .ensures) ∙ c .if3 .taken))
 
 no-statement-requires : tie.Need-no-statement-requires
 no-statement-requires c κs = search needs
@@ -39,7 +39,7 @@ returns-4 c =
     let start : tie.Start = search in
     let a = start .args in
     let r = c .before .no-statement in
-    told-refused (frameIn (a .lines) (a .n) (a .stmts .now) (a .args .now) (a .falls .now) (a .lists .now) (a .succ .now) (a .header) (a .node) (a .key) (a .flag) (length (a .out .now))) (a .out .now) (r .result) 0 (in-26 (a .n) (a .stmts .now) (a .args .now) (a .falls .now) (a .lists .now) (a .succ .now) (a .header) (a .node) (a .lines) (a .key) (a .flag) (length (a .out .now)) (c .before .before .before .before .before .if1 .left) (c .before .before .before .before .if2 .left) (sym (c .before .before .before .frame-outside .ensures) ∙ c .before .before .if3 .left) (r .result) (r .ensures ∙ statement-inside (a .lines) (a .stmts .now) (a .n) (a .node) (c .before .before .before .before .if2 .left) (rows-inside (a .n) (a .stmts .now) (a .args .now) (a .falls .now) (a .lists .now) (a .succ .now) (a .header) (a .node) (sym (c .before .before .before .frame-outside .ensures) ∙ c .before .before .if3 .left))) (c .if4 .taken))
+    answered-refused (frameIn (a .lines) (a .n) (a .stmts .now) (a .args .now) (a .falls .now) (a .lists .now) (a .succ .now) (a .header) (a .node) (a .key) (a .flag) (length (a .out .now))) (a .out .now) (r .result) 0 (in-26 (a .n) (a .stmts .now) (a .args .now) (a .falls .now) (a .lists .now) (a .succ .now) (a .header) (a .node) (a .lines) (a .key) (a .flag) (length (a .out .now)) (c .before .before .before .before .before .if1 .left) (c .before .before .before .before .if2 .left) (sym (c .before .before .before .frame-outside .ensures) ∙ c .before .before .if3 .left) (r .result) (r .ensures ∙ statement-inside (a .lines) (a .stmts .now) (a .n) (a .node) (c .before .before .before .before .if2 .left) (rows-inside (a .n) (a .stmts .now) (a .args .now) (a .falls .now) (a .lists .now) (a .succ .now) (a .header) (a .node) (sym (c .before .before .before .frame-outside .ensures) ∙ c .before .before .if3 .left))) (c .if4 .taken))
 
 write-frame-requires : tie.Need-write-frame-requires
 write-frame-requires c κs =

@@ -4,7 +4,7 @@ use mathlib.Core.Path.{ap, _∙_}
 use mathlib.Core.List.{List}
 use Rattle.tables.specs.Columns.{succPart}
 use Rattle.graph.specs.Questions.{kept}
-use Rattle.frame_slices.specs.FrameSlice.{told-as}
+use Rattle.frame_slices.specs.FrameSlice.{answered-as}
 use Rattle.frame_lists.specs.FrameChecks.{part-is}
 use borrow.Author.Needs.{needs}
 use Rattle.frame_lists.proofs.frame.keep_part.Statement.{statement}
@@ -31,7 +31,7 @@ returns c =
     let z = c .before .before .keep-shared in
     let p = own .successors .ensures ∙ part-is (a .counts .now) (a .lists .now) (a .succ .now) (a .node) (start .pre .1) in
     let q = shared .successors2 .ensures ∙ part-is (a .counts .now) (a .lists .now) (a .succ .now) (a .header) (start .pre .0) in
-    told-as _ (kept (succPart (a .lists .now) (a .succ .now) (a .header)) (succPart (a .lists .now) (a .succ .now) (a .node))) (a .out .now) _ (z .result)
+    answered-as _ (kept (succPart (a .lists .now) (a .succ .now) (a .header)) (succPart (a .lists .now) (a .succ .now) (a .node))) (a .out .now) _ (z .result)
     (ap (λ (x : List ℕ). kept x (own .successors .result .now)) q ∙ ap (λ (x : List ℕ). kept (succPart (a .lists .now) (a .succ .now) (a .header)) x) p) (z .ensures)
 
 pub keep-part-spec : {M : Type 1} → statement M

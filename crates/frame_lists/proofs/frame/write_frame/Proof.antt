@@ -4,7 +4,7 @@ use mathlib.Core.List.{[]}
 use Rattle.tables.specs.Columns.{fallEntry, succPart}
 use Rattle.graph.specs.Questions.{kept}
 use Rattle.frame_lists.specs.FrameAt.{frameRead}
-use Rattle.frame_slices.specs.FrameSlice.{told-as}
+use Rattle.frame_slices.specs.FrameSlice.{answered-as}
 use Rattle.frame_lists.specs.FrameChecks.{read-ended, read-kept, read-call, read-all}
 use borrow.Author.Needs.{needs}
 use Rattle.frame_lists.proofs.frame.write_frame.Statement.{statement}
@@ -42,7 +42,7 @@ returns c =
     let start : tie.Start = search in
     let a = start .args in
     let z = c .before .before .give-nothing in
-    told-as [] (frameRead (a .stmts .now) (a .args .now) (a .falls .now) (a .lists .now) (a .succ .now) (a .header) (a .node) (a .key) (a .flag)) (a .out .now) (z .last .0) (z .result) (read-ended (a .stmts .now) (a .args .now) (a .falls .now) (a .lists .now) (a .succ .now) (a .header) (a .node) (a .key) (a .flag) (sym (c .before .before .before .before .before .ends-frame .ensures) ∙ c .before .before .before .before .if1 .taken)) (z .ensures)
+    answered-as [] (frameRead (a .stmts .now) (a .args .now) (a .falls .now) (a .lists .now) (a .succ .now) (a .header) (a .node) (a .key) (a .flag)) (a .out .now) (z .last .0) (z .result) (read-ended (a .stmts .now) (a .args .now) (a .falls .now) (a .lists .now) (a .succ .now) (a .header) (a .node) (a .key) (a .flag) (sym (c .before .before .before .before .before .ends-frame .ensures) ∙ c .before .before .before .before .if1 .taken)) (z .ensures)
 
 keeps-shared-requires : tie.Need-keeps-shared-requires
 keeps-shared-requires c κs = search needs
@@ -58,7 +58,7 @@ returns-2 c =
     let start : tie.Start = search in
     let a = start .args in
     let z = c .before .before .keep-part in
-    told-as (kept (succPart (a .lists .now) (a .succ .now) (a .header)) (succPart (a .lists .now) (a .succ .now) (a .node))) (frameRead (a .stmts .now) (a .args .now) (a .falls .now) (a .lists .now) (a .succ .now) (a .header) (a .node) (a .key) (a .flag)) (a .out .now) (z .last .1 .1 .1 .1 .1 .0) (z .result)
+    answered-as (kept (succPart (a .lists .now) (a .succ .now) (a .header)) (succPart (a .lists .now) (a .succ .now) (a .node))) (frameRead (a .stmts .now) (a .args .now) (a .falls .now) (a .lists .now) (a .succ .now) (a .header) (a .node) (a .key) (a .flag)) (a .out .now) (z .last .1 .1 .1 .1 .1 .0) (z .result)
     (read-kept (a .stmts .now) (a .args .now) (a .falls .now) (a .lists .now) (a .succ .now) (a .header) (a .node) (a .key) (a .flag) (sym (c .before .before .before .before .before .before .before .ends-frame .ensures) ∙ c .before .before .before .before .before .before .if1 .left) (sym (c .before .before .before .before .before .keeps-shared .ensures) ∙ c .before .before .before .before .if2 .taken)) (z .ensures)
 
 is-call-requires : tie.Need-is-call-requires
@@ -85,7 +85,7 @@ returns-3 c =
     let start : tie.Start = search in
     let a = start .args in
     let z = c .before .before .give-fall in
-    told-as (fallEntry (a .falls .now) (a .node)) (frameRead (a .stmts .now) (a .args .now) (a .falls .now) (a .lists .now) (a .succ .now) (a .header) (a .node) (a .key) (a .flag)) (a .out .now) (z .last .1 .0) (z .result)
+    answered-as (fallEntry (a .falls .now) (a .node)) (frameRead (a .stmts .now) (a .args .now) (a .falls .now) (a .lists .now) (a .succ .now) (a .header) (a .node) (a .key) (a .flag)) (a .out .now) (z .last .1 .0) (z .result)
     (read-call (a .stmts .now) (a .args .now) (a .falls .now) (a .lists .now) (a .succ .now) (a .header) (a .node) (a .key) (a .flag) (sym (c .before .before .before .before .before .before .before .before .before .before .ends-frame .ensures) ∙ c .before .before .before .before .before .before .before .before .before .if1 .left) (sym (c .before .before .before .before .before .before .before .before .keeps-shared .ensures) ∙ c .before .before .before .before .before .before .before .if2 .left) (sym (c .before .before .before .before .before .before .is-call .ensures) ∙ c .before .before .before .before .before .if3 .taken)) (z .ensures)
 
 copy-part-requires : tie.Need-copy-part-requires
@@ -99,7 +99,7 @@ returns-4 c =
     let start : tie.Start = search in
     let a = start .args in
     let z = c .before .before .copy-part in
-    told-as (succPart (a .lists .now) (a .succ .now) (a .node)) (frameRead (a .stmts .now) (a .args .now) (a .falls .now) (a .lists .now) (a .succ .now) (a .header) (a .node) (a .key) (a .flag)) (a .out .now) (z .last .1 .1 .1 .1 .0) (z .result)
+    answered-as (succPart (a .lists .now) (a .succ .now) (a .node)) (frameRead (a .stmts .now) (a .args .now) (a .falls .now) (a .lists .now) (a .succ .now) (a .header) (a .node) (a .key) (a .flag)) (a .out .now) (z .last .1 .1 .1 .1 .0) (z .result)
     (read-all (a .stmts .now) (a .args .now) (a .falls .now) (a .lists .now) (a .succ .now) (a .header) (a .node) (a .key) (a .flag) (sym (c .before .before .before .before .before .before .before .before .before .ends-frame .ensures) ∙ c .before .before .before .before .before .before .before .before .if1 .left) (sym (c .before .before .before .before .before .before .before .keeps-shared .ensures) ∙ c .before .before .before .before .before .before .if2 .left) (sym (c .before .before .before .before .before .is-call .ensures) ∙ c .before .before .before .before .if3 .left)) (z .ensures)
 
 pub write-frame-spec : {M : Type 1} → statement M

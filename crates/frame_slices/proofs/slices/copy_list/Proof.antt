@@ -1,7 +1,7 @@
 -- `copy_list`: too long, or stored with zeros behind. Assumes nothing.
 use mathlib.Core.Path.{refl}
 use lib.ListN.{length}
-use Rattle.frame_slices.specs.FrameSlice.{told-long, told-list}
+use Rattle.frame_slices.specs.FrameSlice.{answered-long, answered-list}
 use borrow.Author.Needs.{needs}
 use Rattle.frame_slices.proofs.slices.copy_list.Statement.{statement}
 use Rattle.frame_slices.proofs.slices.copy_list.Tie as tie
@@ -9,7 +9,7 @@ use Rattle.frame_slices.proofs.slices.copy_list.Tie as tie
 returns : tie.Need-returns
 returns c =
     let a = c .before .before .before .args in
-    told-long (a .list .now) (a .out .now) (length (a .list .now)) refl (search needs)
+    answered-long (a .list .now) (a .out .now) (length (a .list .now)) refl (search needs)
 
 store-list-requires : tie.Need-store-list-requires
 store-list-requires c κs = search needs
@@ -27,7 +27,7 @@ returns-2 c =
     let a = at-start .args in
     let s = at-store-list .store-list in
     let z = c .before .before .clear-behind in
-    told-list (a .list .now) (a .out .now) (s .last .1 .0) (z .last .0) (length (a .list .now)) refl (search needs) (s .ensures) (z .ensures)
+    answered-list (a .list .now) (a .out .now) (s .last .1 .0) (z .last .0) (length (a .list .now)) refl (search needs) (s .ensures) (z .ensures)
 
 pub copy-list-spec : {M : Type 1} → statement M
 copy-list-spec =

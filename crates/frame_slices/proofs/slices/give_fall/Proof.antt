@@ -2,7 +2,7 @@
 use Prim.Native.Nat.{_-_}
 use mathlib.Core.List.{[], _∷_}
 use Rattle.graph_laws.specs.Adding.{decode}
-use Rattle.frame_slices.specs.FrameSlice.{told-as, decode-none, decode-some}
+use Rattle.frame_slices.specs.FrameSlice.{answered-as, decode-none, decode-some}
 use borrow.Author.Needs.{needs}
 use Rattle.frame_slices.proofs.slices.give_fall.Statement.{statement}
 use Rattle.frame_slices.proofs.slices.give_fall.Tie as tie
@@ -17,7 +17,7 @@ returns : tie.Need-returns
 returns c =
     let a = c .before .before .before .before .before .before .args in
     let z = c .before .before .give-nothing in
-    told-as [] (decode (a .t)) (a .out .now) (z .last .0) (z .result) (decode-none (a .t) (search needs)) (z .ensures)
+    answered-as [] (decode (a .t)) (a .out .now) (z .last .0) (z .result) (decode-none (a .t) (search needs)) (z .ensures)
 
 sub-t7 : tie.Need-sub-t7
 sub-t7 c = search needs
@@ -35,7 +35,7 @@ returns-2 : tie.Need-returns-2
 returns-2 c =
     let a = c .before .before .before .before .before .before .before .args in
     let z = c .before .before .copy-list in
-    told-as ((a .t - 1) ∷ []) (decode (a .t)) (a .out .now) (z .last .1 .0) (z .result) (decode-some (a .t) (search needs)) (z .ensures)
+    answered-as ((a .t - 1) ∷ []) (decode (a .t)) (a .out .now) (z .last .1 .0) (z .result) (decode-some (a .t) (search needs)) (z .ensures)
 
 pub give-fall-spec : {M : Type 1} → statement M
 give-fall-spec =

@@ -1,6 +1,6 @@
 -- `keep_shared`: too long, or stored with zeros behind. Assumes nothing.
 use Rattle.graph.specs.Questions.{kept}
-use Rattle.frame_slices.specs.FrameSlice.{told-long, told-list}
+use Rattle.frame_slices.specs.FrameSlice.{answered-long, answered-list}
 use borrow.Author.Needs.{needs}
 use Rattle.frame_slices.proofs.slices.keep_shared.Statement.{statement}
 use Rattle.frame_slices.proofs.slices.keep_shared.Tie as tie
@@ -13,7 +13,7 @@ returns c =
     let at-start : tie.Start = search in
     let a = at-start .args in
     let n = c .before .count-kept in
-    told-long (kept (a .header .now) (a .list .now)) (a .out .now) (n .result) (n .ensures) (search needs)
+    answered-long (kept (a .header .now) (a .list .now)) (a .out .now) (n .result) (n .ensures) (search needs)
 
 store-kept-requires : tie.Need-store-kept-requires
 store-kept-requires c κs = search needs
@@ -33,7 +33,7 @@ returns-2 c =
     let n = at-count-kept .count-kept in
     let s = at-store-kept .store-kept in
     let z = c .before .before .clear-behind in
-    told-list (kept (a .header .now) (a .list .now)) (a .out .now) (s .last .1 .1 .0) (z .last .0) (n .result) (n .ensures) (search needs) (s .ensures) (z .ensures)
+    answered-list (kept (a .header .now) (a .list .now)) (a .out .now) (s .last .1 .1 .0) (z .last .0) (n .result) (n .ensures) (search needs) (s .ensures) (z .ensures)
 
 pub keep-shared-spec : {M : Type 1} → statement M
 keep-shared-spec =

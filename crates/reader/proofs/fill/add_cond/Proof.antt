@@ -7,11 +7,11 @@ use Rattle.reader.specs.Fill.{walk-is}
 use Rattle.reader.proofs.fill.add_cond.Statement.{statement}
 use Rattle.reader.proofs.fill.add_cond.Tie as tie
 
-add-entry-of : tie.Need-add-entry-of
-add-entry-of c = search needs
+add-record-entry : tie.Need-add-record-entry
+add-record-entry c = search needs
 
-entry-of-requires : tie.Need-entry-of-requires
-entry-of-requires c κs = search needs
+record-entry-requires : tie.Need-record-entry-requires
+record-entry-requires c κs = search needs
 
 append-requires : tie.Need-append-requires
 append-requires c κs = search needs
@@ -28,14 +28,14 @@ same-length c = search needs
 returns : tie.Need-returns
 returns c =
     let a = c .before .before .before .before .before .before .before .before .args in
-    (walk-is (c .narrow .ensures) refl, c .before .before .before .before .append .ensures ∙ ap (appendRow (a .stmts .now) (a .s .stmts)) (c .before .before .before .before .before .entry-of .ensures))
+    (walk-is (c .narrow .ensures) refl, c .before .before .before .before .append .ensures ∙ ap (appendRow (a .stmts .now) (a .s .stmts)) (c .before .before .before .before .before .record-entry .ensures))
 
 pub add-cond-spec : {M : Type 1} → statement M
 add-cond-spec =
     tie.close
     (tie.spec
-    add-entry-of
-    entry-of-requires
+    add-record-entry
+    record-entry-requires
     append-requires
     add-narrow
     narrow-requires

@@ -9,17 +9,17 @@ use Rattle.reader.proofs.operands.put_for.Tie as tie
 find-requires : tie.Need-find-requires
 find-requires c κs = search needs
 
-sub-entry-of : tie.Need-sub-entry-of
-sub-entry-of c = search needs
+sub-operand-of : tie.Need-sub-operand-of
+sub-operand-of c = search needs
 
-part-entry-of-start : tie.Need-part-entry-of-start
-part-entry-of-start c = search needs
+part-operand-of-start : tie.Need-part-operand-of-start
+part-operand-of-start c = search needs
 
-part-entry-of-end : tie.Need-part-entry-of-end
-part-entry-of-end c = search needs
+part-operand-of-end : tie.Need-part-operand-of-end
+part-operand-of-end c = search needs
 
-entry-of-requires : tie.Need-entry-of-requires
-entry-of-requires c κs = search needs
+operand-of-requires : tie.Need-operand-of-requires
+operand-of-requires c κs = search needs
 
 slice-write-part : tie.Need-slice-write-part
 slice-write-part c = search needs
@@ -30,7 +30,7 @@ same-length c = search needs
 returns : tie.Need-returns
 returns c =
     let a = c .before .before .before .before .before .before .args in
-    for-alone (a .s .now) (c .before .before .before .find .result) (c .before .before .before .find .ensures .0) (a .part .now) (c .before .entry-of .result) (c .before .before .before .before .before .before .pre) (c .if1 .taken) (c .before .entry-of .ensures)
+    for-alone (a .s .now) (c .before .before .before .find .result) (c .before .before .before .find .ensures .0) (a .part .now) (c .before .operand-of .result) (c .before .before .before .before .before .before .pre) (c .if1 .taken) (c .before .operand-of .ensures)
 
 add-from : tie.Need-add-from
 add-from c = search needs
@@ -54,17 +54,17 @@ returns-2 : tie.Need-returns-2
 returns-2 c =
     let d = c .before .before in
     let a = d .before .before .before .before .before .before .args in
-    for-pair (a .s .now) (d .before .before .before .find .result) (d .before .before .before .find .ensures .0) (a .part .now) (d .before .entry-of .result) (c .tier-of .result) (d .before .before .before .before .before .before .pre) (omega arith) (d .before .entry-of .ensures) (c .tier-of .ensures)
+    for-pair (a .s .now) (d .before .before .before .find .result) (d .before .before .before .find .ensures .0) (a .part .now) (d .before .operand-of .result) (c .tier-of .result) (d .before .before .before .before .before .before .pre) (omega arith) (d .before .operand-of .ensures) (c .tier-of .ensures)
 
 pub put-for-spec : {M : Type 1} → statement M
 put-for-spec =
     tie.close
     (tie.spec
     find-requires
-    sub-entry-of
-    part-entry-of-start
-    part-entry-of-end
-    entry-of-requires
+    sub-operand-of
+    part-operand-of-start
+    part-operand-of-end
+    operand-of-requires
     slice-write-part
     same-length
     returns

@@ -33,17 +33,17 @@ find-requires c κs = search needs
 add-to : tie.Need-add-to Inv-loop μ-loop
 add-to c = search needs
 
-sub-entry-of : tie.Need-sub-entry-of Inv-loop μ-loop
-sub-entry-of c = search needs
+sub-operand-of : tie.Need-sub-operand-of Inv-loop μ-loop
+sub-operand-of c = search needs
 
-part-entry-of-start : tie.Need-part-entry-of-start Inv-loop μ-loop
-part-entry-of-start c = search needs
+part-operand-of-start : tie.Need-part-operand-of-start Inv-loop μ-loop
+part-operand-of-start c = search needs
 
-part-entry-of-end : tie.Need-part-entry-of-end Inv-loop μ-loop
-part-entry-of-end c = search needs
+part-operand-of-end : tie.Need-part-operand-of-end Inv-loop μ-loop
+part-operand-of-end c = search needs
 
-entry-of-requires : tie.Need-entry-of-requires Inv-loop μ-loop
-entry-of-requires c κs = search needs
+operand-of-requires : tie.Need-operand-of-requires Inv-loop μ-loop
+operand-of-requires c κs = search needs
 
 mul-part : tie.Need-mul-part Inv-loop μ-loop
 mul-part c = search needs
@@ -60,7 +60,7 @@ add-n c = search needs
 same-length : tie.Need-same-length Inv-loop μ-loop
 same-length c =
     let l = c .before .before .before .before .before in
-    length-set (l .loop .part) (l .loop .n) (c .before .entry-of .result) ∙ l .loop .inv .2 .long
+    length-set (l .loop .part) (l .loop .n) (c .before .operand-of .result) ∙ l .loop .inv .2 .long
 
 returns : tie.Need-returns Inv-loop μ-loop
 returns c =
@@ -71,7 +71,7 @@ returns c =
     let w = pieceAt s (l .loop .at) (c .before .before .before .find .result) in
     let g = l .loop .inv .2 in
     let h = filling-room f s (a .args .part .now) (l .loop .part) (l .loop .at) (l .loop .n) w g (a .pre) in
-    filling-last f s (a .args .part .now) (l .loop .part) (l .loop .at) (l .loop .n) w g (c .before .entry-of .result) (c .before .entry-of .ensures) h
+    filling-last f s (a .args .part .now) (l .loop .part) (l .loop .at) (l .loop .n) w g (c .before .operand-of .result) (c .before .operand-of .ensures) h
     (next-last 32 s (l .loop .at) (c .before .before .before .find .result) (omega arith) (c .before .before .before .find .ensures .0) (c .if1 .taken))
 
 add-at : tie.Need-add-at Inv-loop μ-loop
@@ -90,7 +90,7 @@ loop-again c =
     let g = l .loop .inv .2 in
     let h = filling-room f s (a .args .part .now) (l .loop .part) (l .loop .at) (l .loop .n) w g (a .pre) in
     let p = next-more 32 s (l .loop .at) (c .before .before .before .find .result) (omega arith) (c .before .before .before .find .ensures .0) (c .if1 .left) (c .before .before .before .find .ensures .1) in
-    (omega arith, omega arith, filling-next f s (a .args .part .now) (l .loop .part) (l .loop .at) (l .loop .n) w g (l .loop .at + c .before .before .before .find .result + 1) (c .before .entry-of .result) (c .before .entry-of .ensures) h (p .1))
+    (omega arith, omega arith, filling-next f s (a .args .part .now) (l .loop .part) (l .loop .at) (l .loop .n) w g (l .loop .at + c .before .before .before .find .result + 1) (c .before .operand-of .result) (c .before .operand-of .ensures) h (p .1))
 
 pub put-words-spec : {M : Type 1} → statement M
 put-words-spec =
@@ -104,10 +104,10 @@ put-words-spec =
     part-find-end
     find-requires
     add-to
-    sub-entry-of
-    part-entry-of-start
-    part-entry-of-end
-    entry-of-requires
+    sub-operand-of
+    part-operand-of-start
+    part-operand-of-end
+    operand-of-requires
     mul-part
     slice-write-part
     add-n

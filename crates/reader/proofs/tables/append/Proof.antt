@@ -10,20 +10,20 @@ use Rattle.reader.proofs.tables.append.Tie as tie
 mul-at : tie.Need-mul-at
 mul-at c = search needs
 
-mul-put-row : tie.Need-mul-put-row
-mul-put-row c = search needs
+mul-put-record : tie.Need-mul-put-record
+mul-put-record c = search needs
 
-sub-put-row : tie.Need-sub-put-row
-sub-put-row c = search needs
+sub-put-record : tie.Need-sub-put-record
+sub-put-record c = search needs
 
-part-put-row-start : tie.Need-part-put-row-start
-part-put-row-start c = search needs
+part-put-record-start : tie.Need-part-put-record-start
+part-put-record-start c = search needs
 
-part-put-row-end : tie.Need-part-put-row-end
-part-put-row-end c = search needs
+part-put-record-end : tie.Need-part-put-record-end
+part-put-record-end c = search needs
 
-put-row-requires : tie.Need-put-row-requires
-put-row-requires c κs = search needs
+put-record-requires : tie.Need-put-record-requires
+put-record-requires c κs = search needs
 
 same-length : tie.Need-same-length
 same-length c = search needs
@@ -32,17 +32,17 @@ returns : tie.Need-returns
 unfolding appendRow
 returns c =
     let a = c .before .before .before .before .before .args in
-    whole (a .t .now) (c .before .before .put-row .last .0) (entryRow (a .e)) (a .n * 12) (length (a .t .now) - a .n * 12) 12 (omega (arith, length-drop (a .n * 12) (a .t .now))) (c .before .before .put-row .ensures)
+    whole (a .t .now) (c .before .before .put-record .last .0) (entryRow (a .e)) (a .n * 12) (length (a .t .now) - a .n * 12) 12 (omega (arith, length-drop (a .n * 12) (a .t .now))) (c .before .before .put-record .ensures)
 
 pub append-spec : {M : Type 1} → statement M
 append-spec =
     tie.close
     (tie.spec
     mul-at
-    mul-put-row
-    sub-put-row
-    part-put-row-start
-    part-put-row-end
-    put-row-requires
+    mul-put-record
+    sub-put-record
+    part-put-record-start
+    part-put-record-end
+    put-record-requires
     same-length
     returns)

@@ -19,14 +19,14 @@ abbrev μ-loop : tie.MeasureT-loop
 loop-holds : tie.Need-loop-holds Inv-loop μ-loop
 loop-holds c = let a = c .before .before .args in (omega arith, refl, within-start decode (a .row .now) _ _)
 
-mul-add-node : tie.Need-mul-add-node Inv-loop μ-loop
-mul-add-node c = search needs
+mul-add-edge : tie.Need-mul-add-edge Inv-loop μ-loop
+mul-add-edge c = search needs
 
-shared-slice-read-add-node : tie.Need-shared-slice-read-add-node Inv-loop μ-loop
-shared-slice-read-add-node c = search needs
+shared-slice-read-add-edge : tie.Need-shared-slice-read-add-edge Inv-loop μ-loop
+shared-slice-read-add-edge c = search needs
 
-add-node-requires : tie.Need-add-node-requires Inv-loop μ-loop
-add-node-requires c κs = search needs
+add-edge-requires : tie.Need-add-edge-requires Inv-loop μ-loop
+add-edge-requires c κs = search needs
 
 add-k : tie.Need-add-k Inv-loop μ-loop
 add-k c = search needs
@@ -41,7 +41,7 @@ loop-again c =
     let at-start : tie.Start Inv-loop μ-loop = search in
     let a = at-start .args in
     let l = at-loop .loop in
-    (search needs, search needs, within-on decode (a .row .now) _ _ _ _ _ _ (l .k) (in-loop .loop-test .taken) (l .inv .2) (c .before .before .add-node .ensures))
+    (search needs, search needs, within-on decode (a .row .now) _ _ _ _ _ _ (l .k) (in-loop .loop-test .taken) (l .inv .2) (c .before .before .add-edge .ensures))
 
 same-length : tie.Need-same-length Inv-loop μ-loop
 same-length c = search needs
@@ -59,9 +59,9 @@ add-targets-spec =
     Inv-loop
     μ-loop
     loop-holds
-    mul-add-node
-    shared-slice-read-add-node
-    add-node-requires
+    mul-add-edge
+    shared-slice-read-add-edge
+    add-edge-requires
     add-k
     loop-less
     loop-again

@@ -61,17 +61,17 @@ returns c =
     let a = at-start .args in
     within-as (jump-only (a .stmts .now) (a .falls .now) (a .links .now) (a .i) (at-wide .wide .result) (at-wide .wide .ensures) (c .if1 .taken)) (c .before .before .before .before .add-targets .ensures)
 
-mul-add-node : tie.Need-mul-add-node
-mul-add-node c = search needs
+mul-add-edge : tie.Need-mul-add-edge
+mul-add-edge c = search needs
 
-mul-add-node-2 : tie.Need-mul-add-node-2
-mul-add-node-2 c = search needs
+mul-add-edge-2 : tie.Need-mul-add-edge-2
+mul-add-edge-2 c = search needs
 
-shared-slice-read-add-node : tie.Need-shared-slice-read-add-node
-shared-slice-read-add-node c = search needs
+shared-slice-read-add-edge : tie.Need-shared-slice-read-add-edge
+shared-slice-read-add-edge c = search needs
 
-add-node-requires : tie.Need-add-node-requires
-add-node-requires c κs = search needs
+add-edge-requires : tie.Need-add-edge-requires
+add-edge-requires c κs = search needs
 
 same-length-2 : tie.Need-same-length-2
 same-length-2 c = let at-part : tie.After-part = search in c .before .part2 .given ∙ at-part .part .given
@@ -83,7 +83,7 @@ returns-2 c =
     let at-wide : tie.After-wide = search in
     let at-start : tie.Start = search in
     let a = at-start .args in
-    within-as (jump-falls (a .stmts .now) (a .falls .now) (a .links .now) (a .i) (at-wide .wide .result) (at-wide .wide .ensures) (at-else1 .if1 .left)) (within-both _ _ _ _ _ _ _ _ (at-add-targets .add-targets .ensures) (c .before .before .add-node .ensures))
+    within-as (jump-falls (a .stmts .now) (a .falls .now) (a .links .now) (a .i) (at-wide .wide .result) (at-wide .wide .ensures) (at-else1 .if1 .left)) (within-both _ _ _ _ _ _ _ _ (at-add-targets .add-targets .ensures) (c .before .before .add-edge .ensures))
 
 pub put-jump-spec : {M : Type 1} → statement M
 put-jump-spec =
@@ -106,9 +106,9 @@ put-jump-spec =
     shared-slice-read-if1
     same-length
     returns
-    mul-add-node
-    mul-add-node-2
-    shared-slice-read-add-node
-    add-node-requires
+    mul-add-edge
+    mul-add-edge-2
+    shared-slice-read-add-edge
+    add-edge-requires
     same-length-2
     returns-2)

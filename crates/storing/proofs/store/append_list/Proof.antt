@@ -3,7 +3,7 @@ use borrow.Author.Needs.{needs}
 use mathlib.Core.Path.{sym, _∙_}
 use native.Mathlib.Omega.{arith}
 use lib.ListN.{length}
-use Rattle.storing.specs.Appending.{append-fits, told-fits, told-other}
+use Rattle.storing.specs.Appending.{append-fits, answered-fits, answered-other}
 use Rattle.storing.proofs.store.append_list.Statement.{statement}
 use Rattle.storing.proofs.store.append_list.Tie as tie
 
@@ -30,7 +30,7 @@ returns c =
     let at-put-list : tie.After-put-list = search in
     let at-then1 : tie.Then1 = search in
     let at-call : tie.After-append-fits = search in
-    told-fits (at-call .append-fits .result) (at-call .append-fits .ensures) (at-then1 .if1 .taken) (at-put-list .put-list .ensures)
+    answered-fits (at-call .append-fits .result) (at-call .append-fits .ensures) (at-then1 .if1 .taken) (at-put-list .put-list .ensures)
 
 same-length-3 : tie.Need-same-length-3
 same-length-3 c = search needs
@@ -43,7 +43,7 @@ returns-2 c =
     let at-call : tie.After-append-fits = search in
     let at-start : tie.Start = search in
     let a = at-start .args in
-    told-other (a .node) (a .at) (a .list .now) (a .lists .now) (a .succ .now) (at-call .append-fits .result) (at-call .append-fits .ensures) (c .if1 .left)
+    answered-other (a .node) (a .at) (a .list .now) (a .lists .now) (a .succ .now) (at-call .append-fits .result) (at-call .append-fits .ensures) (c .if1 .left)
 
 pub append-list-spec : {M : Type 1} → statement M
 append-list-spec =

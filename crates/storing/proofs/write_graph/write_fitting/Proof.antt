@@ -1,7 +1,7 @@
 -- `write_fitting`: counted, then written where the edges fit. Assumes nothing.
 use borrow.Author.Needs.{needs}
 use mathlib.Core.Path.{_∙_}
-use Rattle.storing.specs.StoredGraph.{counts-ready, counted, fits-all, told-fits, told-many, nothing}
+use Rattle.storing.specs.StoredGraph.{counts-ready, counted, fits-all, answered-fits, answered-many, nothing}
 use Rattle.storing.proofs.write_graph.write_fitting.Statement.{statement}
 use Rattle.storing.proofs.write_graph.write_fitting.Tie as tie
 
@@ -67,7 +67,7 @@ returns c =
     let at-start : tie.Start = search ways in
     let f = at-edges-fit .edges-fit in
     let e = counted (at-start .pre .1) (at-count-lists .count-lists .result) (at-count-lists .count-lists .ensures) in
-    record { answer = told-fits _ _ _ _ e (f .result) (f .ensures) (at-then1 .if1 .taken); tables = at-write-tables .write-tables .ensures }
+    record { answer = answered-fits _ _ _ _ e (f .result) (f .ensures) (at-then1 .if1 .taken); tables = at-write-tables .write-tables .ensures }
 
 same-length-6 : tie.Need-same-length-6
 same-length-6 c = search needs
@@ -85,7 +85,7 @@ returns-2 c =
     let at-start : tie.Start = search ways in
     let f = at-edges-fit .edges-fit in
     let e = counted (at-start .pre .1) (at-count-lists .count-lists .result) (at-count-lists .count-lists .ensures) in
-    record { answer = told-many _ _ _ _ e (f .result) (f .ensures) (c .if1 .left); tables = nothing _ _ _ _ _ }
+    record { answer = answered-many _ _ _ _ e (f .result) (f .ensures) (c .if1 .left); tables = nothing _ _ _ _ _ }
 
 pub write-fitting-spec : {M : Type 1} → statement M
 write-fitting-spec =

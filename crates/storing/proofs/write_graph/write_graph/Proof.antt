@@ -1,7 +1,7 @@
 -- `write_graph`: tested, then written where all can be read. Assumes nothing.
 use borrow.Author.Needs.{needs}
 use mathlib.Core.Path.{sym, _∙_}
-use Rattle.storing.specs.StoredGraph.{graph-read, told-outside, told-as, nothing}
+use Rattle.storing.specs.StoredGraph.{graph-read, answered-outside, answered-as, nothing}
 use Rattle.storing.proofs.write_graph.write_graph.Statement.{statement}
 use Rattle.storing.proofs.write_graph.write_graph.Tie as tie
 
@@ -56,7 +56,7 @@ returns c =
     let at-write-fitting : tie.After-write-fitting = search in
     let at-then1 : tie.Then1 = search ways in
     let at-graph-readable : tie.After-graph-readable = search ways in
-    told-as (sym (sym (at-graph-readable .graph-readable .ensures) ∙ at-then1 .if1 .taken)) (at-write-fitting .write-fitting .ensures)
+    answered-as (sym (sym (at-graph-readable .graph-readable .ensures) ∙ at-then1 .if1 .taken)) (at-write-fitting .write-fitting .ensures)
 
 same-length-5 : tie.Need-same-length-5
 same-length-5 c = search needs
@@ -67,7 +67,7 @@ same-length-6 c = search needs
 returns-2 : tie.Need-returns-2
 returns-2 c =
     let at-graph-readable : tie.After-graph-readable = search in
-    told-as (sym (sym (at-graph-readable .graph-readable .ensures) ∙ c .if1 .left)) (record { answer = told-outside _ _; tables = nothing _ _ _ _ _ })
+    answered-as (sym (sym (at-graph-readable .graph-readable .ensures) ∙ c .if1 .left)) (record { answer = answered-outside _ _; tables = nothing _ _ _ _ _ })
 
 pub write-graph-spec : {M : Type 1} → statement M
 write-graph-spec =

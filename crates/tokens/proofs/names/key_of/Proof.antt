@@ -57,25 +57,25 @@ mul-a c =
     let w = n .before .before .before .args .w .now in
     omega (arith, l .loop .inv .1, rest-below w (l .loop .i) (sym (n .before .is-name .ensures) ∙ not-false _ (n .if1 .left)) (omega arith))
 
-shared-slice-read-wide : tie.Need-shared-slice-read-wide Inv-loop μ-loop
-shared-slice-read-wide c = search needs
+shared-slice-read-byte-value : tie.Need-shared-slice-read-byte-value Inv-loop μ-loop
+shared-slice-read-byte-value c = search needs
 
-wide-requires : tie.Need-wide-requires Inv-loop μ-loop
-wide-requires c κs = search needs
+byte-value-requires : tie.Need-byte-value-requires Inv-loop μ-loop
+byte-value-requires c κs = search needs
 
 sub-a : tie.Need-sub-a Inv-loop μ-loop
 sub-a c =
     let l = c .before .before .before in
     let n = l .before in
     let w = n .before .before .before .args .w .now in
-    let t = turn w (l .loop .a) (l .loop .i) (c .wide .result) (sym (n .before .is-name .ensures) ∙ not-false _ (n .if1 .left)) (omega arith) (omega arith) (l .loop .inv .1) (c .wide .ensures) in omega arith
+    let t = turn w (l .loop .a) (l .loop .i) (c .byte-value .result) (sym (n .before .is-name .ensures) ∙ not-false _ (n .if1 .left)) (omega arith) (omega arith) (l .loop .inv .1) (c .byte-value .ensures) in omega arith
 
 add-a : tie.Need-add-a Inv-loop μ-loop
 add-a c =
     let l = c .before .before .before in
     let n = l .before in
     let w = n .before .before .before .args .w .now in
-    let t = turn w (l .loop .a) (l .loop .i) (c .wide .result) (sym (n .before .is-name .ensures) ∙ not-false _ (n .if1 .left)) (omega arith) (omega arith) (l .loop .inv .1) (c .wide .ensures) in omega arith
+    let t = turn w (l .loop .a) (l .loop .i) (c .byte-value .result) (sym (n .before .is-name .ensures) ∙ not-false _ (n .if1 .left)) (omega arith) (omega arith) (l .loop .inv .1) (c .byte-value .ensures) in omega arith
 
 loop-less : tie.Need-loop-less Inv-loop μ-loop
 loop-less c = search needs
@@ -85,7 +85,7 @@ loop-again c =
     let l = c .before .before .before in
     let n = l .before in
     let w = n .before .before .before .args .w .now in
-    let t = turn w (l .loop .a) (l .loop .i) (c .wide .result) (sym (n .before .is-name .ensures) ∙ not-false _ (n .if1 .left)) (omega arith) (omega arith) (l .loop .inv .1) (c .wide .ensures) in
+    let t = turn w (l .loop .a) (l .loop .i) (c .byte-value .result) (sym (n .before .is-name .ensures) ∙ not-false _ (n .if1 .left)) (omega arith) (omega arith) (l .loop .inv .1) (c .byte-value .ensures) in
     (omega arith, t .next)
 
 returns-2 : tie.Need-returns-2 Inv-loop μ-loop
@@ -107,8 +107,8 @@ key-of-spec =
     loop-holds
     sub-i
     mul-a
-    shared-slice-read-wide
-    wide-requires
+    shared-slice-read-byte-value
+    byte-value-requires
     sub-a
     add-a
     loop-less

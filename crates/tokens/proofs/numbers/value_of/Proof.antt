@@ -30,30 +30,30 @@ loop-holds c = search needs
 mul-v : tie.Need-mul-v Inv-loop μ-loop
 mul-v c = search needs
 
-shared-slice-read-wide : tie.Need-shared-slice-read-wide Inv-loop μ-loop
-shared-slice-read-wide c = search needs
+shared-slice-read-byte-value : tie.Need-shared-slice-read-byte-value Inv-loop μ-loop
+shared-slice-read-byte-value c = search needs
 
-wide-requires : tie.Need-wide-requires Inv-loop μ-loop
-wide-requires c κs = search needs
+byte-value-requires : tie.Need-byte-value-requires Inv-loop μ-loop
+byte-value-requires c κs = search needs
 
 sub-v : tie.Need-sub-v Inv-loop μ-loop
 sub-v c =
     let l = c .before .before .before in
     let s = l .before .before in
-    let d = digit-at (s .args .w .now) (l .loop .i) (c .wide .result) (s .pre) (omega arith) (c .wide .ensures) in omega arith
+    let d = digit-at (s .args .w .now) (l .loop .i) (c .byte-value .result) (s .pre) (omega arith) (c .byte-value .ensures) in omega arith
 
 add-v : tie.Need-add-v Inv-loop μ-loop
 add-v c =
     let l = c .before .before .before in
     let s = l .before .before in
-    let d = digit-at (s .args .w .now) (l .loop .i) (c .wide .result) (s .pre) (omega arith) (c .wide .ensures) in omega arith
+    let d = digit-at (s .args .w .now) (l .loop .i) (c .byte-value .result) (s .pre) (omega arith) (c .byte-value .ensures) in omega arith
 
 returns : tie.Need-returns Inv-loop μ-loop
 returns c =
     let l = c .before .before .before .before in
     let w = l .before .before .args .w .now in
     let x = l .loop .v * 10 + (getD w (l .loop .i) 0 - 48) in
-    let e : c .before .wide .result ≡ getD w (l .loop .i) 0 = c .before .wide .ensures in
+    let e : c .before .byte-value .result ≡ getD w (l .loop .i) 0 = c .before .byte-value .ensures in
     let f : value (l .loop .v) (drop (l .loop .i) w) ≡ value x (drop (suc (l .loop .i)) w) = value-next (l .loop .v) w (l .loop .i) (omega arith) in
     (sym (capped-big w (omega (arith, value-grows x (drop (suc (l .loop .i)) w), f, l .loop .inv .2))), omega arith)
 
@@ -67,7 +67,7 @@ loop-again : tie.Need-loop-again Inv-loop μ-loop
 loop-again c =
     let l = c .before .before .before .before in
     let w = l .before .before .args .w .now in
-    let e : c .before .wide .result ≡ getD w (l .loop .i) 0 = c .before .wide .ensures in
+    let e : c .before .byte-value .result ≡ getD w (l .loop .i) 0 = c .before .byte-value .ensures in
     (omega arith, omega arith, rw (add-one, e) (sym (value-next (l .loop .v) w (l .loop .i) (omega arith)) ∙ l .loop .inv .2))
 
 returns-2 : tie.Need-returns-2 Inv-loop μ-loop
@@ -86,8 +86,8 @@ value-of-spec =
     μ-loop
     loop-holds
     mul-v
-    shared-slice-read-wide
-    wide-requires
+    shared-slice-read-byte-value
+    byte-value-requires
     sub-v
     add-v
     returns

@@ -21,7 +21,7 @@ use Rattle.wiring.proofs.falls.connect_then_branch.Kinds as connect-the
 use Rattle.wiring.proofs.falls.+connect_stmt+connect_then_branch.Lts-connect_then_branch as connect-then-branch-lts
 use Rattle.wiring.proofs.falls.connect_row.Reads as connect-row-reads
 use Rattle.wiring.proofs.falls.out_of_order.Reads as out-of-order-reads
-use Rattle.wiring.proofs.falls.put_row.Reads as put-row-reads
+use Rattle.wiring.proofs.falls.put_falls.Reads as put-falls-reads
 use Rattle.wiring.proofs.falls.target_of.Reads as target-of-reads
 use Rattle.layout.proofs.widths.wide.Reads as wide-reads
 use Rattle.wiring.proofs.falls.+connect_stmt+connect_then_branch.{statement}
@@ -63,7 +63,7 @@ connect-then-branch-below t =
 
 -- what each of the two calls
 abbrev stmt-claims : ℕ → connect-stmt-lts.Claims
-stmt-claims t = (put-row-reads.Asked, put-row-reads.Learnt, wide-reads.Asked, wide-reads.Learnt, out-of-order-reads.Asked, out-of-order-reads.Learnt, connect-row-reads.Asked, connect-row-reads.Learnt, connect-then-branch-below t, connect-then-branch.Post)
+stmt-claims t = (put-falls-reads.Asked, put-falls-reads.Learnt, wide-reads.Asked, wide-reads.Learnt, out-of-order-reads.Asked, out-of-order-reads.Learnt, connect-row-reads.Asked, connect-row-reads.Learnt, connect-then-branch-below t, connect-then-branch.Post)
 
 abbrev branch-claims : ℕ → connect-then-branch-lts.Claims
 branch-claims t = (wide-reads.Asked, wide-reads.Learnt, out-of-order-reads.Asked, out-of-order-reads.Learnt, target-of-reads.Asked, target-of-reads.Learnt, connect-stmt-below t, connect-stmt.Post)
@@ -99,8 +99,8 @@ connect-stmt-mul-if1 t c = search needs
 connect-stmt-shared-slice-read-if1 : (t : ℕ) → connect-stmt-lts.Need-shared-slice-read-if1 (stmt-claims t) (connect-stmt-at t) connect-stmt.Post
 connect-stmt-shared-slice-read-if1 t c = search needs
 
-connect-stmt-put-row-requires : (t : ℕ) → connect-stmt-lts.Need-put-row-requires (stmt-claims t) (connect-stmt-at t) connect-stmt.Post
-connect-stmt-put-row-requires t c κs = search needs
+connect-stmt-put-falls-requires : (t : ℕ) → connect-stmt-lts.Need-put-falls-requires (stmt-claims t) (connect-stmt-at t) connect-stmt.Post
+connect-stmt-put-falls-requires t c κs = search needs
 
 connect-stmt-same-length : (t : ℕ) → connect-stmt-lts.Need-same-length (stmt-claims t) (connect-stmt-at t) connect-stmt.Post
 connect-stmt-same-length t c = search needs
@@ -109,7 +109,7 @@ connect-stmt-returns : (t : ℕ) → connect-stmt-lts.Need-returns (stmt-claims 
 connect-stmt-returns t c =
     let at-start : stmt-Start t = search in
     let a = at-start .args in
-    stmt-leaf (a .entries .now) (a .count) (a .stmts .now) (a .depth) (a .i) (a .end) (a .next) (a .falls .now) _ (c .before .before .before .before .if1 .taken) (c .before .before .put-row .ensures)
+    stmt-leaf (a .entries .now) (a .count) (a .stmts .now) (a .depth) (a .i) (a .end) (a .next) (a .falls .now) _ (c .before .before .before .before .if1 .taken) (c .before .before .put-falls .ensures)
 
 connect-stmt-add-wide : (t : ℕ) → connect-stmt-lts.Need-add-wide (stmt-claims t) (connect-stmt-at t) connect-stmt.Post
 connect-stmt-add-wide t c = search needs
@@ -433,7 +433,7 @@ pub +connect-stmt+connect-then-branch-spec : {M : Type 1} → statement M
     (connect-stmt-add-if1 t)
     (connect-stmt-mul-if1 t)
     (connect-stmt-shared-slice-read-if1 t)
-    (connect-stmt-put-row-requires t)
+    (connect-stmt-put-falls-requires t)
     (connect-stmt-same-length t)
     (connect-stmt-returns t)
     (connect-stmt-add-wide t)

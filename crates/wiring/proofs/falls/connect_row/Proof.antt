@@ -53,8 +53,8 @@ shared-slice-read-branch-target-4 c = search needs
 branch-target-requires-2 : tie.Need-branch-target-requires-2
 branch-target-requires-2 c κs = search needs
 
-put-row-requires : tie.Need-put-row-requires
-put-row-requires c κs = search needs
+put-falls-requires : tie.Need-put-falls-requires
+put-falls-requires c κs = search needs
 
 same-length : tie.Need-same-length
 same-length c = search needs
@@ -62,7 +62,7 @@ same-length c = search needs
 returns : tie.Need-returns
 returns c =
     let at-branch-target : tie.After-branch-target = search in
-    λ es et f a g b r em ee. c .before .before .put-row .ensures ∙ row-both _ _ _ _ _ _ _ _ _ _ (at-branch-target .branch-target .ensures) (c .before .before .before .before .branch-target2 .ensures) es et f a g b r em ee
+    λ es et f a g b r em ee. c .before .before .put-falls .ensures ∙ row-both _ _ _ _ _ _ _ _ _ _ (at-branch-target .branch-target .ensures) (c .before .before .before .before .branch-target2 .ensures) es et f a g b r em ee
 
 pub connect-row-spec : {M : Type 1} → statement M
 connect-row-spec =
@@ -84,6 +84,6 @@ connect-row-spec =
     mul-branch-target-4
     shared-slice-read-branch-target-4
     branch-target-requires-2
-    put-row-requires
+    put-falls-requires
     same-length
     returns)

@@ -43,17 +43,17 @@ mul-start c = search needs
 add-end : tie.Need-add-end
 add-end c = search needs
 
-mul-put-row : tie.Need-mul-put-row
-mul-put-row c = search needs
+mul-put-set : tie.Need-mul-put-set
+mul-put-set c = search needs
 
-sub-put-row : tie.Need-sub-put-row
-sub-put-row c = search needs
+sub-put-set : tie.Need-sub-put-set
+sub-put-set c = search needs
 
-part-put-row-start : tie.Need-part-put-row-start
-part-put-row-start c = search needs
+part-put-set-start : tie.Need-part-put-set-start
+part-put-set-start c = search needs
 
-part-put-row-end : tie.Need-part-put-row-end
-part-put-row-end c = search needs
+part-put-set-end : tie.Need-part-put-set-end
+part-put-set-end c = search needs
 
 -- Ways back from a place to an earlier one. `search` finds each by its type.
 abbrev start-of-in-pass : tie.After-in-pass → tie.Start
@@ -61,9 +61,9 @@ start-of-in-pass c = search
 
 ruleset ways = (start-of-in-pass)
 
-put-row-requires : tie.Need-put-row-requires
+put-set-requires : tie.Need-put-set-requires
 unfolding passes
-put-row-requires c κs =
+put-set-requires c κs =
     let at-else1 : tie.Else1 = search in
     let at-in-pass : tie.After-in-pass = search in
     let at-start : tie.Start = search ways in
@@ -91,7 +91,7 @@ returns-2 c =
     let a = at-start .args in
     let k : a .i * 64 + 64 - a .i * 64 ≡ 64 = omega arith in
     row-filled (a .stmts .now) (a .args .now) (a .entries .now) (a .falls .now) (a .links .now) (a .frames .now) (a .dispatched .now) (a .lines) (a .d) (a .i) (a .nexts)
-    (a .part .now) _ _ _ _ (sym (at-in-pass .in-pass .ensures) ∙ not-false _ (at-else1 .if1 .left)) k (at-start .pre .fits) (at-skip-list .skip-list .ensures) (c .before .before .put-row .ensures)
+    (a .part .now) _ _ _ _ (sym (at-in-pass .in-pass .ensures) ∙ not-false _ (at-else1 .if1 .left)) k (at-start .pre .fits) (at-skip-list .skip-list .ensures) (c .before .before .put-set .ensures)
 
 pub fill-row-spec : {M : Type 1} → statement M
 fill-row-spec =
@@ -105,11 +105,11 @@ fill-row-spec =
     skip-list-requires
     mul-start
     add-end
-    mul-put-row
-    sub-put-row
-    part-put-row-start
-    part-put-row-end
-    put-row-requires
+    mul-put-set
+    sub-put-set
+    part-put-set-start
+    part-put-set-end
+    put-set-requires
     same-length
     same-length-2
     returns-2)

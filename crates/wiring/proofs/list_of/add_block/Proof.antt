@@ -49,17 +49,17 @@ returns-2 c =
 falls-on-requires : tie.Need-falls-on-requires
 falls-on-requires c κs = search needs
 
-mul-add-node : tie.Need-mul-add-node
-mul-add-node c = search needs
+mul-add-edge : tie.Need-mul-add-edge
+mul-add-edge c = search needs
 
-mul-add-node-2 : tie.Need-mul-add-node-2
-mul-add-node-2 c = search needs
+mul-add-edge-2 : tie.Need-mul-add-edge-2
+mul-add-edge-2 c = search needs
 
-shared-slice-read-add-node : tie.Need-shared-slice-read-add-node
-shared-slice-read-add-node c = search needs
+shared-slice-read-add-edge : tie.Need-shared-slice-read-add-edge
+shared-slice-read-add-edge c = search needs
 
-add-node-requires : tie.Need-add-node-requires
-add-node-requires c κs = tt
+add-edge-requires : tie.Need-add-edge-requires
+add-edge-requires c κs = tt
 
 same-length-3 : tie.Need-same-length-3
 same-length-3 c = search needs
@@ -73,7 +73,7 @@ returns-3 c =
     let at-start : tie.Start = search in
     let a = at-start .args in
     let e = block-falls (a .falls .now) (a .frames .now) (a .i) (a .word) (at-else1 .if1 .left) (at-else2 .if2 .left) (sym (at-falls-on .falls-on .ensures) ∙ at-then3 .if3 .taken) in
-    grows-as e (grows-within (c .before .before .add-node .ensures) (room-as e (at-start .pre .1)))
+    grows-as e (grows-within (c .before .before .add-edge .ensures) (room-as e (at-start .pre .1)))
 
 returns-4 : tie.Need-returns-4
 returns-4 c =
@@ -95,10 +95,10 @@ add-block-spec =
     same-length-2
     returns-2
     falls-on-requires
-    mul-add-node
-    mul-add-node-2
-    shared-slice-read-add-node
-    add-node-requires
+    mul-add-edge
+    mul-add-edge-2
+    shared-slice-read-add-edge
+    add-edge-requires
     same-length-3
     returns-3
     returns-4)

@@ -25,17 +25,17 @@ wide-requires c κs = search needs
 add-popped-requires : tie.Need-add-popped-requires
 add-popped-requires c κs = let at-start : tie.Start = search in rw (c .before .wide .ensures) (at-start .pre .0 .2)
 
-mul-add-node : tie.Need-mul-add-node
-mul-add-node c = search needs
+mul-add-edge : tie.Need-mul-add-edge
+mul-add-edge c = search needs
 
-mul-add-node-2 : tie.Need-mul-add-node-2
-mul-add-node-2 c = search needs
+mul-add-edge-2 : tie.Need-mul-add-edge-2
+mul-add-edge-2 c = search needs
 
-shared-slice-read-add-node : tie.Need-shared-slice-read-add-node
-shared-slice-read-add-node c = search needs
+shared-slice-read-add-edge : tie.Need-shared-slice-read-add-edge
+shared-slice-read-add-edge c = search needs
 
-add-node-requires : tie.Need-add-node-requires
-add-node-requires c κs = tt
+add-edge-requires : tie.Need-add-edge-requires
+add-edge-requires c κs = tt
 
 same-length : tie.Need-same-length
 same-length c = search needs
@@ -48,7 +48,7 @@ returns c =
     let a = at-start .args in
     let e = next-parts (a .stmts .now) (a .falls .now) (a .links .now) (a .i) (at-wide .wide .result) (at-wide .wide .ensures) in
     let w = room-next _ _ _ _ (room-as e (at-start .pre .1)) _ _ (at-add-popped .add-popped .ensures) in
-    grows-as e (grows-both _ _ _ _ _ _ _ _ (at-add-popped .add-popped .ensures) (grows-within (c .before .before .add-node .ensures) w))
+    grows-as e (grows-both _ _ _ _ _ _ _ _ (at-add-popped .add-popped .ensures) (grows-within (c .before .before .add-edge .ensures) w))
 
 pub add-next-spec : {M : Type 1} → statement M
 add-next-spec =
@@ -60,9 +60,9 @@ add-next-spec =
     shared-slice-read-wide
     wide-requires
     add-popped-requires
-    mul-add-node
-    mul-add-node-2
-    shared-slice-read-add-node
-    add-node-requires
+    mul-add-edge
+    mul-add-edge-2
+    shared-slice-read-add-edge
+    add-edge-requires
     same-length
     returns)

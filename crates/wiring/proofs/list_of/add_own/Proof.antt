@@ -97,8 +97,8 @@ returns-4 c =
     let at-start : tie.Start = search in
     let a = at-start .args in grows-as (own-next (a .stmts .now) (a .entries .now) (a .falls .now) (a .links .now) (a .frames .now) (a .lines) (a .i) (at-else1 .if1 .left) (at-else2 .if2 .left) (at-else3 .if3 .left) (c .before .before .before .before .if4 .taken)) (c .before .before .add-next .ensures)
 
-add-entries-requires : tie.Need-add-entries-requires
-add-entries-requires c κs =
+all-line-entry-nodes-requires : tie.Need-all-line-entry-nodes-requires
+all-line-entry-nodes-requires c κs =
     let at-then5 : tie.Then5 = search in
     let at-else3 : tie.Else3 = search in
     let at-else2 : tie.Else2 = search in
@@ -111,13 +111,13 @@ same-length-5 : tie.Need-same-length-5
 same-length-5 c = c .before .part5 .given
 
 -- Ways back from a place to an earlier one. `search` finds each by its type.
-abbrev start-of-add-entries : tie.After-add-entries → tie.Start
-start-of-add-entries c = search
+abbrev start-of-all-line-entry-nodes : tie.After-all-line-entry-nodes → tie.Start
+start-of-all-line-entry-nodes c = search
 
 abbrev start-of-add-block : tie.After-add-block → tie.Start
 start-of-add-block c = search
 
-ruleset ways = (start-of-add-entries, start-of-add-block)
+ruleset ways = (start-of-all-line-entry-nodes, start-of-add-block)
 
 returns-5 : tie.Need-returns-5
 returns-5 c =
@@ -126,7 +126,7 @@ returns-5 c =
     let at-else2 : tie.Else2 = search in
     let at-else1 : tie.Else1 = search in
     let at-start : tie.Start = search ways in
-    let a = at-start .args in grows-as (own-any (a .stmts .now) (a .entries .now) (a .falls .now) (a .links .now) (a .frames .now) (a .lines) (a .i) (at-else1 .if1 .left) (at-else2 .if2 .left) (at-else3 .if3 .left) (at-then5 .if5 .taken)) (c .before .before .add-entries .ensures)
+    let a = at-start .args in grows-as (own-any (a .stmts .now) (a .entries .now) (a .falls .now) (a .links .now) (a .frames .now) (a .lines) (a .i) (at-else1 .if1 .left) (at-else2 .if2 .left) (at-else3 .if3 .left) (at-then5 .if5 .taken)) (c .before .before .all-line-entry-nodes .ensures)
 
 add-block-requires : tie.Need-add-block-requires
 add-block-requires c κs =
@@ -172,7 +172,7 @@ add-own-spec =
     add-next-requires
     same-length-4
     returns-4
-    add-entries-requires
+    all-line-entry-nodes-requires
     same-length-5
     returns-5
     add-block-requires

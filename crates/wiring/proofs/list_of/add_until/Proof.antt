@@ -27,17 +27,17 @@ add-link-requires c κs =
     let at-start : tie.Start = search in
     body-room _ _ _ _ (at-start .pre .0 .2) (room-first _ _ _ _ (room-as (until-parts (at-start .args .falls .now) (at-start .args .frames .now) (at-start .args .i) (c .before .if1 .left)) (at-start .pre .1)))
 
-mul-add-node : tie.Need-mul-add-node
-mul-add-node c = search needs
+mul-add-edge : tie.Need-mul-add-edge
+mul-add-edge c = search needs
 
-mul-add-node-2 : tie.Need-mul-add-node-2
-mul-add-node-2 c = search needs
+mul-add-edge-2 : tie.Need-mul-add-edge-2
+mul-add-edge-2 c = search needs
 
-shared-slice-read-add-node : tie.Need-shared-slice-read-add-node
-shared-slice-read-add-node c = search needs
+shared-slice-read-add-edge : tie.Need-shared-slice-read-add-edge
+shared-slice-read-add-edge c = search needs
 
-add-node-requires : tie.Need-add-node-requires
-add-node-requires c κs = tt
+add-edge-requires : tie.Need-add-edge-requires
+add-edge-requires c κs = tt
 
 same-length : tie.Need-same-length
 same-length c = search needs
@@ -50,7 +50,7 @@ returns-2 c =
     let a = at-start .args in
     let e = until-parts (a .falls .now) (a .frames .now) (a .i) (at-else1 .if1 .left) in
     let w = room-next _ _ _ _ (room-as e (at-start .pre .1)) _ _ (at-add-link .add-link .ensures) in
-    grows-as e (grows-both _ _ _ _ _ _ _ _ (at-add-link .add-link .ensures) (grows-within (c .before .before .add-node .ensures) w))
+    grows-as e (grows-both _ _ _ _ _ _ _ _ (at-add-link .add-link .ensures) (grows-within (c .before .before .add-edge .ensures) w))
 
 pub add-until-spec : {M : Type 1} → statement M
 add-until-spec =
@@ -61,9 +61,9 @@ add-until-spec =
     shared-slice-read-met
     returns
     add-link-requires
-    mul-add-node
-    mul-add-node-2
-    shared-slice-read-add-node
-    add-node-requires
+    mul-add-edge
+    mul-add-edge-2
+    shared-slice-read-add-edge
+    add-edge-requires
     same-length
     returns-2)

@@ -15,17 +15,17 @@ wide-requires c κs = search needs
 sub-o : tie.Need-sub-o
 sub-o c = omega (arith, c .wide .ensures)
 
-mul-add-node : tie.Need-mul-add-node
-mul-add-node c = let at-start : tie.Start = search in omega (arith, c .before .wide .ensures, at-start .pre .table)
+mul-add-edge : tie.Need-mul-add-edge
+mul-add-edge c = let at-start : tie.Start = search in omega (arith, c .before .wide .ensures, at-start .pre .table)
 
-mul-add-node-2 : tie.Need-mul-add-node-2
-mul-add-node-2 c = let at-start : tie.Start = search in omega (arith, c .before .wide .ensures, at-start .pre .table)
+mul-add-edge-2 : tie.Need-mul-add-edge-2
+mul-add-edge-2 c = let at-start : tie.Start = search in omega (arith, c .before .wide .ensures, at-start .pre .table)
 
-shared-slice-read-add-node : tie.Need-shared-slice-read-add-node
-shared-slice-read-add-node c = let at-start : tie.Start = search in omega (arith, c .before .before .wide .ensures, at-start .pre .table)
+shared-slice-read-add-edge : tie.Need-shared-slice-read-add-edge
+shared-slice-read-add-edge c = let at-start : tie.Start = search in omega (arith, c .before .before .wide .ensures, at-start .pre .table)
 
-add-node-requires : tie.Need-add-node-requires
-add-node-requires c κs = tt
+add-edge-requires : tie.Need-add-edge-requires
+add-edge-requires c κs = tt
 
 same-length : tie.Need-same-length
 same-length c = search needs
@@ -35,7 +35,7 @@ returns-2 c =
     let at-wide : tie.After-wide = search in
     let at-else1 : tie.Else1 = search in
     let at-start : tie.Start = search in
-    link-one _ _ _ _ _ _ _ (at-wide .wide .ensures) (at-else1 .if1 .left) (grows-one (link-fit _ _ _ _ _ (at-wide .wide .ensures) (at-else1 .if1 .left) (at-start .pre)) (c .before .before .add-node .ensures))
+    link-one _ _ _ _ _ _ _ (at-wide .wide .ensures) (at-else1 .if1 .left) (grows-one (link-fit _ _ _ _ _ (at-wide .wide .ensures) (at-else1 .if1 .left) (at-start .pre)) (c .before .before .add-edge .ensures))
 
 pub add-link-spec : {M : Type 1} → statement M
 add-link-spec =
@@ -44,9 +44,9 @@ add-link-spec =
     returns
     wide-requires
     sub-o
-    mul-add-node
-    mul-add-node-2
-    shared-slice-read-add-node
-    add-node-requires
+    mul-add-edge
+    mul-add-edge-2
+    shared-slice-read-add-edge
+    add-edge-requires
     same-length
     returns-2)

@@ -21,17 +21,17 @@ shared-slice-read-selects c = search needs
 selects-requires : tie.Need-selects-requires
 selects-requires c κs = search needs
 
-mul-add-node : tie.Need-mul-add-node
-mul-add-node c = search needs
+mul-add-edge : tie.Need-mul-add-edge
+mul-add-edge c = search needs
 
-mul-add-node-2 : tie.Need-mul-add-node-2
-mul-add-node-2 c = search needs
+mul-add-edge-2 : tie.Need-mul-add-edge-2
+mul-add-edge-2 c = search needs
 
-shared-slice-read-add-node : tie.Need-shared-slice-read-add-node
-shared-slice-read-add-node c = search needs
+shared-slice-read-add-edge : tie.Need-shared-slice-read-add-edge
+shared-slice-read-add-edge c = search needs
 
-add-node-requires : tie.Need-add-node-requires
-add-node-requires c κs = tt
+add-edge-requires : tie.Need-add-edge-requires
+add-edge-requires c κs = tt
 
 same-length : tie.Need-same-length
 same-length c = search needs
@@ -43,7 +43,7 @@ returns c =
     let at-wide : tie.After-wide = search in
     let at-start : tie.Start = search in
     let a = at-start .args in
-    for-selected (a .args .now) (a .falls .now) _ _ (a .key) (a .o) _ (at-wide .wide .ensures) _ _ (sym (at-selects .selects .ensures) ∙ at-then1 .if1 .taken) (grows-one (for-fit (a .args .now) (a .falls .now) _ _ (a .key) (a .o) _ (at-wide .wide .ensures) (at-start .pre)) (c .before .before .add-node .ensures))
+    for-selected (a .args .now) (a .falls .now) _ _ (a .key) (a .o) _ (at-wide .wide .ensures) _ _ (sym (at-selects .selects .ensures) ∙ at-then1 .if1 .taken) (grows-one (for-fit (a .args .now) (a .falls .now) _ _ (a .key) (a .o) _ (at-wide .wide .ensures) (at-start .pre)) (c .before .before .add-edge .ensures))
 
 returns-2 : tie.Need-returns-2
 returns-2 c =
@@ -60,10 +60,10 @@ add-selected-spec =
     mul-selects-2
     shared-slice-read-selects
     selects-requires
-    mul-add-node
-    mul-add-node-2
-    shared-slice-read-add-node
-    add-node-requires
+    mul-add-edge
+    mul-add-edge-2
+    shared-slice-read-add-edge
+    add-edge-requires
     same-length
     returns
     returns-2)

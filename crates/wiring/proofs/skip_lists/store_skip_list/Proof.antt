@@ -2,7 +2,7 @@
 use native.Mathlib.Omega.{arith}
 use borrow.Author.Needs.{needs}
 use Rattle.passes.specs.SkipLists.{list-kept, skip-list-ready, skip-total, skip-room, skip-over, skip-fits, skip-store}
-use Rattle.storing.specs.Appending.{told-appended}
+use Rattle.storing.specs.Appending.{answered-appended}
 use Rattle.wiring.proofs.skip_lists.store_skip_list.Statement.{statement}
 use Rattle.wiring.proofs.skip_lists.store_skip_list.Tie as tie
 
@@ -59,7 +59,7 @@ returns-2 c =
     let p = at-start .pre in
     let l = at-list-of .list-of .ensures in
     let k = at-skip-list .skip-list .ensures in
-    skip-store p l k (told-appended _ (list-kept k) (skip-fits p l k (at-else1 .if1 .left)) (c .before .before .before .before .append-list .ensures))
+    skip-store p l k (answered-appended _ (list-kept k) (skip-fits p l k (at-else1 .if1 .left)) (c .before .before .before .before .append-list .ensures))
 
 pub store-skip-list-spec : {M : Type 1} → statement M
 store-skip-list-spec =

@@ -1,15 +1,15 @@
 -- `find_returns`: with handlers nothing; else by regions, or by rows of bits. Assumes nothing.
 use borrow.Author.Needs.{needs}
 use native.Mathlib.Omega.{arith}
-use Rattle.wiring.specs.CountGraph.{returns-through, regions-found, spread-ready, spread-found}
+use Rattle.wiring.specs.CountGraph.{returns-through, regions-found, by-rows-ready, by-rows-found}
 use Rattle.wiring.proofs.wire.find_returns.Statement.{statement}
 use Rattle.wiring.proofs.wire.find_returns.Tie as tie
 
 returns : tie.Need-returns
 returns c = let at-start : tie.Start = search in returns-through (at-start .args .handlers) (c .if1 .taken)
 
-spread-return-edges-requires : tie.Need-spread-return-edges-requires
-spread-return-edges-requires c κs = let at-start : tie.Start = search in spread-ready (at-start .pre)
+return-edges-by-filled-rows-requires : tie.Need-return-edges-by-filled-rows-requires
+return-edges-by-filled-rows-requires c κs = let at-start : tie.Start = search in by-rows-ready (at-start .pre)
 
 same-length : tie.Need-same-length
 same-length c = c .before .before .before .args2 .given
@@ -21,7 +21,7 @@ returns-2 : tie.Need-returns-2
 returns-2 c =
     let at-then2 : tie.Then2 = search in
     let at-start : tie.Start = search in
-    spread-found (at-start .args .handlers) (λ q. omega (arith, at-then2 .if2 .taken)) (c .before .before .before .before .spread-return-edges .ensures)
+    by-rows-found (at-start .args .handlers) (λ q. omega (arith, at-then2 .if2 .taken)) (c .before .before .before .before .return-edges-by-filled-rows .ensures)
 
 region-return-edges-requires : tie.Need-region-return-edges-requires
 region-return-edges-requires c κs = search needs
@@ -39,7 +39,7 @@ find-returns-spec =
     tie.close
     (tie.spec
     returns
-    spread-return-edges-requires
+    return-edges-by-filled-rows-requires
     same-length
     same-length-2
     returns-2

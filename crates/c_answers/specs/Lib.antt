@@ -1,0 +1,2 @@
+pub mod BuildNumbers
+pub mod QuestionNumbers

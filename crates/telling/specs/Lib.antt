@@ -1,2 +1,0 @@
-pub mod BuildTold
-pub mod QuestionTold
