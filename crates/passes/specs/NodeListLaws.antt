@@ -6,9 +6,8 @@ use mathlib.Core.List.{List, [], _++_, append-nil}
 use native.Mathlib.Omega.{arith}
 use native.Mathlib.Numerals.{sub-one}
 use borrow.Author.Tests.{lt-ltb, le-ltb, ne-eqb}
-use lib.Dec.{eqb, ltb}
+use lib.Dec.{eqb}
 use lib.ListN.{length, getD, take, drop}
-use Rattle.listings.specs.Bytes.{pick}
 use Rattle.graph.specs.Lists.{each}
 use Rattle.graph_laws.specs.Adding.{decode}
 use Rattle.passes.specs.ForLinks.{poppedBy}
@@ -44,10 +43,6 @@ module _ (ts en ls : List ℕ) (lines i c : ℕ) (e : c ≡ getD ts (i * 12 + 10
 -- ---- GOTO, GOSUB, RETURN, ON GOTO, ON GOSUB
 
 module _ (ts fs ls : List ℕ) (i c : ℕ) (e : c ≡ getD ts (i * 12 + 10) 0) where
-  pub jump-parts : each decode (lent ls (i * 64) c) ++ pick (ltb (getD ts (i * 12) 0) 11) [] (decode (getD fs (i * 3) 0)) ≡ jumpEdges ts fs ls i
-  unfolding jumpEdges wordOf fallEntry
-  jump-parts = rw (links-lent ts ls i c e)
-
   pub jump-only : getD ts (i * 12) 0 < 11 → each decode (lent ls (i * 64) c) ≡ jumpEdges ts fs ls i
   unfolding jumpEdges wordOf
   jump-only h = rw (links-lent ts ls i c e, lt-ltb (getD ts (i * 12) 0) 11 h) (sym (append-nil (linkEntries ts ls i)))

@@ -10,6 +10,7 @@ use borrow.Author.Tests.{lt-ltb, le-ltb, le-leb, lt-leb, leb-true}
 use lib.Dec.{ltb, leb}
 use lib.ListN.{length, length-append, length-drop, getD, set, take, drop, take-append-drop, drop-of-length-le}
 use lib.Seq.{take-suc, take-all, take-at, drop-at, take-suc-set, drop-set-lt, drop-drop, drop-append-add, length-take-le}
+use Rattle.layout.specs.Layout.{stmtEntries, argEntries, fallEntries, countColumn}
 use Rattle.listings.specs.Bytes.{pick}
 use Rattle.listings.specs.NumberText.{both-true}
 use Rattle.listings.specs.Every.{all[], all∷}
@@ -240,7 +241,7 @@ grows-one {p} {q} {n} {r} {t} w a = grows-of a (w .within) (go t (w .free))
 -- node i's record, where it falls and its links stand in their tables, and it has at most 64 targets
 unfoldable pub jumpReadable : (stmts falls links : List ℕ) (i : ℕ) → Bool
 jumpReadable stmts falls links i =
-    leb (i * 12 + 12) (length stmts) && (leb (i * 3 + 3) (length falls) && (leb (i * 64 + 64) (length links) && leb (getD stmts (i * 12 + 10) 0) 64))
+    leb (i * stmtEntries + stmtEntries) (length stmts) && (leb (i * fallEntries + fallEntries) (length falls) && (leb (i * argEntries + argEntries) (length links) && leb (getD stmts (i * stmtEntries + countColumn) 0) 64))
 
 -- its targets, and where an ON falls; nothing where it cannot be read
 unfoldable pub jumpRead : (stmts falls links : List ℕ) (i : ℕ) → List ℕ

@@ -8,6 +8,7 @@ use borrow.Author.Tests.{leb-true, le-leb, lt-leb}
 use lib.Dec.{leb}
 use lib.ListN.{length, take}
 use lib.Seq.{take-all}
+use Rattle.layout.specs.Layout.{listEntries}
 use Rattle.listings.specs.NumberText.{both-true}
 use Rattle.tables.specs.Readable.{both-so}
 use Rattle.passes.specs.EdgeTable.{Appended}
@@ -15,7 +16,7 @@ use Rattle.passes.specs.Connecting.{no}
 
 -- the node has a row, and a list of so many entries from `at` on ends within the table, at an entry that a row can name
 unfoldable pub appendFits : (node at count : ℕ) (lists succ : List ℕ) → Bool
-appendFits node at count lists succ = leb (node * 4 + 4) (length lists) && (leb (at + count) (length succ) && leb (at + count) 65535)
+appendFits node at count lists succ = leb (node * listEntries + listEntries) (length lists) && (leb (at + count) (length succ) && leb (at + count) 65535)
 
 pub record Unchanged (at : ℕ) (lists lists′ succ succ′ : List ℕ) (r : ℕ) : Type 0 where
   pub answer : r ≡ at

@@ -7,7 +7,7 @@ use native.Mathlib.Omega.{arith}
 use borrow.Author.Tests.{leb-true, le-leb, lt-leb, eqb-true, eq-eqb}
 use lib.Dec.{eqb, leb}
 use lib.ListN.{length, getD, set, take, drop}
-use Rattle.layout.specs.Layout.{returnWord}
+use Rattle.layout.specs.Layout.{returnWord, listEntries}
 use Rattle.listings.specs.Bytes.{pick}
 use Rattle.listings.specs.NumberText.{both-true}
 use Rattle.listings.specs.Every.{All, all[], all∷, all-append}
@@ -57,7 +57,7 @@ storedOf true true edges = stored.Written edges
 pub record GraphStored (stmts args : List ℕ) (n rows : ℕ) (counts lists : List ℕ) (targets : ℕ) (succ pred : List ℕ) (ls : List (List ℕ)) (counts′ args′ lists′ succ′ pred′ : List ℕ) : Type 0 where
   pub counts-are : counts′ ≡ set (set (set counts 3 (length (joinedLists ls))) 4 targets) 5 rows
   pub cleared : SetsCleared stmts n args args′
-  pub lists-are : lists′ ≡ listRows ls (sourcesOf ls) n ++ drop (n * 4) lists
+  pub lists-are : lists′ ≡ listRows ls (sourcesOf ls) n ++ drop (n * listEntries) lists
   pub succ-are : succ′ ≡ joinedLists ls ++ drop (length (joinedLists ls)) succ
   pub pred-are : pred′ ≡ joinedLists (sourcesOf ls) ++ drop (length (joinedLists ls)) pred
 
@@ -75,7 +75,7 @@ TablesAnswered (stored.Refused number place) stmts args n rows counts lists targ
 -- the lists and their predecessors, total edges in all
 pub record EdgesStored (n : ℕ) (lists lists′ succ succ′ pred pred′ : List ℕ) (ls : List (List ℕ)) (total : ℕ) : Type 0 where
   pub total-is : total ≡ length (joinedLists ls)
-  pub lists-are : lists′ ≡ listRows ls (sourcesOf ls) n ++ drop (n * 4) lists
+  pub lists-are : lists′ ≡ listRows ls (sourcesOf ls) n ++ drop (n * listEntries) lists
   pub succ-are : succ′ ≡ joinedLists ls ++ drop (length (joinedLists ls)) succ
   pub pred-are : pred′ ≡ joinedLists (sourcesOf ls) ++ drop (length (joinedLists ls)) pred
 
@@ -252,9 +252,6 @@ module _ {handlers : Bool} {stmts args falls links : List ℕ} {n : ℕ} {lists 
         where
           behind : length ls ≡ n → drop (n * 4) lists₁ ≡ drop (n * 4) lists
           behind e = ap (λ (x : ℕ). drop (x * 4) lists₁) (sym e) ∙ columns-past (done .rows) ∙ ap (λ (x : ℕ). drop (x * 4) lists) e
-
-      pub total-few : total < 65536
-      total-few = omega (arith, done .used, f .few)
 
     -- the whole
     pub graph-stored : {rows total : ℕ} {counts counts′ args′ lists′ succ′ pred′ : List ℕ} → EdgesStored n lists lists′ succ succ′ pred pred′ ls total → ClearAnswered stmts n args args′
