@@ -16,3 +16,5 @@ pub mod Traps
 pub mod RunCases
 pub mod Questions
 pub mod QuestionsOpened
+pub mod Check
+pub mod CheckCases
