@@ -16,4 +16,6 @@ pub mod StackLaws
 pub mod ForLaws
 pub mod PerNodeLaws
 pub mod Numbers
+pub mod Checked
+pub mod CheckLaws
 pub mod Theorems
