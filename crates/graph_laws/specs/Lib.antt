@@ -17,5 +17,7 @@ pub mod ForLaws
 pub mod PerNodeLaws
 pub mod Numbers
 pub mod Checked
+pub mod FilledForms
+pub mod FormLaws
 pub mod CheckLaws
 pub mod Theorems

@@ -41,7 +41,7 @@ pub digit-range : (b : ℕ) → isDigit b ≡ true → (48 ≤ b) × (b ≤ 57)
 unfolding isDigit
 digit-range b h = let p = both-true (leb 48 b) (leb b 57) h in (leb-true 48 b (p .0), leb-true b 57 (p .1))
 
-digit-is : (b : ℕ) → b < 10 → isDigit (48 + b) ≡ true
+pub digit-is : (b : ℕ) → b < 10 → isDigit (48 + b) ≡ true
 unfolding isDigit
 digit-is b h = rw (le-leb 48 (48 + b) (omega arith), le-leb (48 + b) 57 (omega arith))
 

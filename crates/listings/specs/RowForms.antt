@@ -20,14 +20,14 @@ join s [] = []
 join s (w ∷ []) = w
 join s (w ∷ v ∷ ws) = w ++ (s ∷ join s (v ∷ ws))
 
-split-last : (s : ℕ) (w : List ℕ) → lacks s w ≡ true → split s w ≡ w ∷ []
+pub split-last : (s : ℕ) (w : List ℕ) → lacks s w ≡ true → split s w ≡ w ∷ []
 unfolding split onFirst lacks all
 split-last s [] h = refl
 split-last s (b ∷ w) h =
     let p = both-true (not (eqb b s)) (lacks s w) h in
     rw (not-true (eqb b s) (p .0), split-last s w (p .1))
 
-split-next : (s : ℕ) (w l : List ℕ) → lacks s w ≡ true → split s (w ++ (s ∷ l)) ≡ w ∷ split s l
+pub split-next : (s : ℕ) (w l : List ℕ) → lacks s w ≡ true → split s (w ++ (s ∷ l)) ≡ w ∷ split s l
 unfolding split onFirst lacks all
 split-next s [] l h = rw (eq-eqb s s refl)
 split-next s (b ∷ w) l h =
