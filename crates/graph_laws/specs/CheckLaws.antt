@@ -1,7 +1,7 @@
 -- A graph is found right exactly when it is the one that the definition gives. Assumes nothing.
 use Prim.Native.Nat.{ℕ, zero, suc, _<_}
 use mathlib.Core.Path.{_≡_, refl, sym, ap, _∙_}
-use mathlib.Core.Bool.{Bool, true, false}
+use mathlib.Core.Bool.{Bool, true, false, not}
 use mathlib.Core.List.{List, [], _∷_, _++_, append-assoc}
 use mathlib.Core.Logic.{_↔_}
 use native.Mathlib.Omega.{arith}
@@ -9,9 +9,10 @@ use lib.Dec.{eqb}
 use borrow.Author.Tests.{eq-eqb}
 use Rattle.listings.specs.Bytes.{bytes, same, pick}
 use Rattle.listings.specs.Listing.{Listing}
-use Rattle.listings.specs.Rows.{onFirst, split}
+use Rattle.listings.specs.Rows.{onFirst, split, all}
+use Rattle.listings.specs.Every.{All, all[], all∷}
 use Rattle.listings.specs.RowForms.{join, join-split}
-use Rattle.listings.specs.WordText.{same-equal}
+use Rattle.listings.specs.WordText.{lacks, same-equal}
 use Rattle.graph.specs.Print.{printed}
 use Rattle.graph.specs.Build.{Capacity, Built, graph, refused, build}
 use Rattle.graph.specs.Check.{Verdict, right, wrong, rowNumber, compared, against, checked}
@@ -20,7 +21,7 @@ use Rattle.graph_laws.specs.Checked.{IsGraphOf}
 -- ---- pieces
 
 -- there is a first piece
-split-first : (s : ℕ) (l : List ℕ) → (w : List ℕ) × (ws : List (List ℕ)) × (split s l ≡ w ∷ ws)
+pub split-first : (s : ℕ) (l : List ℕ) → (w : List ℕ) × (ws : List (List ℕ)) × (split s l ≡ w ∷ ws)
 unfolding split onFirst
 split-first s [] = ([], [], refl)
 split-first s (b ∷ l) = go (eqb b s) (split s l)
@@ -29,6 +30,17 @@ split-first s (b ∷ l) = go (eqb b s) (split s l)
     go true vs = ([], vs, refl)
     go false [] = (b ∷ [], [], refl)
     go false (v ∷ vs) = (b ∷ v, vs, refl)
+
+-- pieces by the byte s lack it
+pub split-lacks : (s : ℕ) (l : List ℕ) → All (λ w. lacks s w ≡ true) (split s l)
+unfolding split onFirst lacks all
+split-lacks s [] = all∷ refl all[]
+split-lacks s (b ∷ l) = go (eqb b s) refl (split-lacks s l)
+  where
+    go : (x : Bool) → eqb b s ≡ x → {ws : List (List ℕ)} → All (λ w. lacks s w ≡ true) ws → All (λ w. lacks s w ≡ true) (pick x ([] ∷ ws) (onFirst b ws))
+    go true e h = all∷ refl h
+    go false e all[] = all∷ {a = b ∷ []} (rw e) all[]
+    go false e (all∷ {a = w} h hs) = all∷ {a = b ∷ w} (rw (e, h)) hs
 
 -- a text that ends with the byte s has nothing behind the last one
 split-end : (s : ℕ) (l : List ℕ) → split s (l ++ (s ∷ [])) ≡ split s l ++ ([] ∷ [])
@@ -41,11 +53,11 @@ split-end s (b ∷ l) = let f = split-first s l in rw (split-end s l, f .2) (go 
     go false w ws = refl
 
 -- the last byte of a text; d if it has none
-unfoldable lastByte : ℕ → List ℕ → ℕ
+unfoldable pub lastByte : ℕ → List ℕ → ℕ
 lastByte d [] = d
 lastByte d (b ∷ l) = lastByte b l
 
-last-append : (d : ℕ) (k l : List ℕ) → lastByte d (k ++ l) ≡ lastByte (lastByte d k) l
+pub last-append : (d : ℕ) (k l : List ℕ) → lastByte d (k ++ l) ≡ lastByte (lastByte d k) l
 unfolding lastByte
 last-append d [] l = refl
 last-append d (b ∷ k) l = last-append b k l
@@ -55,24 +67,25 @@ unfolding lastByte
 last-is b [] = ([], refl)
 last-is b (c ∷ l) = let r = last-is c l in (b ∷ r .0, ap (λ (z : List ℕ). b ∷ z) (r .1))
 
-last-piece : (s : ℕ) (l : List ℕ) → 0 < s → lastByte 0 l ≡ s → (rs : List (List ℕ)) × (split s l ≡ rs ++ ([] ∷ []))
+pub last-piece : (s : ℕ) (l : List ℕ) → 0 < s → lastByte 0 l ≡ s → (rs : List (List ℕ)) × (split s l ≡ rs ++ ([] ∷ [])) × All (λ w. lacks s w ≡ true) rs
 unfolding lastByte
 last-piece s [] h e = absurd (omega arith)
-last-piece s (b ∷ l) h e = let r = last-is b l in (split s (r .0), ap (split s) (r .1 ∙ ap (λ (z : ℕ). r .0 ++ (z ∷ [])) e) ∙ split-end s (r .0))
+last-piece s (b ∷ l) h e = let r = last-is b l in (split s (r .0), ap (split s) (r .1 ∙ ap (λ (z : ℕ). r .0 ++ (z ∷ [])) e) ∙ split-end s (r .0), split-lacks s (r .0))
+
+pub printed-last : (L : Listing) → lastByte 0 (printed L) ≡ 10
+unfolding printed bytes lastByte
+printed-last L = simp last-append
 
 -- what stands between the bytes 10 of a printed graph: its rows, and nothing behind the last
-pub printed-pieces : (L : Listing) → (rs : List (List ℕ)) × (split 10 (printed L) ≡ rs ++ ([] ∷ []))
-printed-pieces L = last-piece 10 (printed L) (omega arith) (ends L)
-  where
-    ends : (L : Listing) → lastByte 0 (printed L) ≡ 10
-    ends L = unfold printed in unfold bytes in unfold lastByte in simp last-append
+pub printed-pieces : (L : Listing) → (rs : List (List ℕ)) × (split 10 (printed L) ≡ rs ++ ([] ∷ [])) × All (λ w. lacks 10 w ≡ true) rs
+printed-pieces L = last-piece 10 (printed L) (omega arith) (printed-last L)
 
 -- ---- the check
 
-not-right : {n p : ℕ} {A : Type 0} → wrong n p ≡ right → A
+pub not-right : {n p : ℕ} {A : Type 0} → wrong n p ≡ right → A
 not-right e = absurd (let z : _≡_ {A = ℕ} 0 1 = cc in omega arith)
 
-same-refl : (l : List ℕ) → same l l ≡ true
+pub same-refl : (l : List ℕ) → same l l ≡ true
 unfolding same
 same-refl [] = refl
 same-refl (b ∷ l) = rw (eq-eqb b b refl, same-refl l)

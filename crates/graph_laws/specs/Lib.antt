@@ -16,8 +16,9 @@ pub mod StackLaws
 pub mod ForLaws
 pub mod PerNodeLaws
 pub mod Numbers
-pub mod Checked
 pub mod FilledForms
 pub mod FormLaws
+pub mod Checked
 pub mod CheckLaws
+pub mod FirstWrong
 pub mod Theorems
