@@ -230,7 +230,7 @@ module _ (L : Listing) where
   unfolding allSuccessors successors
   at-node j h = at-map (successorsIn (L .handlers) (wire L)) (at-below (nodeCount L) j h)
 
-  few-lists : length (allSuccessors L) ≡ nodeCount L
+  pub few-lists : length (allSuccessors L) ≡ nodeCount L
   unfolding allSuccessors
   few-lists = length-map (successorsIn (L .handlers) (wire L)) (below (nodeCount L)) ∙ length-below (nodeCount L)
 

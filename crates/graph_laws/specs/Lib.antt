@@ -16,9 +16,11 @@ pub mod StackLaws
 pub mod ForLaws
 pub mod PerNodeLaws
 pub mod Numbers
+pub mod NodeBounds
 pub mod FilledForms
 pub mod FormLaws
 pub mod Checked
 pub mod CheckLaws
 pub mod FirstWrong
+pub mod PrintedRows
 pub mod Theorems

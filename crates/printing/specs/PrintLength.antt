@@ -10,19 +10,19 @@ use native.Mathlib.Decide.{decLt}
 use lib.Dec.{leb, leb→le}
 use lib.ListN.{length, getD, length-append}
 use Rattle.listings.specs.Bytes.{bytes, decimal, pick}
-use Rattle.listings.specs.Listing.{Stmts, ∅, _▸_, branching, Lines, nolines, line, Listing, size, len, total, count}
-use Rattle.listings.specs.ListingText.{StmtsOk, LinesOk}
+use Rattle.listings.specs.Listing.{Listing, total, count}
+use Rattle.listings.specs.ListingText.{LinesOk}
 use Rattle.listings.specs.NumberText.{decimal-small, decimal-more}
-use Rattle.listings.specs.Every.{All, all[], all∷, all-append}
+use Rattle.listings.specs.Every.{All, all[], all∷}
 use Rattle.listings.specs.Read.{Answer, listing, refusal, read}
-use Rattle.graph.specs.Lists.{has, each, list, below}
+use Rattle.graph.specs.Lists.{each, list, below}
 use Rattle.graph_laws.specs.Members.{all-map}
-use Rattle.graph.specs.Nodes.{Node, allocate, lineEntry, nodesBefore, nodes, LineEntry, entriesBefore, entries}
-use Rattle.graph_laws.specs.NodeLaws.{Below, EntryFits, length-nodes}
-use Rattle.graph_laws.specs.EdgeBounds.{Ids}
+use Rattle.graph.specs.Nodes.{Node, nodes, LineEntry, entriesBefore, entries}
+use Rattle.graph_laws.specs.NodeLaws.{EntryFits, length-nodes}
 use Rattle.graph_laws.specs.Distinct.{dist[], few, distinct-all}
 use Rattle.graph.specs.Graph.{Role, call, returns, forgets, steps, noNode, Wired, wire, role, fallFrom, continuationBy, continuation, returnTargets, successors, allSuccessors, predecessorsIn}
 use Rattle.graph_laws.specs.GraphLaws.{nodeCount, entry-ids, continuation-ids, target-ids, lists-ok}
+use Rattle.graph_laws.specs.NodeBounds.{Small, NodeShort, all-get, pred-ids, below-all, entry-numbers, below-le, all-both, node-count, small, nodes-short}
 use Rattle.graph.specs.Print.{spaced, joined, nodeRow, nodeRows, entryRow, backRow, printed, printedRefusal}
 use Rattle.graph.specs.Build.{lengths, edgeCount, Capacity, graph, refused, fitted, builtOf, build, written, limits, flowlist}
 use Rattle.graph_laws.specs.Theorems.{in-form}
@@ -52,9 +52,6 @@ decimal-length (suc k) n h =
     ]
 
 -- node ids, line indices and path numbers have at most 4 digits
-abbrev Small : ℕ → Type 0
-Small n = n < 4096
-
 id-length : (n : ℕ) → n ≤ 4096 → length (decimal n) ≤ 4
 unfolding tens
 id-length n h = decimal-length 3 n (omega arith)
@@ -75,67 +72,13 @@ joined-length (all∷ {a = n} {l = l} h hs) = omega (arith, length-append (decim
 
 -- ---- a node's row
 
--- "depth 16 is accepted": a path has at most 17 numbers
-pub record NodeShort (n : Node) : Type 0 where
-  pub number-ok : n .number ≤ 65535
-  pub line-ok : n .line < 1024
-  pub path-ok : All Small (n .path)
-  pub path-short : length (n .path) ≤ 17
-
 pub node-row-length : (i : ℕ) (n : Node) (ss ps : List ℕ) → Small i → NodeShort n → All Small ss → All Small ps → length (nodeRow i n ss ps) ≤ 125 + 5 * length ss + 5 * length ps
 unfolding nodeRow spaced each bytes
 node-row-length i n ss ps h r hs hp =
     simp length-append
     (omega (arith, id-length i (omega arith), number-length (n .number) (r .number-ok), id-length (n .line) (omega (arith, r .line-ok)), joined-length (r .path-ok), r .path-short, spaced-length hs, spaced-length hp))
 
--- ---- the nodes of a listing in form
-
-len-size : (s : Stmts) → len s ≤ size s
-unfolding len size
-len-size ∅ = omega arith
-len-size (s ▸ o) = omega (arith, len-size s)
-len-size (branching s w t a u b) = omega (arith, len-size s)
-
--- statements at depth d, of a line with number n and index li; a path number is below the count of statements
-stmts-nodes : (d li n : ℕ) (p : List ℕ) (i k : ℕ) (e : Option ℕ) (s : Stmts) → StmtsOk d s → n ≤ 65535 → li < 1024 → All Small p → length p ≤ d → k + size s ≤ 4096
-    → All NodeShort (allocate li n p i k e s)
-unfolding allocate StmtsOk size
-stmts-nodes d li n p i k e ∅ ok hn hl hp h f = all[]
-stmts-nodes d li n p i k e (s ▸ o) ok hn hl hp h f =
-    let q : All Small (p ++ ((k + len s) ∷ [])) = all-append hp (all∷ (omega (arith, len-size s)) all[]) in
-    all-append (stmts-nodes d li n p i k (some (i + size s)) s (ok .0) hn hl hp h (omega arith))
-    (all∷ (record { number-ok = hn; line-ok = hl; path-ok = q; path-short = omega (arith, length-append p ((k + len s) ∷ []), ok .1) }) all[])
-stmts-nodes d li n p i k e (branching s w t a u b) ok hn hl hp h f =
-    let j = i + size s in
-    let q : All Small (p ++ ((k + len s) ∷ [])) = all-append hp (all∷ (omega (arith, len-size s)) all[]) in
-    let g : length (p ++ ((k + len s) ∷ [])) ≤ suc d = omega (arith, length-append p ((k + len s) ∷ [])) in
-    all-append (stmts-nodes d li n p i k (some j) s (ok .0) hn hl hp h (omega arith))
-    (all∷ (record { number-ok = hn; line-ok = hl; path-ok = q; path-short = omega (arith, g, ok .1) })
-    (all-append (stmts-nodes (suc d) li n _ (suc j) 0 e a (ok .3) hn hl q g (omega arith))
-    (stmts-nodes (suc d) li n _ (suc j + size a) (len a) e b (ok .4) hn hl q g (omega (arith, len-size a)))))
-
-lines-nodes : (e : Option ℕ) (ls : Lines) → LinesOk ls → count ls ≤ 1024 → total ls ≤ 4096 → All NodeShort (nodesBefore e ls)
-unfolding nodesBefore LinesOk total count
-lines-nodes e nolines ok hc ht = all[]
-lines-nodes e (line ls n s) ok hc ht =
-    all-append (lines-nodes (lineEntry (total ls) s e) ls (ok .0) (omega arith) (omega arith))
-    (stmts-nodes 0 (count ls) n [] (total ls) 0 e s (ok .3) (ok .1) (omega arith) all[] (omega arith) (omega arith))
-
 -- ---- the node rows: each edge is printed twice
-
-all-get : {P : List ℕ → Type 0} {ls : List (List ℕ)} → All P ls → P [] → (i : ℕ) → P (getD ls i [])
-all-get all[] h i = h
-all-get (all∷ p ps) h zero = p
-all-get (all∷ p ps) h (suc i) = all-get ps h i
-
-pred-ids : (m i j : ℕ) (ls : List (List ℕ)) → j + length ls ≤ m → Ids m (predecessorsIn i j ls)
-unfolding predecessorsIn
-pred-ids m i j [] h = all[]
-pred-ids m i j (l ∷ ls) h = go (has i l) (pred-ids m i (suc j) ls (omega arith))
-  where
-    go : (x : Bool) → Ids m (predecessorsIn i (suc j) ls) → Ids m (pick x (j ∷ predecessorsIn i (suc j) ls) (predecessorsIn i (suc j) ls))
-    go true g = all∷ {a = j} (omega arith) g
-    go false g = g
 
 -- from node i on: where its lists begin stands on the left, where those behind the last begin on the right
 pub node-rows-length : (ls : List (List ℕ)) (i : ℕ) {ns : List Node} → All NodeShort ns → All (All Small) ls → length ls ≤ 4096 → i + length ns ≤ length ls
@@ -163,23 +106,6 @@ unfolding entryRow each list spaced bytes
 entry-row-length (n, none) hn h = omega arith
 entry-row-length (n, some e) hn h = simp length-append (omega (arith, number-length n hn, id-length e (omega arith)))
 
--- entries with line numbers in form, that are nodes
-abbrev EntryOk : ℕ × Option ℕ → Type 0
-EntryOk d = d .0 ≤ 65535
-
-entry-numbers : (e : Option ℕ) (ls : Lines) → LinesOk ls → All EntryOk (entriesBefore e ls)
-unfolding entriesBefore LinesOk
-entry-numbers e nolines ok = all[]
-entry-numbers e (line ls n s) ok = all-append (entry-numbers (lineEntry (total ls) s e) ls (ok .0)) (all∷ (ok .1) all[])
-
-below-le : (m n : ℕ) → n ≤ m → (o : Option ℕ) → Below n o → Below m o
-below-le m n h none b = tt
-below-le m n h (some a) b = omega arith
-
-all-both : {A : Type 0} {P Q R : A → Type 0} → ((a : A) → P a → Q a → R a) → {l : List A} → All P l → All Q l → All R l
-all-both f all[] all[] = all[]
-all-both f (all∷ p ps) (all∷ q qs) = all∷ (f _ p q) (all-both f ps qs)
-
 continuation-few : (W : Wired) (i : ℕ) → length (continuation W i) ≤ 1
 unfolding continuation continuationBy list
 continuation-few W i = go (role W i) (fallFrom W i)
@@ -201,11 +127,6 @@ back-row-length W i h hs = go (continuation W i) (continuation-few W i) hs
     go (k ∷ []) f (all∷ g gs) = simp length-append (omega (arith, id-length i (omega arith), id-length k (omega arith)))
     go (k ∷ m ∷ l) f hs = absurd (omega arith)
 
-below-all : {P : ℕ → Type 0} (n : ℕ) → ((i : ℕ) → i < n → P i) → All P (below n)
-unfolding below
-below-all zero f = all[]
-below-all (suc n) f = all-append (below-all n (λ i h. f i (omega arith))) (all∷ (f n (omega arith)) all[])
-
 below-length : (n : ℕ) → length (below n) ≡ n
 unfolding below
 below-length zero = refl
@@ -214,49 +135,38 @@ below-length (suc n) = omega (arith, length-append (below n) (n ∷ []), below-l
 -- ---- the whole graph
 
 module _ (L : Listing) (ok : LinesOk (L .lines)) (hc : count (L .lines) ≤ 1024) (ht : total (L .lines) ≤ 4096) where
-  node-count : nodeCount L ≡ total (L .lines)
-  unfolding wire nodes
-  node-count = length-nodes none (L .lines)
-
-  small : {l : List ℕ} → Ids (nodeCount L) l → All Small l
-  small hs = all-map (λ a h. omega (arith, node-count)) hs
-
-  nodes-short : All NodeShort (wire L .nodes)
-  unfolding wire nodes
-  nodes-short = lines-nodes none (L .lines) ok hc ht
-
   pub nodes-length : edgeCount L ≤ 32768 → length (nodeRows (allSuccessors L) 0 (wire L .nodes)) ≤ 839680
   nodes-length h =
       let ls = allSuccessors L in
       let s = successor-lists L in
-      let r = node-rows-length ls 0 nodes-short (all-map (λ l hs. small hs) (s .ids)) (omega (arith, s .size, node-count)) (omega (arith, s .size)) in
+      let r = node-rows-length ls 0 (nodes-short L ok hc ht) (all-map (λ l hs. small L ht hs) (s .ids)) (omega (arith, s .size, node-count L)) (omega (arith, s .size)) in
       let z : 0 + length (wire L .nodes) ≡ length ls = omega (arith, s .size) in
       let e : edgeCount L ≡ length (joinedLists ls) = edges-joined L ∙ ap (λ (y : List (List ℕ)). length (joinedLists y)) (sym (all-lists L)) in
       let f : startOf ls (0 + length (wire L .nodes)) ≡ edgeCount L = ap (startOf ls) z ∙ start-end ls ∙ sym e in
       let g : startOf (predsOf ls) (0 + length (wire L .nodes)) ≡ edgeCount L = ap (startOf (predsOf ls)) (z ∙ sym (length-preds ls)) ∙ start-end (predsOf ls) ∙ preds-total s ∙ sym e in
-      omega (arith, r, f, g, node-count)
+      omega (arith, r, f, g, node-count L)
 
   pub entry-rows-length : length (each entryRow (wire L .entries .rows)) ≤ 19456
   unfolding wire entries
   entry-rows-length =
       let es = entriesBefore none (L .lines) in
-      let hs = all-both (λ d p q. entry-row-length d p (below-le 4096 (nodeCount L) (omega (arith, node-count)) (d .1) q)) (entry-numbers none (L .lines) ok) (entry-ids L .rows) in
+      let hs = all-both (λ d p q. entry-row-length d p (below-le 4096 (nodeCount L) (omega (arith, node-count L)) (d .1) q)) (entry-numbers none (L .lines) ok) (entry-ids L .rows) in
       omega (arith, each-length 19 entryRow hs, entries-length none (L .lines))
 
   pub returns-length : length (spaced (returnTargets (wire L))) ≤ 20480
   unfolding returnTargets
   returns-length =
       let d = distinct-all (each (continuation (wire L)) (below (nodeCount L))) dist[] in
-      omega (arith, spaced-length (small (target-ids L)), few (nodeCount L) d (target-ids L), node-count)
+      omega (arith, spaced-length (small L ht (target-ids L)), few (nodeCount L) d (target-ids L), node-count L)
 
   pub back-rows-length : length (each (backRow (wire L)) (below (nodeCount L))) ≤ 69632
   back-rows-length =
-      let hs = below-all (nodeCount L) (λ i h. back-row-length (wire L) i (omega (arith, node-count)) (small (continuation-ids L i))) in
-      omega (arith, each-length 17 (backRow (wire L)) hs, below-length (nodeCount L), node-count)
+      let hs = below-all (nodeCount L) (λ i h. back-row-length (wire L) i (omega (arith, node-count L)) (small L ht (continuation-ids L i))) in
+      omega (arith, each-length 17 (backRow (wire L)) hs, below-length (nodeCount L), node-count L)
 
   head-length : length (spaced (0 ∷ nodeCount L ∷ [])) ≤ 10
   unfolding spaced each
-  head-length = simp length-append (omega (arith, id-length 0 (omega arith), id-length (nodeCount L) (omega (arith, node-count))))
+  head-length = simp length-append (omega (arith, id-length 0 (omega arith), id-length (nodeCount L) (omega (arith, node-count L))))
 
   -- by these bounds 949,277 bytes at most
   pub printed-length : edgeCount L ≤ 32768 → length (printed L) ≤ 1048576
