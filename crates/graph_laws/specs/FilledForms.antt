@@ -1,5 +1,5 @@
 -- Which rows a form stands for (document 02, L1): "whichever numbers of document 01 stand in it and however many, even none, in its lists". Assumes nothing.
-use Prim.Native.Nat.{ℕ, _≤_}
+use Prim.Native.Nat.{ℕ}
 use mathlib.Core.Path.{_≡_}
 use mathlib.Core.Bool.{Bool, false, _||_}
 use mathlib.Core.List.{List, [], _∷_, _++_, List·Memᴰ}

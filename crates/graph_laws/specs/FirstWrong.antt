@@ -1,16 +1,14 @@
 -- A graph is refused exactly with the number and the place of its first wrong row. Assumes nothing.
-use Prim.Native.Nat.{ℕ, zero, suc, _+_}
-use mathlib.Core.Path.{_≡_, refl, sym, ap, _∙_, subst}
-use mathlib.Core.Bool.{Bool, true, false, not}
+use Prim.Native.Nat.{ℕ, suc, _+_}
+use mathlib.Core.Path.{_≡_, refl, sym, ap, _∙_}
+use mathlib.Core.Bool.{Bool, true, false}
 use mathlib.Core.List.{List, [], _∷_, _++_, append-assoc}
 use mathlib.Core.Logic.{_↔_}
 use native.Mathlib.Omega.{arith}
-use lib.Dec.{eqb}
 use lib.ListN.{length}
-use borrow.Author.Tests.{ne-eqb, eqb-false}
 use Rattle.listings.specs.Bytes.{same, pick}
 use Rattle.listings.specs.Listing.{Listing}
-use Rattle.listings.specs.Rows.{onFirst, split, all}
+use Rattle.listings.specs.Rows.{split}
 use Rattle.listings.specs.ListingText.{textOf}
 use Rattle.listings.specs.Every.{All, all[], all∷, noNewline}
 use Rattle.listings.specs.NumberText.{not-both}
@@ -19,7 +17,6 @@ use Rattle.listings.specs.RowForms.{join, join-split, split-next, split-last, t
 use Rattle.graph.specs.Print.{printed}
 use Rattle.graph.specs.Build.{graph}
 use Rattle.graph.specs.Check.{Verdict, right, wrong, isGraphRow, rowNumber, compared, against}
-use Rattle.graph_laws.specs.FilledForms.{GraphRow}
 use Rattle.graph_laws.specs.FormLaws.{form-exactly}
 use Rattle.graph_laws.specs.Checked.{IsRow, RowRefusal, noForm, inForm, WrongAtOnce, missing, unended, another, tooMany, FirstWrong}
 use Rattle.graph_laws.specs.CheckLaws.{split-first, split-lacks, lastByte, last-append, last-piece, printed-last, printed-pieces, not-right, same-refl}
@@ -63,18 +60,20 @@ at-once i {due} {given} m n p h e =
 -- one more row before it
 one-more : (i : ℕ) {due given : List ℕ} (r : List ℕ) (n p : ℕ) → IsRow r → Found (suc i) due given n p → Found i (r ++ (10 ∷ due)) (r ++ (10 ∷ given)) n p
 unfolding textOf
-one-more i r n p h (q, e, f) =
-    (suc q, omega arith,
-    record {
-      before = r ∷ f .before;
-      rows = all∷ h (f .rows);
-      dueLeft = f .dueLeft;
-      givenLeft = f .givenLeft;
-      due-is = ap (λ (z : List ℕ). r ++ (10 ∷ z)) (f .due-is) ∙ sym (append-assoc r (10 ∷ textOf (f .before)) (f .dueLeft));
-      given-is = ap (λ (z : List ℕ). r ++ (10 ∷ z)) (f .given-is) ∙ sym (append-assoc r (10 ∷ textOf (f .before)) (f .givenLeft));
-      place-is = ap suc (f .place-is);
-      wrong-then = f .wrong-then;
-    })
+one-more i r n p h (q, e, f) = (
+  suc q,
+  omega arith,
+  record {
+    before = r ∷ f .before;
+    rows = all∷ h (f .rows);
+    dueLeft = f .dueLeft;
+    givenLeft = f .givenLeft;
+    due-is = ap (λ (z : List ℕ). r ++ (10 ∷ z)) (f .due-is) ∙ sym (append-assoc r (10 ∷ textOf (f .before)) (f .dueLeft));
+    given-is = ap (λ (z : List ℕ). r ++ (10 ∷ z)) (f .given-is) ∙ sym (append-assoc r (10 ∷ textOf (f .before)) (f .givenLeft));
+    place-is = ap suc (f .place-is);
+    wrong-then = f .wrong-then;
+  },
+)
 
 -- a row is due, and nothing is given
 nothing-given : (r l : List ℕ) → WrongAtOnce (r ++ (10 ∷ l)) [] 32

@@ -18,9 +18,11 @@ pub mod PerNodeLaws
 pub mod Numbers
 pub mod NodeBounds
 pub mod FilledForms
+pub mod FormRead
 pub mod FormLaws
 pub mod Checked
 pub mod CheckLaws
 pub mod FirstWrong
+pub mod RowParts
 pub mod PrintedRows
 pub mod Theorems

@@ -1,110 +1,36 @@
 -- Every row of a printed graph is in form, for a listing within the limits. Assumes nothing.
-use Prim.Native.Nat.{ℕ, zero, suc, _+_, _≤_, _<_}
-use mathlib.Core.Path.{_≡_, refl, sym, ap, _∙_, subst}
-use mathlib.Core.Bool.{Bool, true, false, not}
-use mathlib.Core.List.{List, [], _∷_, _++_, map, append-assoc, append-nil, List·Memᴰ, List·Memᴰ·head, List·Memᴰ·tail}
-use mathlib.Core.Option.{Option, none, some}
+use Prim.Native.Nat.{ℕ, suc, _+_, _≤_}
+use mathlib.Core.Path.{_≡_, refl, ap, _∙_, subst}
+use mathlib.Core.Bool.{Bool, true, false, not, _&&_}
+use mathlib.Core.List.{List, [], _∷_, _++_, map, append-assoc, List·Memᴰ·head, List·Memᴰ·tail}
+use mathlib.Core.Option.{none, some}
 use native.Mathlib.Omega.{arith}
 use lib.ListN.{length, getD}
-use lib.Dec.{eqb}
-use borrow.Author.Tests.{ne-eqb, not-true}
-use Rattle.listings.specs.Bytes.{bytes, decimal}
+use lib.Dec.{eqb, leb}
+use borrow.Author.Tests.{ne-eqb}
+use Rattle.listings.specs.Bytes.{bytes, decimal, pick}
 use Rattle.listings.specs.Listing.{Listing, total, count}
 use Rattle.listings.specs.Rows.{split, all, isDigit}
-use Rattle.listings.specs.ListingText.{textOf, NumberOk, LinesOk, Within}
+use Rattle.listings.specs.ListingText.{NumberOk, Within}
 use Rattle.listings.specs.NumberText.{both-true, all-append-true, all-weaken, digit-range, decimal-digits}
-use Rattle.listings.specs.Every.{All, all[], all∷, all-append, noNewline}
+use Rattle.listings.specs.Every.{All, all[], all∷, noNewline}
+use Rattle.listings.specs.Read.{Answer, listing, refusal, read}
+use Rattle.listings.specs.RoundTrip.{accepted-in-form}
 use Rattle.listings.specs.RowForms.{split-text}
 use Rattle.graph.specs.Lists.{each, list, below}
-use Rattle.graph.specs.Nodes.{Node, LineEntry, entriesBefore, entries}
+use Rattle.graph.specs.Nodes.{Node, LineEntry, entries}
 use Rattle.graph.specs.Graph.{Wired, wire, successorsIn, successors, allSuccessors, predecessorsIn, returnTargets, continuation}
-use Rattle.graph.specs.Print.{spaced, joined, nodeRow, nodeRows, entryRow, backRow, printed}
+use Rattle.graph.specs.Print.{spaced, nodeRow, nodeRows, entryRow, backRow, printed}
+use Rattle.graph.specs.Build.{edgeCount, Capacity, graph, refused, fitted, builtOf, build}
 use Rattle.graph.specs.Check.{rowForms, isGraphRow}
 use Rattle.graph_laws.specs.Members.{all-map, all-mem}
 use Rattle.graph_laws.specs.NodeLaws.{EntryFits}
 use Rattle.graph_laws.specs.EdgeBounds.{Ids}
 use Rattle.graph_laws.specs.GraphLaws.{nodeCount, few-lists, entry-ids, continuation-ids, target-ids, lists-ok}
-use Rattle.graph_laws.specs.NodeBounds.{Small, NodeShort, all-get, pred-ids, below-all, EntryOk, entry-numbers, below-le, all-both, node-count, small, nodes-short}
-use Rattle.graph_laws.specs.FilledForms.{isSign, Fills, done, itself, number, noMore, oneMore, first, GraphRow}
+use Rattle.graph_laws.specs.NodeBounds.{Small, NodeShort, all-get, pred-ids, below-all, entry-numbers, below-le, all-both, node-count, small, nodes-short}
+use Rattle.graph_laws.specs.FilledForms.{isSign, Fills, done, itself, number, noMore, oneMore, first}
 use Rattle.graph_laws.specs.FormLaws.{form-exactly}
-
--- ---- parts of a row
-
--- a text fills a part of a form, whatever stands behind
-record Part (form text : List ℕ) : Type 0 where
-  before : (f w : List ℕ) → Fills f w → Fills (form ++ f) (text ++ w)
-
-part-append : {p q a b : List ℕ} → Part p a → Part q b → Part (p ++ q) (a ++ b)
-part-append {p} {q} {a} {b} h k = record { before = λ f w r. rw (append-assoc p q f, append-assoc a b w) (h .before (q ++ f) (b ++ w) (k .before f w r)) }
-
--- bytes that stand for themselves
-bytes-part : (u : List ℕ) → all (λ c. not (isSign c)) u ≡ true → Part u u
-unfolding all
-bytes-part [] h = record { before = λ f w r. r }
-bytes-part (c ∷ u) h =
-    let p = both-true (not (isSign c)) (all (λ c. not (isSign c)) u) h in
-    let k = bytes-part u (p .1) in
-    record { before = λ f w r. itself c (not-true (isSign c) (p .0)) (k .before f w r) }
-
--- numbers with a space before each: one by one, and as a list
-numbers-part : {l : List ℕ} → All NumberOk l → Part (each (λ (n : ℕ). 32 ∷ 35 ∷ []) l) (spaced l)
-unfolding spaced each isSign
-numbers-part all[] = record { before = λ f w r. r }
-numbers-part (all∷ {a = n} {l = l} h hs) =
-    let k = numbers-part hs in
-    record { before = λ f w r. itself 32 refl (rw (← (append-assoc (decimal n) (spaced l) w)) at (number n h (k .before f w r))) }
-
-list-part : {l : List ℕ} → All NumberOk l → Part (42 ∷ []) (spaced l)
-unfolding spaced each
-list-part all[] = record { before = λ f w r. noMore r }
-list-part (all∷ {a = n} {l = l} h hs) =
-    let k = list-part hs in
-    record { before = λ f w r. rw (append-assoc (decimal n) (spaced l) w) (oneMore n h (k .before f w r)) }
-
--- numbers with a space between them
-path-part : {l : List ℕ} → All NumberOk l → Part (37 ∷ []) (joined l)
-unfolding joined
-path-part all[] = record { before = λ f w r. Fills.none r }
-path-part (all∷ {a = n} {l = l} h hs) =
-    let k = list-part hs in
-    record { before = λ f w r. rw (append-assoc (decimal n) (spaced l) w) (first n h (k .before f w r)) }
-
--- ---- rows, one after the other
-
--- a text of such rows, each ended by byte 10
-pub record GraphRows (t : List ℕ) : Type 0 where
-  pub rows : List (List ℕ)
-  pub text-is : t ≡ textOf rows
-  pub in-form : All GraphRow rows
-
-text-append : (a b : List (List ℕ)) → textOf (a ++ b) ≡ textOf a ++ textOf b
-unfolding textOf
-text-append [] b = refl
-text-append (r ∷ a) b = ap (λ (z : List ℕ). r ++ (10 ∷ z)) (text-append a b) ∙ sym (append-assoc r (10 ∷ textOf a) (textOf b))
-
-no-rows : GraphRows []
-unfolding textOf
-no-rows = record { rows = []; text-is = refl; in-form = all[] }
-
-rows-append : {s t : List ℕ} → GraphRows s → GraphRows t → GraphRows (s ++ t)
-rows-append {s} {t} h k =
-    record {
-      rows = h .rows ++ k .rows;
-      text-is = ap (λ (z : List ℕ). z ++ t) (h .text-is) ∙ ap (λ (z : List ℕ). textOf (h .rows) ++ z) (k .text-is) ∙ sym (text-append (h .rows) (k .rows));
-      in-form = all-append (h .in-form) (k .in-form);
-    }
-
-rows-each : {A : Type 0} {P : A → Type 0} (f : A → List ℕ) → ((a : A) → P a → GraphRows (f a)) → {l : List A} → All P l → GraphRows (each f l)
-unfolding each
-rows-each f h all[] = no-rows
-rows-each f h (all∷ {a} p ps) = rows-append (h a p) (rows-each f h ps)
-
--- a row that fills a whole form
-one-row : {f w : List ℕ} → List·Memᴰ f rowForms → Part f w → (t : List ℕ) → w ++ (10 ∷ []) ≡ t → GraphRows t
-unfolding textOf
-one-row {f} {w} m h t e =
-    let r : Fills f w = rw (append-nil f, append-nil w) at (h .before [] [] done) in
-    record { rows = w ∷ []; text-is = sym e; in-form = all∷ (record { form = f; listed = m; filled = r }) all[] }
+use Rattle.graph_laws.specs.RowParts.{part-append, bytes-part, numbers-part, list-part, path-part, GraphRows, no-rows, rows-append, rows-each, one-row}
 
 -- ---- the rows of a graph
 
@@ -239,7 +165,36 @@ forms-rows = all∷ refl (all∷ refl (all∷ refl (all∷ refl (all∷ refl (al
 -- the rows between the bytes 10 of a printed graph are in form, every one
 pub printed-in-form : (L : Listing) → Within L → (rs : List (List ℕ)) × (split 10 (printed L) ≡ rs ++ ([] ∷ [])) × All (λ (r : List ℕ). isGraphRow r ≡ true) rs
 printed-in-form L h =
-    let r = printed-rows L h in
-    (r .rows,
-    ap (split 10) (r .text-is) ∙ split-text (r .rows) (all-map (λ w g. filled-row (g .filled) (all-mem forms-rows (g .form) (g .listed))) (r .in-form)),
-    all-map (λ w g. form-exactly w .1 g) (r .in-form))
+    let r = printed-rows L h in (
+      r .rows,
+      ap (split 10) (r .text-is) ∙ split-text (r .rows) (all-map (λ w g. filled-row (g .filled) (all-mem forms-rows (g .form) (g .listed))) (r .in-form)),
+      all-map (λ w g. form-exactly w .1 g) (r .in-form),
+    )
+
+-- ---- what was built is within the limits
+
+not-built : {n p : ℕ} {L : Listing} {A : Type 0} → refused n p ≡ graph L → A
+not-built e = absurd (let z : _≡_ {A = ℕ} 0 1 = cc in omega arith)
+
+fitted-is : (c : Capacity) (M L : Listing) → fitted c M ≡ graph L → M ≡ L
+unfolding fitted
+fitted-is c M L e = go (leb (count (M .lines)) (c .lines)) (leb (total (M .lines)) (c .nodes)) (leb (edgeCount M) (c .edges) && leb (edgeCount M) 32768) e
+  where
+    go : (x y z : Bool) → pick x (pick y (pick z (graph M) (refused 23 (edgeCount M))) (refused 22 (total (M .lines)))) (refused 21 (count (M .lines))) ≡ graph L → M ≡ L
+    go false y z e = not-built e
+    go true false z e = not-built e
+    go true true false e = not-built e
+    go true true true e = cc
+
+pub built-within : (c : Capacity) (t : List ℕ) (L : Listing) → build c t ≡ graph L → Within L
+unfolding builtOf
+built-within c t L e = go (read t) refl e
+  where
+    go : (a : Answer) → read t ≡ a → builtOf c a ≡ graph L → Within L
+    go (listing M) h e = subst Within (fitted-is c M L e) (accepted-in-form t M h .0 .within)
+    go (refusal n p) h e = not-built e
+
+-- so it is for every text that has a graph
+pub built-in-form : (c : Capacity) (t : List ℕ) (L : Listing) → build c t ≡ graph L
+    → (rs : List (List ℕ)) × (split 10 (printed L) ≡ rs ++ ([] ∷ [])) × All (λ (r : List ℕ). isGraphRow r ≡ true) rs
+built-in-form c t L e = printed-in-form L (built-within c t L e)
