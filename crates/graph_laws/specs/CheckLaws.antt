@@ -143,3 +143,8 @@ right-exactly c t g = (go (build c t) refl, back)
     back r =
         let p = printed-pieces (r .listing) in
         rw (r .built, r .given, p .1) (right-compared 0 (p .0))
+
+-- "Both come after all of the listing's refusals": whatever graph is given
+pub listing-first : (c : Capacity) (t g : List ℕ) (n p : ℕ) → build c t ≡ refused n p → checked c t g ≡ wrong n p
+unfolding against
+listing-first c t g n p e = rw e
