@@ -100,8 +100,11 @@ same-lengths (a ∷ k) (b ∷ w) h = rw (same-lengths k w (λ e. h (ap suc e))) 
 
 -- ---- rows padded with zeros
 
+abbrev pub padTo : ℕ → List ℕ → List ℕ
+padTo n w = w ++ replicate (n - length w) 0
+
 abbrev pub pad : List ℕ → List ℕ
-pad w = w ++ replicate (8 - length w) 0
+pad w = padTo 8 w
 
 pub zeros : (n j : ℕ) → _≡_ {A = ℕ} (getD (replicate n 0) j 0) 0
 zeros zero zero = refl
@@ -115,15 +118,15 @@ padded [] n (suc j) = zeros n (suc j)
 padded (x ∷ w) n zero = refl
 padded (x ∷ w) n (suc j) = padded w n j
 
-pub row-letter : (ws : List (List ℕ)) (i j : ℕ) → i < length ws → getD (getD (map pad ws) i []) j 0 ≡ getD (getD ws i []) j 0
-row-letter [] i j h = absurd (not-suc-le-zero h)
-row-letter (w ∷ ws) zero j h = padded w (8 - length w) j
-row-letter (w ∷ ws) (suc i) j h = row-letter ws i j (le-of-suc-le-suc h)
+pub row-letter : (n : ℕ) (ws : List (List ℕ)) (i j : ℕ) → i < length ws → getD (getD (map (padTo n) ws) i []) j 0 ≡ getD (getD ws i []) j 0
+row-letter n [] i j h = absurd (not-suc-le-zero h)
+row-letter n (w ∷ ws) zero j h = padded w (n - length w) j
+row-letter n (w ∷ ws) (suc i) j h = row-letter n ws i j (le-of-suc-le-suc h)
 
 -- of a row that was fetched
 pub row-at-letter : (i j : ℕ) → i < 28 → (row : List ℕ) → row ≡ getD (map pad words) i [] → getD row j 0 ≡ getD (getD words i []) j 0
 unfolding words openingWords
-row-at-letter i j h row e = ap (λ (r : List ℕ). getD r j 0) e ∙ row-letter words i j h
+row-at-letter i j h row e = ap (λ (r : List ℕ). getD r j 0) e ∙ row-letter 8 words i j h
 
 -- ---- a table's rule from a test over the whole table
 

@@ -19,7 +19,7 @@ pub(crate) fn byte_value(x: u8) -> u64
 }
 
 // 0 to 9.
-pub(crate) fn is_digit(b: u8) -> bool
+pub fn is_digit(b: u8) -> bool
     ensures { λ r. ⌜ r ≡ isDigit b ⌝ }
 {
     48 <= b && b <= 57

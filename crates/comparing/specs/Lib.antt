@@ -1,0 +1,6 @@
+pub mod Judging
+pub mod FormTable
+pub mod JudgeStates
+pub mod Comparing
+pub mod ComparingLaws
+pub mod ComparingStates
