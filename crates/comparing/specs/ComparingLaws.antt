@@ -17,8 +17,8 @@ use Rattle.listings.specs.Every.{All, all[], all∷, noNewline}
 use Rattle.listings.specs.NumberText.{both-true, all-append-true}
 use Rattle.listings.specs.WordText.{lacks, same-equal}
 use Rattle.listings.specs.RowForms.{split-last, split-next, split-text}
-use Rattle.listings.specs.Scan.{split-some}
 use Rattle.graph.specs.Check.{Left, step, Verdict, right, wrong, rowNumber, isGraphRow, compared}
+use Rattle.graph_laws.specs.CheckLaws.{split-first, same-refl}
 use Rattle.comparing.specs.Judging.{Reading, start, opened, lost, beside, chosen, met, metAll, good, steppedTo, judged}
 use Rattle.comparing.specs.Comparing.{Standing, same, differs, ended, begins, rowsNumber, differing, fedByte, fed, rowsEnded, isStart, nothing, placeAt, ruled}
 
@@ -65,24 +65,12 @@ row-begun r b (c ∷ w) = row-begun (met r b) c w
 
 -- ---- rows
 
-same-self : (l : List ℕ) → listing.same l l ≡ true
-unfolding listing.same
-same-self [] = refl
-same-self (a ∷ l) = rw (eq-eqb a a refl, same-self l)
-
 not-same : (k l : List ℕ) → (k ≡ l → ⊥) → listing.same k l ≡ false
 not-same k l h = go (listing.same k l) refl
   where
     go : (x : Bool) → listing.same k l ≡ x → x ≡ false
     go true e = absurd (h (same-equal k l e))
     go false e = refl
-
-some-piece : (l : List ℕ) → (v : List ℕ) × (vs : List (List ℕ)) × (split 10 l ≡ v ∷ vs)
-some-piece l = go (split 10 l) (split-some 10 l)
-  where
-    go : (ws : List (List ℕ)) → 0 < length ws → (v : List ℕ) × (vs : List (List ℕ)) × (ws ≡ v ∷ vs)
-    go [] h = absurd (omega arith)
-    go (v ∷ vs) h = (v, vs, refl)
 
 -- what is left of the rows due begins with another row than q, or with none
 abbrev Off : List ℕ → List (List ℕ) → Type 0
@@ -91,15 +79,15 @@ Off q rest = (r : List ℕ) (rs : List (List ℕ)) → rest ≡ r ∷ rs → q �
 -- a whole row that is not the one due
 other-row : (i : ℕ) (q g : List ℕ) (rest : List (List ℕ)) → Off q rest → compared i (rest ++ ([] ∷ [])) (q ∷ split 10 g) ≡ wrong (rowNumber q) i
 unfolding compared
-other-row i q g [] off = let s = some-piece g in rw (s .2)
-other-row i q g (r ∷ []) off = let s = some-piece g in rw (s .2, not-same r q (λ e. off r [] refl (sym e)))
-other-row i q g (r ∷ u ∷ rs) off = let s = some-piece g in rw (s .2, not-same r q (λ e. off r (u ∷ rs) refl (sym e)))
+other-row i q g [] off = let s = split-first 10 g in rw (s .2)
+other-row i q g (r ∷ []) off = let s = split-first 10 g in rw (s .2, not-same r q (λ e. off r [] refl (sym e)))
+other-row i q g (r ∷ u ∷ rs) off = let s = split-first 10 g in rw (s .2, not-same r q (λ e. off r (u ∷ rs) refl (sym e)))
 
 -- the row due
 due-row : (i : ℕ) (q g : List ℕ) (rest : List (List ℕ)) → compared i ((q ∷ rest) ++ ([] ∷ [])) (q ∷ split 10 g) ≡ compared (suc i) (rest ++ ([] ∷ [])) (split 10 g)
 unfolding compared
-due-row i q g [] = let s = some-piece g in rw (s .2, same-self q)
-due-row i q g (r ∷ rs) = let s = some-piece g in rw (s .2, same-self q)
+due-row i q g [] = let s = split-first 10 g in rw (s .2, same-refl q)
+due-row i q g (r ∷ rs) = let s = split-first 10 g in rw (s .2, same-refl q)
 
 -- "lacks its byte 10"
 cut-row : (i b : ℕ) (w : List ℕ) (ds : List (List ℕ)) → compared i ds ((b ∷ w) ∷ []) ≡ wrong 31 i

@@ -4,3 +4,4 @@ pub mod JudgeStates
 pub mod Comparing
 pub mod ComparingLaws
 pub mod ComparingStates
+pub mod GraphChecked

@@ -83,7 +83,7 @@ pub data Verdict : Type 0 where
 unfoldable pub rowNumber : List ℕ → ℕ
 rowNumber w = pick (isGraphRow w) 32 31
 
--- what stands between the bytes 10, of the graph due and of the one given, from row i on; the last piece of either is behind its last byte 10
+-- what stands between the bytes 10, of the graph due and of the one given, from row i on; the last piece of either is behind its last byte 10 (neither is ever without a piece: those clauses are for the type)
 unfoldable pub compared : ℕ → List (List ℕ) → List (List ℕ) → Verdict
 -- "or lacks its byte 10"
 compared i due ((b ∷ w) ∷ []) = wrong 31 i
