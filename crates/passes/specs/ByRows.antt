@@ -39,7 +39,7 @@ pub record ByRowsReady (stmts falls links : List ℕ) (n : ℕ) (calls spans row
 
 -- where the row of one of n nodes leads; "a skipping path .. never steps from a RETURN"
 unfoldable pub rowSteps : (stmts rows : List ℕ) (n i : ℕ) → List ℕ
-rowSteps stmts rows n i = pick (ltb i n && not (eqb (wordOf stmts i) 9)) (membersOf (setOf rows i)) []
+rowSteps stmts rows n i = pick (ltb i n && not (eqb (wordOf stmts i) returnWord)) (membersOf (setOf rows i)) []
 
 -- the row of a RETURN becomes its set, any other all that it leads to; what is behind the n rows stays
 pub record SetsByRows (stmts falls links : List ℕ) (n : ℕ) (rows rows′ : List ℕ) : Type 0 where

@@ -5,7 +5,7 @@ use mathlib.Core.Bool.{Bool, _||_, not}
 use mathlib.Core.List.{List, [], _++_}
 use lib.Dec.{eqb, ltb}
 use lib.ListN.{length, getD, take, drop}
-use Rattle.layout.specs.Layout.{gotoWord, runWord, forWord, nextWord, untilWord, endloopWord, exitWord, elseWord, stopWord, anyWord}
+use Rattle.layout.specs.Layout.{gotoWord, runWord, forWord, nextWord, untilWord, endloopWord, exitWord, elseWord, stopWord, anyWord, ongotoWord}
 use Rattle.listings.specs.Bytes.{pick}
 use Rattle.listings.specs.Listing.{Listing}
 use Rattle.graph.specs.Lists.{each}
@@ -27,7 +27,7 @@ runEdges ts en ls lines i = pick (eqb (getD ts (i * 12 + 10) 0) 0) (each decode 
 
 -- GOTO, GOSUB and RETURN come before 11, ON GOTO and ON GOSUB fall besides
 unfoldable pub jumpEdges : (ts fs ls : List ℕ) (i : ℕ) → List ℕ
-jumpEdges ts fs ls i = linkEntries ts ls i ++ pick (ltb (wordOf ts i) 11) [] (fallEntry fs i)
+jumpEdges ts fs ls i = linkEntries ts ls i ++ pick (ltb (wordOf ts i) ongotoWord) [] (fallEntry fs i)
 
 unfoldable pub nextEdges : (ts fs ls : List ℕ) (i : ℕ) → List ℕ
 nextEdges ts fs ls i = each (bodyAt fs) (poppedBy ls i (getD ts (i * 12 + 10) 0)) ++ fallEntry fs i

@@ -7,6 +7,7 @@ use native.Mathlib.Omega.{arith}
 use borrow.Author.Tests.{eq-eqb, ne-eqb, le-leb, lt-leb}
 use lib.Dec.{eqb, leb}
 use lib.ListN.{length, length-take, getD, take, drop}
+use Rattle.layout.specs.Layout.{returnWord}
 use Rattle.listings.specs.Bytes.{pick}
 use Rattle.listings.specs.Every.{all[], all∷}
 use Rattle.graph_laws.specs.EdgeBounds.{Ids}
@@ -30,7 +31,7 @@ returnSize false targets sets i = length (membersOf (setOf sets i))
 -- the edges of all RETURNs; 0 where the tables hold no n statements with their sets, or there are more targets than a graph has nodes
 unfoldable pub returnTotal : Bool → List ℕ → List ℕ → ℕ → ℕ → ℕ
 returnTotal handlers stmts sets n targets =
-    pick (setsFit stmts n sets && leb targets 4096) (sumWhere (λ i. eqb (wordOf stmts i) 9) (λ i. returnSize handlers targets sets i) n) 0
+    pick (setsFit stmts n sets && leb targets 4096) (sumWhere (λ i. eqb (wordOf stmts i) returnWord) (λ i. returnSize handlers targets sets i) n) 0
 
 -- ---- sums
 

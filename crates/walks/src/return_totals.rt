@@ -9,6 +9,7 @@ ghost use mathlib.Core.Path.{_≡_};
 ghost use Prim.Native.Nat.{_+_, _*_, _≤_, _<_};
 ghost use lib.Dec.{eqb};
 ghost use lib.ListN.{length};
+ghost use Rattle.layout.specs.Layout.{returnWord};
 ghost use Rattle.listings.specs.Bytes.{pick};
 ghost use Rattle.tables.specs.Columns.{wordOf};
 ghost use Rattle.passes.specs.ReturnTotals.{sumWhere, returnSize, returnTotal};
@@ -16,7 +17,7 @@ ghost use Rattle.passes.specs.ReturnTotals.{sumWhere, returnSize, returnTotal};
 // How many edges node i has as a RETURN: none where it is no RETURN.
 fn return_size(handlers: bool, stmts: &[u16], sets: &[u64], i: usize, targets: usize) -> usize
     requires { ⌜ (i < 4096) × (i * 12 + 12 ≤ length (now stmts)) × (i * 64 + 64 ≤ length (now sets)) ⌝ }
-    ensures { λ r. ⌜ r ≡ pick (eqb (wordOf (now (stmts .entry)) i) 9) (returnSize handlers targets (now (sets .entry)) i) 0 ⌝ }
+    ensures { λ r. ⌜ r ≡ pick (eqb (wordOf (now (stmts .entry)) i) returnWord) (returnSize handlers targets (now (sets .entry)) i) 0 ⌝ }
 {
     if stmts[i * STMT_ENTRIES] != RETURN {
         return 0;
@@ -32,7 +33,7 @@ fn return_size(handlers: bool, stmts: &[u16], sets: &[u64], i: usize, targets: u
 // How many edges all RETURNs have together.
 fn sum_returns(handlers: bool, stmts: &[u16], sets: &[u64], n: usize, targets: usize) -> usize
     requires { ⌜ (n ≤ 4096) × (n * 12 ≤ length (now stmts)) × (n * 64 ≤ length (now sets)) × (targets ≤ 4096) ⌝ }
-    ensures { λ r. ⌜ r ≡ sumWhere (λ i. eqb (wordOf (now (stmts .entry)) i) 9) (λ i. returnSize handlers targets (now (sets .entry)) i) n ⌝ }
+    ensures { λ r. ⌜ r ≡ sumWhere (λ i. eqb (wordOf (now (stmts .entry)) i) returnWord) (λ i. returnSize handlers targets (now (sets .entry)) i) n ⌝ }
 {
     let mut sum: usize = 0;
     let mut i: usize = 0;
