@@ -8,13 +8,13 @@ use layout::limits::MAX_EDGES;
 use layout::limits::MAX_LINES;
 use layout::limits::MAX_STMTS;
 use layout::limits::STMTS_LENGTH;
+use printing::list::Printed;
 use printing::list::list_graph;
-ghost use Rattle.graph.specs.Build.{flowlist};
-ghost use Rattle.printing.specs.Limits.{Whole};
+ghost use Rattle.printing.specs.Limits.{ListedWhole};
 
 // With tables that suffice at all limits, and room for the longest graph.
-pub fn list_text(text: &[u8], out: &mut [u8; 1048576]) -> usize
-    ensures { λ r. ⌜ Whole (now (out .exit)) r (flowlist (now (text .entry))) ⌝ }
+pub fn list_text(text: &[u8], out: &mut [u8; 1048576]) -> Printed
+    ensures { λ r. ⌜ ListedWhole (now (text .entry)) (now (out .exit)) (r .built) (r .len) ⌝ }
 {
     let mut counts = [0u32; 6];
     let mut lines = [0u16; MAX_LINES];

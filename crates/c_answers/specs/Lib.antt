@@ -1,2 +1,3 @@
 pub mod BuildNumbers
 pub mod QuestionNumbers
+pub mod VerdictNumbers

@@ -1,1 +1,2 @@
+pub mod CheckNumbers
 pub mod Zero

@@ -7,12 +7,14 @@ use mathlib.Core.Option.{Option, none, some}
 use native.Mathlib.Omega.{arith}
 use lib.Dec.{ltb, leb}
 use lib.ListN.{length, getD}
-use Rattle.listings.specs.Bytes.{pick}
+use Rattle.listings.specs.Bytes.{same, pick}
 use Rattle.listings.specs.Listing.{Listing, count}
-use Rattle.listings.specs.Rows.{isName}
+use Rattle.listings.specs.Rows.{split, isName}
 use Rattle.listings.specs.Read.{start}
 use Rattle.listings.specs.Records.{nameKey}
 use Rattle.graph.specs.Build.{Capacity, Built, graph, refused as refusedBuild, build, BuildNumber, ofInput, ofLines, ofNodes, ofEdges}
+use Rattle.graph.specs.Print.{printed}
+use Rattle.graph.specs.Check.{Verdict, right, wrong, isGraphRow, rowNumber, compared, against, checked}
 use Rattle.graph_laws.specs.Theorems.{numbers}
 use Rattle.graph.specs.Questions.{Reply, answer, refused, ifRoom}
 use Rattle.adjacency.specs.ListsAt.{listAt, successorsAt, predecessorsAt}
@@ -20,6 +22,7 @@ use Rattle.adjacency.specs.EntryAt.{nodeIn, entryAt}
 use Rattle.statements.specs.StatementAt.{ifRows, recordOutside, stmtAt, childAt, ifFound, statementFrom, pathStatement, unlessRefused, nodeStatement}
 use Rattle.frame_lists.specs.FrameAt.{frameOutside, frameRead, frameIn, frameAt}
 use Rattle.c_answers.specs.BuildNumbers.{numberOf}
+use Rattle.c_answers.specs.VerdictNumbers.{numberOf as verdictNumber}
 use Rattle.c_answers.specs.QuestionNumbers.{codeOf}
 
 -- ---- a refusal's number is above 0
@@ -32,20 +35,58 @@ either : {A : Type 0} (P : A → Type 0) (t : Bool) (x y : A) → P x → P y �
 either P true x y h g = h
 either P false x y h g = g
 
+above : {n : ℕ} → BuildNumber n → 0 < n
+above (ofInput h) = omega arith
+above ofLines = omega arith
+above ofNodes = omega arith
+above ofEdges = omega arith
+
 -- "0": the graph is in the tables
 pub zero-graph : (c : Capacity) (t : List ℕ) → numberOf (build c t) ≡ 0 → (L : Listing) × (build c t ≡ graph L)
 unfolding numberOf
 zero-graph c t e = go (build c t) refl e
   where
-    above : {n : ℕ} → BuildNumber n → 0 < n
-    above (ofInput h) = omega arith
-    above ofLines = omega arith
-    above ofNodes = omega arith
-    above ofEdges = omega arith
-
     go : (b : Built) → build c t ≡ b → numberOf b ≡ 0 → (L : Listing) × (b ≡ graph L)
     go (graph L) q z = (L, refl)
     go (refusedBuild n p) q z = absurd (omega (arith, above (numbers c t n p q)))
+
+-- ---- the check
+
+abbrev Judged : Verdict → Type 0
+Judged right = Unit {0}
+Judged (wrong n p) = 0 < n
+
+row-number : (w : List ℕ) → 0 < rowNumber w
+unfolding rowNumber
+row-number w = either (λ (n : ℕ). 0 < n) (isGraphRow w) 32 31 (omega arith) (omega arith)
+
+compared-judged : (i : ℕ) (due given : List (List ℕ)) → Judged (compared i due given)
+unfolding compared
+compared-judged i [] [] = omega arith
+compared-judged i (d ∷ []) [] = omega arith
+compared-judged i (d ∷ e ∷ due) [] = omega arith
+compared-judged i [] ((b ∷ w) ∷ []) = omega arith
+compared-judged i (d ∷ []) ((b ∷ w) ∷ []) = omega arith
+compared-judged i (d ∷ e ∷ due) ((b ∷ w) ∷ []) = omega arith
+compared-judged i [] ([] ∷ []) = tt
+compared-judged i (d ∷ []) ([] ∷ []) = tt
+compared-judged i (d ∷ e ∷ due) ([] ∷ []) = omega arith
+compared-judged i [] (w ∷ v ∷ ws) = row-number w
+compared-judged i (d ∷ []) (w ∷ v ∷ ws) = row-number w
+compared-judged i (d ∷ e ∷ due) (w ∷ v ∷ ws) = either Judged (same d w) _ _ (compared-judged (suc i) (e ∷ due) (v ∷ ws)) (row-number w)
+
+-- "0": the graph is right
+pub zero-check : (c : Capacity) (t g : List ℕ) → verdictNumber (checked c t g) ≡ 0 → checked c t g ≡ right
+unfolding against verdictNumber
+zero-check c t g e = told (checked c t g) (judged (build c t) refl) e
+  where
+    judged : (b : Built) → build c t ≡ b → Judged (against b g)
+    judged (graph L) q = compared-judged 0 (split 10 (printed L)) (split 10 g)
+    judged (refusedBuild n p) q = above (numbers c t n p q)
+
+    told : (v : Verdict) → Judged v → verdictNumber v ≡ 0 → v ≡ right
+    told right h z = refl
+    told (wrong n p) h z = absurd (omega arith)
 
 -- ---- the questions
 

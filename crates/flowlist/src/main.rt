@@ -8,6 +8,7 @@ fn main() {
     let mut text = [0u8; 65537];
     let mut out = [0u8; 1048576];
     let n = io::read_full(STDIN_FILENO, &mut text);
-    let r = list_text(&text[..n], &mut out);
+    let listed = list_text(&text[..n], &mut out);
+    let r = listed.len;
     io::write_all(STDOUT_FILENO, &out[..r]);
 }

@@ -62,7 +62,8 @@ fn answer_part(text: &mut [u8], n: usize) {
     let mut out = [0u8; 1048576];
     let part = &mut text[..n];
     io::read_full(STDIN_FILENO, part);
-    let r = list_text(part, &mut out);
+    let listed = list_text(part, &mut out);
+    let r = listed.len;
     print_framed(&out[..r]);
 }
 

@@ -5,9 +5,11 @@ use mathlib.Core.List.{List, _++_}
 use native.Mathlib.Omega.{arith}
 use lib.ListN.{length, take, drop}
 use lib.Seq.{length-sets, sets-eq, take-at}
-use Rattle.graph.specs.Build.{Capacity, build, written, flowlist}
+use Rattle.graph.specs.Build.{Capacity, build, written, limits, flowlist}
 use Rattle.passes.specs.TableForms.{Sizes}
+use Rattle.wiring.specs.GraphTables.{answerOf}
 use Rattle.wiring.specs.Limits.{at-limits}
+use Rattle.wiring.specs.declared.build.Built.{Built as BuiltAnswer}
 use Rattle.formatting.specs.Printing.{Puts, puts-is}
 use Rattle.printing.specs.ListGraph.{GraphListed}
 use Rattle.printing.specs.PrintLength.{flowlist-length}
@@ -27,11 +29,19 @@ puts-whole out out′ l n h g =
     front : take 0 out ++ l ++ drop (0 + length l) out ≡ l ++ drop (length l) out
     front = let y : 0 + length l ≡ length l = omega arith in rw y
 
+-- with tables that suffice at all limits, x is answered, and all of what the definition's `flowlist` says stands in `out`
+pub record ListedWhole (text out : List ℕ) (x : BuiltAnswer) (n : ℕ) : Type 0 where
+  pub answer : x ≡ answerOf (build limits text)
+  pub whole : Whole out n (flowlist text)
+
 -- so `list_graph` with tables of these lengths, s, and 1,048,576 bytes for the graph writes all of what the definition's `flowlist` says
-pub listed-limits : (text : List ℕ) (s : Sizes) (c l t a e f k i r u p out out′ : List ℕ) (n : ℕ) → 1024 ≡ s .lines → 49152 ≡ s .stmts → 262144 ≡ s .args
+pub listed-limits : (text : List ℕ) (s : Sizes) (c l t a e f k i r u p out out′ : List ℕ) (x : BuiltAnswer) (n : ℕ) → 1024 ≡ s .lines → 49152 ≡ s .stmts → 262144 ≡ s .args
     → 2048 ≡ s .entries → 12288 ≡ s .falls → 262144 ≡ s .links → 16384 ≡ s .lists → 4096 ≡ s .returns → 32768 ≡ s .succ
-    → 32768 ≡ s .pred → length out ≡ 1048576 → GraphListed text s c l t a e f k i r u p out out′ n → Whole out′ n (flowlist text)
+    → 32768 ≡ s .pred → length out ≡ 1048576 → GraphListed text s c l t a e f k i r u p out out′ x n → ListedWhole text out′ x n
 unfolding flowlist
-listed-limits text s c l t a e f k i r u p out out′ n hl ht ha he hf hk hi hr hu hp ho g =
-    puts-whole out out′ (flowlist text) n (omega (arith, flowlist-length text))
-    (puts-is (ap (λ (z : Capacity). written (build z text)) (at-limits s hl ht ha he hf hk hi hr hu hp)) (g .listed))
+listed-limits text s c l t a e f k i r u p out out′ x n hl ht ha he hf hk hi hr hu hp ho g =
+    let e = at-limits s hl ht ha he hf hk hi hr hu hp in
+    record {
+      answer = g .built .answer ∙ ap (λ (z : Capacity). answerOf (build z text)) e;
+      whole = puts-whole out out′ (flowlist text) n (omega (arith, flowlist-length text)) (puts-is (ap (λ (z : Capacity). written (build z text)) e) (g .listed));
+    }

@@ -16,10 +16,9 @@ use Rattle.wiring.specs.BuildAnswers.{text-read, accepted-built, graph-of, refu
 use Rattle.wiring.specs.declared.build.Built.{Built as BuiltAnswer}
 use Rattle.wiring.specs.declared.build.Built.the-variants as answer
 
--- the tables are as `build` leaves them, and what the definition writes for the text stands in `out`, as far as that goes
-pub record GraphListed (text : List ℕ) (s : Sizes) (c l t a e f k i r u p out out′ : List ℕ) (n : ℕ) : Type 0 where
-  pub answer : BuiltAnswer
-  pub built : Answered (build (capacity s) text) s c l t a e f k i r u p answer
+-- x is answered and the tables are as `build` leaves them, and what the definition writes for the text stands in `out`, as far as that goes
+pub record GraphListed (text : List ℕ) (s : Sizes) (c l t a e f k i r u p out out′ : List ℕ) (x : BuiltAnswer) (n : ℕ) : Type 0 where
+  pub built : Answered (build (capacity s) text) s c l t a e f k i r u p x
   pub listed : Puts out 0 out′ n (written (build (capacity s) text))
 
 -- ---- proofs
@@ -41,10 +40,10 @@ module _ (text : List ℕ) (s : Sizes) (c l t a e f k i r u p : List ℕ) (x : B
   some-graph q = let h = listing-held q in (h .0, h .2)
 
   pub graph-listed : (out out′ : List ℕ) (n : ℕ) → x ≡ answer.Graph → GraphPrinted l t e f i r u p (getD c 5 0) (getD c 1 0) (getD c 4 0) out out′ n
-      → GraphListed text s c l t a e f k i r u p out out′ n
+      → GraphListed text s c l t a e f k i r u p out out′ answer.Graph n
   unfolding written
-  graph-listed out out′ n q z = let h = listing-held q in record { answer = x; built = w; listed = puts-is (sym (ap written (h .1))) (z (h .0) (h .2)) }
+  graph-listed out out′ n q z = let h = listing-held q in record { built = rw q at w; listed = puts-is (sym (ap written (h .1))) (z (h .0) (h .2)) }
 
-  pub refusal-listed : (out out′ : List ℕ) (n j y : ℕ) → x ≡ answer.Refused j y → Puts out 0 out′ n (printedRefusal j y) → GraphListed text s c l t a e f k i r u p out out′ n
+  pub refusal-listed : (out out′ : List ℕ) (n j y : ℕ) → x ≡ answer.Refused j y → Puts out 0 out′ n (printedRefusal j y) → GraphListed text s c l t a e f k i r u p out out′ (answer.Refused j y) n
   unfolding written
-  refusal-listed out out′ n j y q z = record { answer = x; built = w; listed = puts-is (sym (ap written (refused-by (text-read text) s T x w j y q .1))) z }
+  refusal-listed out out′ n j y q z = record { built = rw q at w; listed = puts-is (sym (ap written (refused-by (text-read text) s T x w j y q .1))) z }

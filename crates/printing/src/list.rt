@@ -42,7 +42,13 @@ fn print_counted(
     )
 }
 
-// Builds the graph of a text in the lent tables and prints it, or its refusal; answers where the next byte would go (the length of `out` if it did not fit).
+// What was built, and where the next byte of what was printed would go (the length of the part if it did not fit).
+pub struct Printed {
+    pub built: Built,
+    pub len: usize,
+}
+
+// Builds the graph of a text in the lent tables and prints it, or its refusal.
 pub fn list_graph(
     text: &[u8],
     counts: &mut [u32; 6],
@@ -57,8 +63,8 @@ pub fn list_graph(
     succ: &mut [u16],
     pred: &mut [u16],
     out: &mut [u8],
-) -> usize
-    ensures { λ r. ⌜ GraphListed (now (text .entry)) (sizesOf (now (lines .entry)) (now (stmts .entry)) (now (args .entry)) (now (entries .entry)) (now (falls .entry)) (now (links .entry)) (now (lists .entry)) (now (returns .entry)) (now (succ .entry)) (now (pred .entry))) (now (counts .exit)) (now (lines .exit)) (now (stmts .exit)) (now (args .exit)) (now (entries .exit)) (now (falls .exit)) (now (links .exit)) (now (lists .exit)) (now (returns .exit)) (now (succ .exit)) (now (pred .exit)) (now (out .entry)) (now (out .exit)) r ⌝ }
+) -> Printed
+    ensures { λ r. ⌜ GraphListed (now (text .entry)) (sizesOf (now (lines .entry)) (now (stmts .entry)) (now (args .entry)) (now (entries .entry)) (now (falls .entry)) (now (links .entry)) (now (lists .entry)) (now (returns .entry)) (now (succ .entry)) (now (pred .entry))) (now (counts .exit)) (now (lines .exit)) (now (stmts .exit)) (now (args .exit)) (now (entries .exit)) (now (falls .exit)) (now (links .exit)) (now (lists .exit)) (now (returns .exit)) (now (succ .exit)) (now (pred .exit)) (now (out .entry)) (now (out .exit)) (r .built) (r .len) ⌝ }
 {
     let built = build(
         text,
@@ -75,18 +81,30 @@ pub fn list_graph(
         pred,
     );
     match built {
-        Built::Refused { number, place } => put_refusal(out, 0, number as usize, place),
-        Built::Graph => print_counted(
-            counts,
-            lines,
-            stmts,
-            entries,
-            falls,
-            lists,
-            returns,
-            succ,
-            pred,
-            out,
-        ),
+        Built::Refused { number, place } => {
+            let len = put_refusal(out, 0, number as usize, place);
+            Printed {
+                built: Built::Refused { number, place },
+                len: len,
+            }
+        }
+        Built::Graph => {
+            let len = print_counted(
+                counts,
+                lines,
+                stmts,
+                entries,
+                falls,
+                lists,
+                returns,
+                succ,
+                pred,
+                out,
+            );
+            Printed {
+                built: Built::Graph,
+                len: len,
+            }
+        }
     }
 }

@@ -24,7 +24,7 @@ array-share-prefix-out : tie.Need-array-share-prefix-out
 array-share-prefix-out c = search needs
 
 slice-aggregate-write-all : tie.Need-slice-aggregate-write-all
-slice-aggregate-write-all c = sym (length-take-le _ _ (c .before .list-text .ensures .inside))
+slice-aggregate-write-all c = sym (length-take-le _ _ (c .before .list-text .ensures .whole .inside))
 
 write-all-requires : tie.Need-write-all-requires
 write-all-requires c κs = search needs

@@ -26,7 +26,7 @@ array-share-prefix-out : tie.Need-array-share-prefix-out
 array-share-prefix-out c = search needs
 
 slice-aggregate-print-framed : tie.Need-slice-aggregate-print-framed
-slice-aggregate-print-framed c = sym (length-take-le _ _ (c .before .before .before .list-text .ensures .inside))
+slice-aggregate-print-framed c = sym (length-take-le _ _ (c .before .before .before .list-text .ensures .whole .inside))
 
 print-framed-requires : tie.Need-print-framed-requires
 print-framed-requires c κs = search needs

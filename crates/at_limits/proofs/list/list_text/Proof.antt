@@ -44,7 +44,7 @@ returns : tie.Need-returns
 returns c =
     let at-start : tie.Start = search in
     let at-list-graph : tie.After-list-graph = search in
-    listed-limits (at-start .args .text .now) _ _ _ _ _ _ _ _ _ _ _ _ _ _ _
+    listed-limits (at-start .args .text .now) _ _ _ _ _ _ _ _ _ _ _ _ _ _ _ _
     (sym (length-replicate {0} {A = ℕ} 1024 0))
     (sym (length-replicate {0} {A = ℕ} 49152 0))
     (sym (length-replicate {0} {A = ℕ} 262144 0))
