@@ -1,10 +1,10 @@
 /* The flow graph of a Commodore BASIC listing: the proved library from C.
  *
- * The caller lends every table. `flow_build` reads a listing's text and writes its graph; the other calls answer questions
- * about tables, whoever wrote them. Lengths count entries. No pointer may be null, also where the length is 0, and nothing that
- * is written may overlap anything else; no more is asked of what is lent. Too short a table, a wrong count or a wrong record is
- * refused by its number. Nothing is allocated or kept between calls, so any number of threads may call at once, each with tables
- * of its own.
+ * The caller lends every table. `flow_build` reads a listing's text and writes its graph, `flow_check` also holds a printed graph
+ * to it; the other calls answer questions about tables, whoever wrote them. Lengths count entries. No pointer may be null, also
+ * where the length is 0, and nothing that is written may overlap anything else; no more is asked of what is lent. Too short a
+ * table, a wrong count or a wrong record is refused by its number. Nothing is allocated or kept between calls, so any number of
+ * threads may call at once, each with tables of its own.
  *
  * tests/header.py holds this file to the sources of the library. docs/DECISIONS.md, "Tables", has the layout in words.
  */
@@ -59,6 +59,9 @@ extern "C" {
 #define FLOW_RETURNS_SIZE 4096
 #define FLOW_SUCC_SIZE 32768
 #define FLOW_PRED_SIZE 32768
+
+/* Bytes that suffice for every printed graph. */
+#define FLOW_PAGE_SIZE 1048576
 
 /* A statement's record in `stmts`. A node or none is one more than its id, or 0. */
 #define FLOW_STMT_WORD 0    /* its opening word */
@@ -130,6 +133,8 @@ extern "C" {
 #define FLOW_NO_STATEMENT 26       /* no statement at the path asked, or at the path in a node's record; place 0 */
 #define FLOW_NOT_FOUND 27          /* an inner statement not found during building; proved never to be given; place 0 */
 #define FLOW_NO_ROOM 28            /* the frame list is longer than the slice lent for it; place: its length */
+#define FLOW_NOT_A_ROW 31          /* a row that no graph prints, or that lacks its byte 10; place: the row */
+#define FLOW_WRONG_ROW 32          /* a row in form but wrong, missing or one too many; place: the row */
 
 /* Reads the text and writes its graph: FLOW_OK, 0 in `place`, and zeros past the used parts. Or refused: 1 to 8, 21, 22, 23, with
  * its place in `place`, and every entry of every table zero. What the tables held before does not matter. */
@@ -146,6 +151,27 @@ uint8_t flow_build(
     uint16_t *returns, size_t returns_len,
     uint16_t *succ, size_t succ_len,
     uint16_t *pred, size_t pred_len,
+    size_t place[1]);
+
+/* Builds as `flow_build`, with the same tables after, and compares `graph` with the listing's printed graph: FLOW_OK and 0 in
+ * `place` if it is that graph, byte for byte. Or refused, with its place in `place`: the listing's 1 to 8, 21, 22, 23, whatever
+ * `graph` is, or 31 or 32 for the first row of `graph` that is not the one due. That printed graph, or the refused listing's row
+ * `(refused NUMBER PLACE)`, then stands at the front of `page`; what stands past it is as it was. */
+uint8_t flow_check(
+    const uint8_t *text, size_t text_len,
+    const uint8_t *graph, size_t graph_len,
+    uint32_t counts[6],
+    uint16_t *lines, size_t lines_len,
+    uint16_t *stmts, size_t stmts_len,
+    uint64_t *args, size_t args_len,
+    uint16_t *entries, size_t entries_len,
+    uint16_t *falls, size_t falls_len,
+    uint16_t *links, size_t links_len,
+    uint16_t *lists, size_t lists_len,
+    uint16_t *returns, size_t returns_len,
+    uint16_t *succ, size_t succ_len,
+    uint16_t *pred, size_t pred_len,
+    uint8_t page[1048576],
     size_t place[1]);
 
 /* The questions below give FLOW_OK and their answer in `answer`, or a refusal, its place in `answer[0]` and 0 in `answer[1]`. */

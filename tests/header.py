@@ -5,7 +5,8 @@
   header.py damage    the same on damaged copies, each of which must show a difference
 
 Calls: names, order and types of parameters and results, from the functions that the crate flowgraph exports.
-Constants: limits, entries of each table, columns, opening words and refusals, from the Rattle sources and docs/DECISIONS.md.
+Constants: limits, entries of each table, the page's bytes, columns, opening words and refusals, from the Rattle sources and
+docs/DECISIONS.md.
 """
 
 import math
@@ -16,6 +17,7 @@ import sys
 HERE = os.path.dirname(os.path.abspath(__file__))
 HEADER, RUST, WORDS = "include/flowgraph.h", "rust/src/ffi.rs", "rust/src/word.rs"
 LIBRARY = "crates/flowgraph/src"
+CHECK, COMPARE = "crates/flowgraph/src/check.rt", "crates/comparing/src/compare.rt"
 DECISIONS, ROOM, SIZES = "docs/DECISIONS.md", "crates/wiring/src/room.rt", "crates/at_limits/src/list.rt"
 COLUMNS, LIMIT_CONSTANTS, OPENING = "crates/layout/src/columns.rt", "crates/layout/src/limits.rt", "crates/tokens/src/words.rt"
 LIMITS = {"MAX_BYTES": "MAX_BYTES", "MAX_LINES": "MAX_LINES", "MAX_STATEMENTS": "MAX_STMTS", "MAX_EDGES": "MAX_EDGES", "MAX_DEPTH": "MAX_DEPTH"}
@@ -23,7 +25,7 @@ TABLES = ["lines", "stmts", "args", "entries", "falls", "links", "lists", "retur
 # What has entries of its own in a table, other than a statement.
 PER = {"lines": "MAX_LINES", "entries": "MAX_LINES", "succ": "MAX_EDGES", "pred": "MAX_EDGES"}
 C_TYPES = {"u8": "uint8_t", "u16": "uint16_t", "u32": "uint32_t", "u64": "uint64_t", "usize": "size_t", "bool": "bool"}
-CRATES = ["tokens", "reader", "walks", "wiring", "adjacency", "statements", "frame_slices", "frame_lists"]
+CRATES = ["tokens", "reader", "walks", "wiring", "adjacency", "statements", "frame_slices", "frame_lists", "comparing"]
 
 
 class Files:
@@ -151,6 +153,11 @@ def decided_tables(files):
     return found
 
 
+def page_size(files):
+    """The room that programs lend for a printed graph, which is proved to suffice."""
+    return int(re.search(r"\bout: &mut \[u8; (\d+)\]", files[SIZES])[1])
+
+
 def opening_words(files):
     table = re.search(r"const WORDS: .*? = \[(.*?)\];", files[OPENING], flags=re.S)[1]
     lengths = re.search(r"const LENGTHS: .*? = \[(.*?)\];", files[OPENING], flags=re.S)[1]
@@ -177,6 +184,7 @@ def due_constants(files):
         each = decided[table][0]
         due[f"{table.upper()}_EACH"] = each
         due[f"{table.upper()}_SIZE"] = each * due[PER.get(table, "MAX_STATEMENTS")]
+    due["PAGE_SIZE"] = page_size(files)
     due["COUNTS"] = decided["counts"][0]
     kept = re.search(r"^\| `counts` .*?\| ([^|]*) \| [^|]* \|$", files[DECISIONS], flags=re.M)[1]
     for i, what in enumerate(re.split(r"[,;] ", kept)):
@@ -226,6 +234,9 @@ def compare_tables(files, say):
             say(f"{SIZES}: {table} is {lent.get(table)}, {size} by {HEADER}")
     if lent.get("counts") != f"[0{decided['counts'][1]}; {found.get('COUNTS')}]":
         say(f"{SIZES}: counts are {lent.get('counts')}")
+    pages = {dict(params)["page"] for _, params in rattle_calls(files).values() if "page" in dict(params)}
+    if pages != {f"uint8_t [{found.get('PAGE_SIZE')}]"}:
+        say(f"{LIBRARY}: a lent page is {pages}, of {found.get('PAGE_SIZE')} bytes by {HEADER}")
 
 
 def compare_calls(files, say):
@@ -267,13 +278,26 @@ DAMAGE = [
     (HEADER, r"#define FLOW_WORD_CLR 24\n", ""),
     (HEADER, r"FLOW_OUTSIDE 25", "FLOW_OUTSIDE 29"),
     (HEADER, r"#define FLOW_TOO_WIDE 8 .*\n", ""),
+    (HEADER, r"#define FLOW_NOT_A_ROW 31 .*\n", ""),
+    (HEADER, r"FLOW_WRONG_ROW 32", "FLOW_WRONG_ROW 33"),
+    (HEADER, r"FLOW_PAGE_SIZE 1048576", "FLOW_PAGE_SIZE 1048575"),
+    (HEADER, r"uint8_t page\[1048576\]", "uint8_t page[1048577]"),
+    (HEADER, r"uint8_t page\[1048576\]", "const uint8_t page[1048576]"),
+    (HEADER, r"    const uint8_t \*text, size_t text_len,\n    const uint8_t \*graph, size_t graph_len,",
+     "    const uint8_t *graph, size_t graph_len,\n    const uint8_t *text, size_t text_len,"),
     (RUST, r"pub const STMTS_EACH: usize = 12", "pub const STMTS_EACH: usize = 13"),
     (RUST, r"\*const u8, name_len", "*const u16, name_len"),
     (RUST, r"        header: usize,\n        node: usize,", "        node: usize,\n        header: usize,"),
     (RUST, r"counts: \*mut \[u32; 6\]", "counts: *mut [u32; 5]"),
+    (RUST, r"pub const PAGE_SIZE: usize = 1048576", "pub const PAGE_SIZE: usize = 1048577"),
+    (RUST, r"page: \*mut \[u8; 1048576\]", "page: *mut [u8; 1048575]"),
+    (CHECK, r"page: &mut \[u8; 1048576\]", "page: &mut [u8; 1048577]"),
+    (CHECK, r"    graph: &\[u8\],\n", ""),
+    (COMPARE, r"\bnumber: 32,", "number: 33,"),
     (WORDS, r'    For "for",\n    Next "next",', '    Next "next",\n    For "for",'),
     (ROOM, r"falls / FALL_ENTRIES", "falls / LIST_ENTRIES"),
     (SIZES, r"\[0u16; FALLS_LENGTH\]", "[0u16; LISTS_LENGTH]"),
+    (SIZES, r"out: &mut \[u8; 1048576\]", "out: &mut [u8; 1048577]"),
     (DECISIONS, r"\| `lists` \| 4 a", "| `lists` | 5 a"),
     (OPENING, r"\[105, 102, 0,", "[105, 103, 0,"),
     (COLUMNS, r"const INDEX: usize = 3", "const INDEX: usize = 4"),

@@ -1,23 +1,41 @@
-//! How long a build takes, beside the original in the same process, and how much stack each call takes.
+//! How long a build takes, beside the original in the same process; how long a check of a printed graph takes, beside a build and
+//! as a program beside `flowlist`; how much stack each call takes.
 //! Prints tables for docs/SPEED.md. `tests/speed` runs it.
 //!
 //! The library's time is reading the text and building; the original's is `Cfg::build_with` alone, its module made before.
 
 #[path = "speed/clock.rs"]
 mod clock;
+#[path = "speed/programs.rs"]
+mod programs;
 #[path = "speed/stack.rs"]
 mod stack;
 
-use flowgraph::{Refusal, Tables};
+use flowgraph::{Refusal, Tables, PAGE_SIZE};
 use oracle::listing::{self, Form, Line, Listing};
 use oracle::{limits, lower};
 use std::hint::black_box;
+use std::path::Path;
 use std::time::Duration;
 
 /// Best of so many rounds; more where they take less than the one time together, fewer where they take more than the other.
 const ROUNDS: usize = 30;
 const SHORTEST: Duration = Duration::from_millis(300);
 const LONGEST: Duration = Duration::from_secs(6);
+
+/// The shapes at the limits whose graphs are checked: long graphs, much work for a short one, one that is refused.
+const CHECKED: [&str; 7] = [
+    "4,096 plain statements in 1,024 lines",
+    "32,768 edges of `any`",
+    "32,769 edges of `any`",
+    "3,500 calls, 8 RETURNs",
+    "1,024 regions",
+    "150 nests of depth 16",
+    "1,024 empty lines",
+];
+
+/// A graph file that no graph fills.
+const LARGE: usize = 100_000_000;
 
 fn main() {
     // `cargo bench` and `cargo test` add words of their own.
@@ -30,6 +48,10 @@ fn main() {
     table(&shapes(), rounds);
     println!("\n### Growth\n");
     table(&growth(), rounds);
+    println!("\n### Checking a graph\n");
+    check_table(&checked(), rounds);
+    println!("\n### flowcheck beside flowlist\n");
+    program_table(&checked(), rounds);
     println!("\n### Stack\n");
     stack_table();
 }
@@ -48,6 +70,11 @@ fn shop() -> Vec<Named> {
 
 fn shapes() -> Vec<Named> {
     limits::SHAPES.iter().map(|(name, make)| (name.to_string(), make())).collect()
+}
+
+fn checked() -> Vec<Named> {
+    let shapes = shapes().into_iter().filter(|(name, _)| CHECKED.contains(&name.as_str()));
+    shop().into_iter().chain(shapes).collect()
 }
 
 fn lines(bodies: Vec<Vec<Form>>) -> Listing {
@@ -171,15 +198,102 @@ fn table(listings: &[Named], rounds: usize) {
     }
 }
 
+// ---- checks
+
+type Page = Box<[u8; PAGE_SIZE]>;
+
+fn page() -> Page {
+    vec![0; PAGE_SIZE].try_into().expect("so many bytes")
+}
+
+fn check_time(tables: &mut Tables, text: &[u8], graph: &[u8], page: &mut Page) -> Duration {
+    let start = clock::now();
+    keep(black_box(&mut *tables).check(black_box(text), black_box(graph), page));
+    clock::now() - start
+}
+
+/// What is printed for a text, from the page that a check leaves; no byte of it is 0.
+fn printed(text: &[u8]) -> Vec<u8> {
+    let mut page = page();
+    keep(Tables::for_listing(text).check(text, b"", &mut page));
+    page.iter().copied().take_while(|&b| b != 0).collect()
+}
+
+/// Tables to size for both, the listing's own graph.
+fn check_table(listings: &[Named], rounds: usize) {
+    println!("| listing | bytes of the graph | build | check | check / build |");
+    println!("|---|---:|---:|---:|---:|");
+    for (name, listing) in listings {
+        let text = listing.text();
+        let graph = printed(&text);
+        let (mut built, mut checked, mut page) = (Tables::for_listing(&text), Tables::for_listing(&text), page());
+        assert_eq!(checked.check(&text, &graph, &mut page), built.build(&text), "{name}");
+        let times = best(rounds, &mut [
+            &mut || build_time(&mut built, &text),
+            &mut || check_time(&mut checked, &text, &graph, &mut page),
+        ]);
+        let bytes = grouped(graph.len() as u128);
+        println!("| {name} | {bytes} | {} | {} | {} |", micros(times[0]), micros(times[1]), ratio(times[1], times[0]));
+    }
+}
+
+/// Whole processes: a listing's graph printed, and that graph checked.
+fn program_table(listings: &[Named], rounds: usize) {
+    let (Some(list), Some(check)) = (programs::find("flowlist"), programs::find("flowcheck")) else {
+        println!("Not measured: no target/bin/flowlist or no target/bin/flowcheck.");
+        return;
+    };
+    let none = Path::new("/dev/null");
+    println!("| listing | bytes of the graph | flowlist | flowcheck | flowcheck / flowlist |");
+    println!("|---|---:|---:|---:|---:|");
+    for (name, listing) in listings {
+        let text = programs::file("listing", &listing.text());
+        let found = programs::output(&list, &text, &[]);
+        let graph = programs::file("graph", &found);
+        let due = if found.starts_with(b"(refused") { &found[..] } else { b"(right)\n" };
+        assert_eq!(programs::output(&check, none, &[&text, &graph]), due, "{name}");
+        let times = best(rounds, &mut [
+            &mut || programs::time(&list, &text, &[]),
+            &mut || programs::time(&check, none, &[&text, &graph]),
+        ]);
+        let bytes = grouped(found.len() as u128);
+        println!("| {name} | {bytes} | {} | {} | {} |", micros(times[0]), micros(times[1]), ratio(times[1], times[0]));
+    }
+    large_file(&list, &check);
+}
+
+/// One long row, in form to its end, and what a mere reading of the file takes.
+fn large_file(list: &Path, check: &Path) {
+    let none = Path::new("/dev/null");
+    let listing = programs::file("listing", b"(module 0\n)\n");
+    let row = format!("(graph 0 0\n(returns{})\n)\n", " 0".repeat(LARGE / 2));
+    let graph = programs::file("graph", row.as_bytes());
+    assert_eq!(programs::output(check, none, &[&listing, &graph]), b"(refused 32 1)\n");
+    let times = best(2, &mut [
+        &mut || programs::time(list, &listing, &[]),
+        &mut || programs::time(check, none, &[&listing, &graph]),
+        &mut || programs::time(Path::new("cat"), none, &[&graph]),
+    ]);
+    std::fs::remove_file(&graph).expect("the file");
+    let each = (times[1].saturating_sub(times[0])).as_secs_f64() * 1e9 / row.len() as f64;
+    println!(
+        "\nA graph file of {} bytes, one long row: flowcheck {}, {each:.1} ns a byte; `cat` of it {}.",
+        grouped(row.len() as u128), micros(times[1]), micros(times[2]),
+    );
+}
+
 // ---- stack
 
 /// The greatest of all listings, the calls in Rust included.
 fn stack_table() {
-    let mut peaks = [0usize; 7];
+    let mut peaks = [0usize; 8];
+    let mut page = page();
     for (name, listing) in shop().into_iter().chain(shapes()) {
         let text = listing.text();
         let mut tables = Tables::for_listing(&text);
         let mut note = |i: usize, call: &mut dyn FnMut()| peaks[i] = peaks[i].max(stack::peak(call));
+        let graph = printed(&text);
+        note(7, &mut || keep(tables.check(&text, &graph, &mut page)));
         note(0, &mut || keep(tables.build(&text)));
         let nodes = tables.counts[1] as usize;
         // The last node, and the deepest.
@@ -193,11 +307,11 @@ fn stack_table() {
             let mut out = vec![0; 4096];
             note(6, &mut || keep(tables.frame_successors(node, node, b"ABCDEFGH$", true, &mut out)));
         }
-        assert!(peaks[0] < stack::SIZE / 2, "{name}: the painted stack was too short");
+        assert!(peaks[0].max(peaks[7]) < stack::SIZE / 2, "{name}: the painted stack was too short");
     }
     println!("| call | most bytes written |");
     println!("|---|---:|");
-    let calls = ["build", "successors", "predecessors", "statement", "path", "entry", "frame"];
+    let calls = ["build", "successors", "predecessors", "statement", "path", "entry", "frame", "check"];
     for (call, peak) in calls.iter().zip(peaks) {
         println!("| `flow_{call}` | {} |", grouped(peak as u128));
     }

@@ -29,6 +29,9 @@ pub const RETURNS_EACH: usize = 1;
 pub const SUCC_EACH: usize = 1;
 pub const PRED_EACH: usize = 1;
 
+/// The longest printed graph takes less.
+pub const PAGE_SIZE: usize = 1048576;
+
 pub const STMT_WORD: usize = 0;
 pub const STMT_LINE: usize = 1;
 pub const STMT_HOLDER: usize = 2;
@@ -55,6 +58,24 @@ extern "C" {
         returns: *mut u16, returns_len: usize,
         succ: *mut u16, succ_len: usize,
         pred: *mut u16, pred_len: usize,
+        place: *mut [usize; 1],
+    ) -> u8;
+
+    pub fn flow_check(
+        text: *const u8, text_len: usize,
+        graph: *const u8, graph_len: usize,
+        counts: *mut [u32; 6],
+        lines: *mut u16, lines_len: usize,
+        stmts: *mut u16, stmts_len: usize,
+        args: *mut u64, args_len: usize,
+        entries: *mut u16, entries_len: usize,
+        falls: *mut u16, falls_len: usize,
+        links: *mut u16, links_len: usize,
+        lists: *mut u16, lists_len: usize,
+        returns: *mut u16, returns_len: usize,
+        succ: *mut u16, succ_len: usize,
+        pred: *mut u16, pred_len: usize,
+        page: *mut [u8; 1048576],
         place: *mut [usize; 1],
     ) -> u8;
 

@@ -39,12 +39,15 @@
 //! # Ok::<(), flowgraph::Refusal>(())
 //! ```
 //!
-//! No call panics, whatever it is given. Nothing is shared between graphs, so threads may build and ask as they like; a build
-//! takes less than 256 KiB of stack.
+//! [`check`] holds a printed graph that came from elsewhere to its listing.
+//!
+//! No call panics, whatever it is given. Nothing is shared between graphs, so threads may build and ask as they like; a build or a
+//! check takes less than 256 KiB of stack.
 
 #![warn(missing_docs)]
 
 mod cfg;
+mod check;
 mod ffi;
 mod refusal;
 mod size;
@@ -52,7 +55,8 @@ mod tables;
 mod word;
 
 pub use cfg::{Builder, Cfg, StmtPath};
-pub use ffi::{MAX_BYTES, MAX_DEPTH, MAX_EDGES, MAX_LINES, MAX_STATEMENTS};
+pub use check::check;
+pub use ffi::{MAX_BYTES, MAX_DEPTH, MAX_EDGES, MAX_LINES, MAX_STATEMENTS, PAGE_SIZE};
 pub use refusal::Refusal;
 pub use tables::{Stmt, Tables};
 pub use word::Word;

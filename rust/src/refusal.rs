@@ -2,12 +2,12 @@
 
 use std::fmt;
 
-/// A refusal: its number, and its place in the text or the count that would have been needed.
+/// A refusal: its number, and its place in the text or the graph, or the count that would have been needed.
 #[derive(Debug, Clone, Copy, PartialEq, Eq, Hash)]
 pub struct Refusal {
-    /// 1 to 8 for the text, 21 to 28 for tables and questions.
+    /// 1 to 8 for the text, 21 to 28 for tables and questions, 31 and 32 for a graph that is checked.
     pub number: u8,
-    /// A row counted from 0 for 2 to 8, a count for 21 to 23 and 28, the id for 24, else 0.
+    /// A row counted from 0 for 2 to 8, and of the graph for 31 and 32; a count for 21 to 23 and 28, the id for 24, else 0.
     pub place: usize,
 }
 
@@ -31,6 +31,8 @@ impl Refusal {
             26 => "no statement at that path",
             27 => "inner statement not found",
             28 => "frame list longer than the slice",
+            31 => "row that no graph prints, or without its byte 10",
+            32 => "row wrong, missing or one too many",
             _ => "unknown refusal",
         }
     }

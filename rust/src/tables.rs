@@ -118,6 +118,34 @@ impl Tables {
         answered(number, place[0], ())
     }
 
+    /// Builds as [`build`](Tables::build), with the same tables after, and compares the graph with the listing's printed graph. The
+    /// refusals are the listing's, or 31 or 32 with the first row of the graph that is not the one due. What was printed for the
+    /// listing, its graph or `(refused NUMBER PLACE)`, then stands at the front of the page; what stands past it is as it was.
+    pub fn check(&mut self, text: &[u8], graph: &[u8], page: &mut [u8; ffi::PAGE_SIZE]) -> Result<(), Refusal> {
+        let mut place = [0];
+        // SAFETY: each pointer and length is a slice's own, and the written ones are distinct fields of `self` or borrowed apart.
+        let number = unsafe {
+            ffi::flow_check(
+                text.as_ptr(), text.len(),
+                graph.as_ptr(), graph.len(),
+                &mut self.counts,
+                self.lines.as_mut_ptr(), self.lines.len(),
+                self.stmts.as_mut_ptr(), self.stmts.len(),
+                self.args.as_mut_ptr(), self.args.len(),
+                self.entries.as_mut_ptr(), self.entries.len(),
+                self.falls.as_mut_ptr(), self.falls.len(),
+                self.links.as_mut_ptr(), self.links.len(),
+                self.lists.as_mut_ptr(), self.lists.len(),
+                self.returns.as_mut_ptr(), self.returns.len(),
+                self.succ.as_mut_ptr(), self.succ.len(),
+                self.pred.as_mut_ptr(), self.pred.len(),
+                page,
+                &mut place,
+            )
+        };
+        answered(number, place[0], ())
+    }
+
     /// A node's successors, in their order.
     pub fn successors(&self, node: usize) -> Result<&[u16], Refusal> {
         let mut answer = [0; 2];

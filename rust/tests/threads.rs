@@ -1,6 +1,6 @@
 //! From a thread with 2 MiB of stack, and from many threads at once.
 
-use flowgraph::{Builder, Cfg, Refusal, Tables};
+use flowgraph::{Builder, Cfg, Refusal, Tables, PAGE_SIZE};
 use oracle::random::Random;
 use oracle::{damage, generate, limits};
 use std::thread;
@@ -56,10 +56,14 @@ fn a_quarter_mib_for_the_calls() {
     for shape in 0..limits::SHAPES.len() as u64 {
         let text = limits::listing_text(shape, &mut random);
         let mut tables = Tables::for_listing(&text);
+        let mut page: Box<[u8; PAGE_SIZE]> = vec![0; PAGE_SIZE].try_into().expect("so many bytes");
         let asked = thread::Builder::new().stack_size(256 << 10).spawn(move || {
+            let missing = Refusal { number: 32, place: 0 };
+            let checked = tables.check(&text, b"", &mut page);
             let nodes = match tables.build(&text) {
+                Ok(()) if checked != Err(missing) => return false,
                 Ok(()) => tables.counts[1] as usize,
-                Err(refusal) => return refusal.number == 23,
+                Err(refusal) => return refusal.number == 23 && checked == Err(refusal),
             };
             let mut out = vec![0; 4096];
             nodes == 0
