@@ -3,27 +3,32 @@
 
   flow_checks.py write             the stored pairs of listing and graph, made anew (needs the original)
   flow_checks.py stored            the stored answers again by the second reading, the graphs by the original if it is at hand
-  flow_checks.py judge PROGRAM     a run of the program for each stored pair, for the points by hand and for bad arguments
+  flow_checks.py judge PROGRAM     a run of the program for each stored pair, for the points by hand, for long files and for bad arguments
+  flow_checks.py large PROGRAM     files of 100 MB, and the longest listing, in little memory
   flow_checks.py compare PROGRAM SEED COUNT   a run of the program for each of so many fresh pairs (needs the original)
 
-Right graphs are the original's, refusals the second readings'. About one graph in ten is right, the others are damaged.
+Right graphs are the original's or written by hand, refusals the second readings'. Of fresh pairs about one graph in ten is right,
+the others are damaged.
 """
 
 import io
 import os
 import random
 import re
+import resource
 import subprocess
 import sys
 import tempfile
 from collections import Counter
+from concurrent.futures import ThreadPoolExecutor
 from functools import wraps
+from itertools import islice
 
 HERE = os.path.dirname(os.path.abspath(__file__))
 sys.path.insert(0, os.path.join(HERE, "oracle"))
 sys.dont_write_bytecode = True
 from compare import due_answers  # noqa: E402
-from second_check import C12_LISTING, edges_listing, listing_refusal, points, printed, verdict  # noqa: E402
+from second_check import C12_LISTING, EMPTY_LISTING, G, RIGHT, edges_listing, listing_refusal, points, printed, text, verdict  # noqa: E402
 from second_reading import framed, judge, written  # noqa: E402
 from vectors import find_oracle, generated  # noqa: E402
 
@@ -31,6 +36,12 @@ SEED, STORED = 1983, os.path.join(HERE, "checks.framed")
 # How often each answer stands among the stored pairs, and how long a pair may be; 1 and 5 to 8 need long texts.
 SHARES, STORED_BYTES = {"right": 40, "31": 150, "32": 160, "2": 25, "3": 12, "4": 3}, 1200
 LONGEST, SECONDS = 2000000, 60
+# The program reads a graph in pieces of so many bytes.
+PIECE = 65536
+# A large file, and the memory that the program gets for it: the stack that most systems give, and all together.
+LARGE, STACK, MEMORY = 100000000, 8 << 20, 64 << 20
+# Pairs that wait for their runs.
+BATCH = 64
 
 # Damage. Each takes a source of random numbers, a graph and the graph of another listing.
 
@@ -247,7 +258,7 @@ def listings(oracle, rng, seed, count):
     numbers = {"small": count, "medium": 2 + count // 40, "damaged": 2 + count // 15, "limit": 60, "directed": 1}
     texts = {kind: generated(oracle, kind, seed, number) for kind, number in numbers.items()}
     # The original takes its time for those at the limits.
-    texts["limit"] = [edges_listing(9), *rng.sample(texts["limit"], count // 300)]
+    texts["limit"] = [edges_listing(9), *rng.sample(texts["limit"], min(count // 300, numbers["limit"]))]
     for at in range(count):
         kind = rng.choices(["small", "medium", "damaged", "limit", "directed"], [72, 5, 5, 1, 17])[0]
         listing = texts["small"][at] if kind == "small" else rng.choice(texts[kind])
@@ -287,15 +298,79 @@ def counted(answers):
     return ", ".join(f"{n}: {seen[n]}" for n in sorted(seen, key=lambda n: (n != "right", len(n), n)))
 
 
+# Long files.
+
+def listed(word, ids):
+    return f"({' '.join([word, *map(str, ids)])})"
+
+
+def wide_pair():
+    """A listing at the limits and its graph, by hand: 1,024 lines of four statements each. The last 28 lines begin with an `any`,
+    which goes to the first statement of every line; any other statement falls to the next one."""
+    lines, each, anys = 1024, 4, 28
+    nodes, entries = range(each * lines), range(0, each * lines, each)
+    jumps = set(entries[-anys:])
+    succ = [entries if id in jumps else nodes[id + 1:id + 2] for id in nodes]
+    pred = [[] for _ in nodes]
+    for id in nodes:
+        for to in succ[id]:
+            pred[to].append(id)
+    listing, graph = ["(module 0"], [f"(graph 0 {len(nodes)}"]
+    for line, entry in enumerate(entries):
+        body = nodes[entry:entry + each]
+        listing += [f"(line {line}", *("(any)" if id in jumps else "(plain)" for id in body), ")"]
+        graph += [f"(node {id} {line} {line} ({id - entry}) {listed('succ', succ[id])} {listed('pred', pred[id])})" for id in body]
+    graph += [f"(entry {line} {entry})" for line, entry in enumerate(entries)]
+    return text(" / ".join([*listing, ")"])), text(" / ".join([*graph, "(returns)", ")"]))
+
+
+def returns_row(size, last):
+    """A row of so many bytes, `(returns 0 0 .. ` and a last word."""
+    room = size - len(b"(returns )\n") - len(last)
+    return b"(returns" + b" 10" * (room % 2) + b" 0" * ((room - 3 * (room % 2)) // 2) + b" " + last + b")\n"
+
+
+def long_rows():
+    """Against G: a row that ends beside the end of a piece, some pieces in, or at two million bytes, and there the file may end.
+    Only the row's last bytes tell 31 from 32."""
+    head, end = text("(graph 0 0"), text(")")
+    for size in [PIECE * n + more for n in (1, 2, 16) for more in (-1, 0, 1)] + [LONGEST]:
+        rows = [(last, returns_row(size - len(head), last) + end) for last in (b"7", b"65536", b"00", b"x")]
+        rows += [(b"7", rows[0][1].removesuffix(end)), (b"", rows[0][1].removesuffix(b"\n" + end))]
+        for last, row in rows:
+            yield f"a row to byte {size}", EMPTY_LISTING, text(G), head + row, printed((32 if last == b"7" else 31, 1))
+
+
+def wide_files():
+    """Against the wide listing: its graph, more than one of them, cut or changed beside the end of a piece."""
+    listing, right = wide_pair()
+    rows, row = right.count(b"\n"), returns_row(LONGEST, b"7")
+    by_hand = [("", right, RIGHT), ("three times", 3 * right, (32, rows)), ("and a long row", right + row, (32, rows)),
+               ("and a long row without its end", right + row[:-1], (31, rows)), ("without its end", right[:-1], (31, rows - 1)),
+               ("without its last row", right[:-2], (32, rows - 1))]
+    for what, graph, answer in by_hand:
+        yield f"the wide graph {what}", listing, right, graph, printed(answer)
+    for end in range(PIECE, len(right), PIECE):
+        graphs = [right[:at] for at in (end - 1, end, end + 1)]
+        graphs += [right[:at] + byte + right[at + 1:] for at, byte in ((end - 1, b"7"), (end, b"7"), (end, b"\n"), (end, b"x"))]
+        for graph in graphs:
+            yield f"the wide graph changed near byte {end}", listing, right, graph, due(listing, right, graph)
+
+
 # Runs of the program.
+
+def little_memory():
+    for what, most in ((resource.RLIMIT_STACK, STACK), (resource.RLIMIT_AS, MEMORY)):
+        resource.setrlimit(what, (most, resource.getrlimit(what)[1]))
+
 
 class Runs:
     """Runs a program on pairs, in a folder that goes with them, and counts what differs."""
 
     def __init__(self, program, folder):
-        self.program = program
+        self.program = os.path.abspath(program)
         self.folder = folder
-        self.wrong = 0
+        self.count = self.wrong = 0
 
     def path(self, name, data):
         path = os.path.join(self.folder, name)
@@ -303,46 +378,133 @@ class Runs:
             out.write(data)
         return path
 
-    def output(self, *arguments):
-        """What it printed and its status; a program that does not end fails here."""
-        done = subprocess.run([self.program, *arguments], stdin=subprocess.DEVNULL, stdout=subprocess.PIPE, timeout=SECONDS)
-        return done.stdout, done.returncode
+    def output(self, *arguments, before=None):
+        """What it printed, what it said on standard error and its status; a program that does not end fails here."""
+        done = subprocess.run([self.program, *arguments], cwd=self.folder, preexec_fn=before, stdin=subprocess.DEVNULL,
+                              capture_output=True, timeout=SECONDS)
+        return done.stdout, done.stderr, done.returncode
 
     def differs(self, what, right, found):
         self.wrong += 1
         if self.wrong <= 5:
             print(f"{what}\n  due   {right}\n  found {found}")
 
-    def pair(self, listing, right, graph, answer, what=""):
-        found, status = self.output(self.path("listing", listing), self.path("graph", graph))
-        if (found, status) != (answer, 0):
-            self.differs(f"{what}\n{listing[:600]!r}\n{right[:600]!r}\n{graph[:600]!r} ({len(graph)} bytes)", (answer, 0), (found[:600], status))
+    def same(self, what, found, answer):
+        """The answer alone was printed, and the program ended by itself."""
+        self.count += 1
+        if found != (answer, b"", 0):
+            self.differs(what, answer, tuple(part[:600] if isinstance(part, bytes) else part for part in found))
+
+    def answer(self, at, pair):
+        """A run in files of its own, so that others can go on beside it. A name is used once: to write a file anew takes its time."""
+        paths = self.path(f"listing{at}", pair[1]), self.path(f"graph{at}", pair[3])
+        found = self.output(*paths)
+        for path in paths:
+            os.remove(path)
+        return found
+
+    def pairs(self, pairs):
+        """A run for each: what it is, listing, what flowlist prints for it, graph, answer. Nothing may be left in the folder."""
+        pairs, before = iter(pairs), self.count
+        with ThreadPoolExecutor() as pool:
+            while batch := list(islice(pairs, BATCH)):
+                names = range(self.count, self.count + len(batch))
+                for pair, found in zip(batch, pool.map(self.answer, names, batch), strict=True):
+                    what, listing, right, graph, answer = pair
+                    shown = f"{listing[:600]!r}\n{right[:600]!r}\n{graph[:600]!r} ({len(graph)} bytes)"
+                    self.same(f"{what}\n{shown}", found, answer)
+        if left := os.listdir(self.folder):
+            self.differs("files after the runs", "none", left)
+        return self.count - before
+
+    def content(self):
+        """Every file of the folder."""
+        found = {}
+        for name in os.listdir(self.folder):
+            with open(os.path.join(self.folder, name), "rb") as file:
+                found[name] = file.read()
+        return found
 
     def bad_arguments(self):
-        """Not two names, or a name of no file that can be read: nothing printed, and a status other than 0."""
-        listing, graph = self.path("listing", b"(module 0\n)\n"), self.path("graph", b"(graph 0 0\n(returns)\n)\n")
-        missing = os.path.join(self.folder, "missing")
-        tried = [(), (listing,), (listing, graph, graph), (missing, graph), (listing, missing), (self.folder, graph), (listing, self.folder)]
-        for arguments in tried:
-            found, status = self.output(*arguments)
-            if found or status <= 0:
-                self.differs(f"arguments {arguments}", "nothing, a status other than 0", (found[:600], status))
+        """Not two names, or a name of no file that can be read: nothing printed, and on standard error the usage, or the name as it
+        was given."""
+        listing, graph = self.path("listing", EMPTY_LISTING), self.path("graph", text(G))
+        refused = self.path("refused", EMPTY_LISTING[:-1])
+        usage = b"flowcheck LISTING GRAPH"
+        tried = [((), usage), ((listing,), usage), ((listing, graph, graph), usage)]
+        # No file; a folder, which opens and cannot be read; a file as a folder; names that no file can have.
+        names = [os.path.join(self.folder, "missing"), "missing", self.folder, ".", os.path.join(graph, "graph"), "", 300 * "n", 5000 * "n"]
+        for bad in names:
+            # A name longer than any file's may be left out of the message.
+            said = bad.encode("ascii") if len(bad) < 4096 else b""
+            # Both files are asked for before anything is judged: the listing may be one that is refused.
+            tried += [((bad, graph), said), ((listing, bad), said), ((refused, bad), said), ((bad, bad), said)]
+        before = self.content()
+        for arguments, said in tried:
+            found, message, status = self.output(*arguments)
+            if found or not message or said not in message or status < 0:
+                self.differs(f"arguments {arguments}", ("nothing", said), (found[:600], message[:600], status))
+        if self.content() != before:
+            self.differs("the files after bad arguments", sorted(before), sorted(self.content()))
+        for name in before:
+            os.remove(os.path.join(self.folder, name))
+        return len(tried)
+
+    def names(self):
+        """Files by odd names, the folder's or as they stand in it; one file twice."""
+        tried = ["listing", "a listing", "-", "--", "(right)", os.fsdecode(b"\xff"), 200 * "n"]
+        for name in tried:
+            listing, graph = self.path(name, EMPTY_LISTING), self.path(name + "2", text(G))
+            self.same(f"name {name!r}", self.output(listing, graph), printed(RIGHT))
+            self.same(f"name {name!r}, in its folder", self.output(name, name + "2"), printed(RIGHT))
+            self.same(f"name {name!r}, twice", self.output(name, name), printed((31, 0)))
+            os.remove(listing)
+            os.remove(graph)
         return len(tried)
 
 
 def compare(program, seed, count):
     oracle = find_oracle() or sys.exit(3)
     answers, ways = [], Counter()
+
+    def fresh():
+        for listing, right, graph, done in pairs(oracle, int(seed), int(count)):
+            answers.append(due(listing, right, graph))
+            ways.update(done or ["unchanged"])
+            yield f"pair {len(answers) - 1}: {' '.join(done) or 'unchanged'}", listing, right, graph, answers[-1]
+
     with tempfile.TemporaryDirectory() as folder:
         runs = Runs(program, folder)
-        for listing, right, graph, done in pairs(oracle, int(seed), int(count)):
-            answer = due(listing, right, graph)
-            answers.append(answer)
-            ways.update(done or ["unchanged"])
-            runs.pair(listing, right, graph, answer, f"pair {len(answers) - 1}: {' '.join(done) or 'unchanged'}")
+        runs.pairs(fresh())
     print(", ".join(f"{way} {n}" for way, n in ways.most_common()))
     print(f"checks {seed}: {len(answers)} pairs, by answer {counted(answers)}; {runs.wrong} different")
     return 1 if runs.wrong or not answers else 0
+
+
+def large(program):
+    """Each run has little memory: a graph file that is never held whole, a listing that is not read to its end, a listing at the limits."""
+    with tempfile.TemporaryDirectory() as folder:
+        runs = Runs(program, folder)
+        listing, graph = runs.path("listing", EMPTY_LISTING), runs.path("graph", text("(graph 0 0") + b"(returns")
+        with open(graph, "ab") as out:
+            for _ in range(LARGE // LONGEST):
+                out.write(b" 0" * (LONGEST // 2))
+            size = out.tell()
+        # The same row, with another last word.
+        for last, number in ((b" 7", 32), (b" 07", 31)):
+            os.truncate(graph, size)
+            with open(graph, "ab") as out:
+                out.write(last + b")\n)\n")
+            runs.same(f"a row of {LARGE} bytes", runs.output(listing, graph, before=little_memory), printed((number, 1)))
+        os.truncate(runs.path("graph", text(G)), LARGE)
+        runs.same(f"{LARGE} bytes, nearly all of them 0", runs.output(listing, graph, before=little_memory), printed((31, 3)))
+        runs.path("graph", text(G))
+        os.truncate(listing, LARGE)
+        runs.same(f"a listing of {LARGE} bytes", runs.output(listing, graph, before=little_memory), printed((1, 0)))
+        listing, graph = map(runs.path, ("listing", "graph"), wide_pair())
+        runs.same("the wide graph", runs.output(listing, graph, before=little_memory), printed(RIGHT))
+    print(f"flowcheck with {MEMORY >> 20} MiB: {runs.count} long files; {runs.wrong} different")
+    return 1 if runs.wrong else 0
 
 
 # The stored pairs: four framed texts each, the listing, what flowlist prints for it, the graph file, the answer.
@@ -371,13 +533,18 @@ def stored_pairs():
 def stored():
     found = stored_pairs()
     texts = [listing for listing, _, _, _ in found]
+    wide = wide_pair()
     oracle = find_oracle()
     if oracle:
-        prints = due_answers(oracle, texts)
+        *prints, by_hand = due_answers(oracle, [*texts, wide[0]])
     else:
         print("the original is not at hand: the stored graphs are not asked of it again")
         prints = [right if judge(listing) is None else written(listing) for listing, right, _, _ in found]
+        by_hand = written(wide[0]) or wide[1]
     wrong = 0
+    if by_hand != wide[1]:
+        wrong += 1
+        print("the wide graph is not the original's")
     for (listing, right, graph, answer), again in zip(found, prints, strict=True):
         if right != again or answer != due(listing, right, graph):
             wrong += 1
@@ -393,14 +560,12 @@ def stored():
 def judge_program(program):
     with tempfile.TemporaryDirectory() as folder:
         runs = Runs(program, folder)
-        by_hand = list(points())
-        for point, listing, right, graph, answer in by_hand:
-            runs.pair(listing, right, graph, printed(answer), f"point {point}")
-        found = stored_pairs()
-        for pair in found:
-            runs.pair(*pair)
-        bad = runs.bad_arguments()
-    print(f"flowcheck: {len(by_hand)} points by hand, {len(found)} stored pairs, {bad} times bad arguments; {runs.wrong} different")
+        by_hand = runs.pairs((f"point {point}", *pair, printed(answer)) for point, *pair, answer in points())
+        found = runs.pairs(("a stored pair", *pair) for pair in stored_pairs())
+        long = runs.pairs(long_rows()) + runs.pairs(wide_files())
+        names, bad = runs.names(), runs.bad_arguments()
+    print(f"flowcheck: {by_hand} points by hand, {found} stored pairs, {long} long files, {names} odd names, "
+          f"{bad} times bad arguments; {runs.wrong} different")
     return 1 if runs.wrong else 0
 
 
@@ -412,6 +577,8 @@ if __name__ == "__main__":
             sys.exit(stored())
         case ["judge", program]:
             sys.exit(judge_program(program))
+        case ["large", program]:
+            sys.exit(large(program))
         case ["compare", program, seed, count]:
             sys.exit(compare(program, seed, count))
         case _:
