@@ -11,7 +11,8 @@ use lib.ListN.{length, getD, getElem?, take, drop}
 use Rattle.listings.specs.Bytes.{bytes, pick, same}
 use Rattle.listings.specs.Listing.{Listing}
 use Rattle.listings.specs.Rows.{split, openingWords}
-use Rattle.listings.specs.Read.{Outcome, taken, read}
+use Rattle.listings.specs.Read.{Outcome, taken}
+use Rattle.listings.specs.Cut.{meant}
 use Rattle.listings.specs.WordTable.{words, first, wordIndex}
 use Rattle.listings.specs.Scan.{rest-all}
 use Rattle.listings.specs.WordText.{same-equal}
@@ -97,7 +98,7 @@ module _ (L : Listing) (T : Tables) (m : Questions L T) where
   answer-is (ofPath l p) = ap (replyRow numberedRow) (m .path l p) ∙ path-row 0 l p (nodes (L .lines))
   answer-is (ofFrame a i v flag) = ap (replyRow _) (m .frame a i v flag 4096)
 
-pub build-answers : (text : List ℕ) (s : Sizes) (T : Tables) (x : BuiltAnswer) → BuildWrote (read text) s T x → x ≡ built.Graph
+pub build-answers : (text : List ℕ) (s : Sizes) (T : Tables) (x : BuiltAnswer) → BuildWrote (meant text) s T x → x ≡ built.Graph
     → (L : Listing) × (build (capacity s) text ≡ graph L) × ((q : Question) → answerAt (T .counts) (T .stmts) (T .args) (T .entries) (T .falls) (T .lists) (T .succ) (T .pred) q ≡ answerRow L q)
 build-answers text s T x wrote e =
     let M = mission text s T x wrote in

@@ -12,6 +12,7 @@ use Rattle.listings.specs.Listing.{Listing, count}
 use Rattle.listings.specs.Rows.{split, isName}
 use Rattle.listings.specs.Read.{start}
 use Rattle.listings.specs.Records.{nameKey}
+use Rattle.listings.specs.Cut.{cutName}
 use Rattle.graph.specs.Build.{Capacity, Built, graph, refused as refusedBuild, build, BuildNumber, ofInput, ofLines, ofNodes, ofEdges}
 use Rattle.graph.specs.Print.{printed}
 use Rattle.graph.specs.Check.{Verdict, right, wrong, isGraphRow, rowNumber, compared, against, checked}
@@ -149,7 +150,7 @@ frame-numbered lines n stmts args falls lists succ header node name flag room =
     either Numbered (isName name) _ _
     (either Numbered (ltb header n) _ _
     (either Numbered (ltb node n) _ _
-    (either Numbered (frameOutside n stmts args falls lists succ header node) (refused 25 0) _ (omega arith) (unless-numbered _ _ (room-numbered room (frameRead stmts args falls lists succ header node (nameKey name) flag))))
+    (either Numbered (frameOutside n stmts args falls lists succ header node) (refused 25 0) _ (omega arith) (unless-numbered _ _ (room-numbered room (frameRead stmts args falls lists succ header node (nameKey (cutName name)) flag))))
     (omega arith))
     (omega arith))
     (omega arith)

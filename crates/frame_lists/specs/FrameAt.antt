@@ -8,6 +8,7 @@ use Rattle.listings.specs.Bytes.{pick}
 use Rattle.listings.specs.Listing.{Name}
 use Rattle.listings.specs.Rows.{isName}
 use Rattle.listings.specs.Records.{nameKey}
+use Rattle.listings.specs.Cut.{cutName}
 use Rattle.layout.specs.Layout.{returnWord, runWord, forWord, nextWord, clrWord, stmtEntries, argEntries, fallEntries, listEntries}
 use Rattle.tables.specs.Columns.{callWord, wordOf, fallEntry, succStart, succCount, succPart}
 use Rattle.graph.specs.Questions.{Reply, refused, kept, ifRoom}
@@ -62,5 +63,6 @@ frameIn lines n stmts args falls lists succ h i k flag room =
     (refused 24 i))
     (refused 24 h)
 
+-- the name is judged whole and then cut (document 02, L2)
 unfoldable pub frameAt : (lines n : ℕ) (stmts args falls lists succ : List ℕ) → (header node : ℕ) → Name → Bool → (room : ℕ) → Reply (List ℕ)
-frameAt lines n stmts args falls lists succ h i v flag room = pick (isName v) (frameIn lines n stmts args falls lists succ h i (nameKey v) flag room) (refused 3 0)
+frameAt lines n stmts args falls lists succ h i v flag room = pick (isName v) (frameIn lines n stmts args falls lists succ h i (nameKey (cutName v)) flag room) (refused 3 0)

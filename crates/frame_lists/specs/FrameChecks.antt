@@ -12,6 +12,7 @@ use Rattle.listings.specs.Rows.{isName, parseName}
 use Rattle.tokens.specs.Names.{asKey}
 use Rattle.reader.specs.Operands.{keyAnswer}
 use Rattle.listings.specs.Records.{nameKey}
+use Rattle.listings.specs.Cut.{cutName}
 use Rattle.tables.specs.Columns.{callWord, wordOf, fallEntry, succStart, succCount, succPart}
 use Rattle.graph.specs.Questions.{Reply, refused, kept, ifRoom}
 use Rattle.adjacency.specs.ListsAt.{successorsAt, partOf}
@@ -209,7 +210,7 @@ module _ (stmts args falls lists succ : List ℕ) (h i k : ℕ) (flag : Bool) wh
 
 -- ---- the name
 
-pub name-key : (v : Name) → isName v ≡ true → keyAnswer (asKey (parseName v)) ≡ nameKey v
+pub name-key : (v : Name) → isName v ≡ true → keyAnswer (asKey (parseName v)) ≡ nameKey (cutName v)
 unfolding parseName
 name-key v e = rw e
 
@@ -221,6 +222,6 @@ module _ (lines n : ℕ) (stmts args falls lists succ : List ℕ) (h i : ℕ) (v
   unfolding frameAt
   at-3 e = rw e refl
 
-  pub at-name : (k l m : ℕ) → isName v ≡ true → l ≡ lines → m ≡ n → k ≡ nameKey v → frameIn l m stmts args falls lists succ h i k flag room ≡ frameAt lines n stmts args falls lists succ h i v flag room
+  pub at-name : (k l m : ℕ) → isName v ≡ true → l ≡ lines → m ≡ n → k ≡ nameKey (cutName v) → frameIn l m stmts args falls lists succ h i k flag room ≡ frameAt lines n stmts args falls lists succ h i v flag room
   unfolding frameAt
   at-name k l m e g d f = rw (e, g, d, f) refl

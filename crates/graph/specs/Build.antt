@@ -6,7 +6,8 @@ use lib.Dec.{leb}
 use lib.ListN.{length}
 use Rattle.listings.specs.Bytes.{pick}
 use Rattle.listings.specs.Listing.{Listing, total, count}
-use Rattle.listings.specs.Read.{Answer, listing, refusal, read}
+use Rattle.listings.specs.Read.{Answer, listing, refusal}
+use Rattle.listings.specs.Cut.{meant}
 use Rattle.graph.specs.Graph.{allSuccessors}
 use Rattle.graph.specs.Print.{printed, printedRefusal}
 
@@ -44,9 +45,9 @@ unfoldable pub builtOf : Capacity → Answer → Built
 builtOf c (listing L) = fitted c L
 builtOf c (refusal n p) = refused n p
 
--- of a text
+-- of a text: the graph is that of the listing that it means, whose names are cut
 abbrev pub build : Capacity → List ℕ → Built
-build c t = builtOf c (read t)
+build c t = builtOf c (meant t)
 
 -- the numbers that an input can be refused by: "1 text too long" to "8 a 65th number or slot"
 abbrev pub InputNumber : ℕ → Type 0

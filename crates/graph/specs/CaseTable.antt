@@ -8,7 +8,8 @@ use lib.Dec.{eqb}
 use lib.ListN.{length}
 use Rattle.listings.specs.Bytes.{bytes, same}
 use Rattle.listings.specs.Listing.{Listing}
-use Rattle.listings.specs.Read.{Answer, listing, refusal, read}
+use Rattle.listings.specs.Read.{Answer, listing, refusal}
+use Rattle.listings.specs.Cut.{meant}
 use Rattle.graph.specs.Lists.{list}
 use Rattle.graph.specs.Nodes.{nodes, entries, entryOf}
 use Rattle.graph.specs.Graph.{wire, successors, continuation}
@@ -48,7 +49,7 @@ pub data Case : Type 0 where
   writes : List ℕ → List ℕ → Case
 
 unfoldable pub right : Case → Bool
-right (claims t cs) = holdOf (read t) cs
+right (claims t cs) = holdOf (meant t) cs
 right (writes t o) = same (flowlist t) o
 
 unfoldable pub allRight : List Case → Bool

@@ -13,6 +13,7 @@ pub mod Opened
 pub mod CaseTable
 pub mod Cases
 pub mod Traps
+pub mod CutCases
 pub mod RunCases
 pub mod Questions
 pub mod QuestionsOpened

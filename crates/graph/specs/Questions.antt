@@ -8,6 +8,7 @@ use lib.ListN.{length, getElem?}
 use Rattle.listings.specs.Bytes.{same, pick}
 use Rattle.listings.specs.Listing.{Name, Simple, Listing}
 use Rattle.listings.specs.Rows.{isName}
+use Rattle.listings.specs.Cut.{cutName}
 use Rattle.graph.specs.Lists.{has, keep}
 use Rattle.graph.specs.Nodes.{NodeStmt, simple, cond, Node, nodes, entries, entryOf}
 use Rattle.graph.specs.NodeWords.{stmtWord}
@@ -88,6 +89,7 @@ askEntry L n = answer (entryOf (entries (L .lines)) n)
 unfoldable pub ifRoom : ℕ → List ℕ → Reply (List ℕ)
 ifRoom room l = pick (leb (length l) room) (answer l) (refused 28 (length l))
 
--- "3 (a bad name, place 0), then 24 (the header first)"; room: how many entries the lent slice has
+-- "3 (a bad name, place 0), then 24 (the header first)"; room: how many entries the lent slice has. The name is judged whole and then cut: "The name given to
+-- the frame question is cut too." (document 02, L2)
 unfoldable pub askFrame : Listing → (header node : ℕ) → Name → Bool → (room : ℕ) → Reply (List ℕ)
-askFrame L h i v flag room = pick (isName v) (ifNode L h (ifNode L i (ifRoom room (frameList L h i v flag)))) (refused 3 0)
+askFrame L h i v flag room = pick (isName v) (ifNode L h (ifNode L i (ifRoom room (frameList L h i (cutName v) flag)))) (refused 3 0)

@@ -5,7 +5,8 @@ use mathlib.Core.List.{List, [], _∷_, map}
 use mathlib.Core.Bool.{Bool, true, false, _&&_}
 use lib.Dec.{T}
 use Rattle.listings.specs.Bytes.{bytes, same}
-use Rattle.listings.specs.Read.{Answer, listing, refusal, read}
+use Rattle.listings.specs.Read.{Answer, listing, refusal}
+use Rattle.listings.specs.Cut.{meant}
 use Rattle.graph.specs.Run.{State, run}
 use Rattle.graph.specs.Opened.{opened}
 
@@ -21,7 +22,7 @@ again : String
 again = "(module 0\n(line 10\n(ongosub 10 20)\n(stop)\n)\n(line 20\n(return)\n)\n)\n"
 
 runs : T (
-    same (visited (read (bytes c12)) 0 (0 ∷ 1 ∷ 0 ∷ 0 ∷ 0 ∷ [])) (3 ∷ 4 ∷ 1 ∷ 2 ∷ [])
-    && same (visited (read (bytes again)) 0 (0 ∷ 0 ∷ 1 ∷ 0 ∷ 2 ∷ [])) (0 ∷ 0 ∷ 2 ∷ 1 ∷ []))
+    same (visited (meant (bytes c12)) 0 (0 ∷ 1 ∷ 0 ∷ 0 ∷ 0 ∷ [])) (3 ∷ 4 ∷ 1 ∷ 2 ∷ [])
+    && same (visited (meant (bytes again)) 0 (0 ∷ 0 ∷ 1 ∷ 0 ∷ 2 ∷ [])) (0 ∷ 0 ∷ 2 ∷ 1 ∷ []))
 unfolding opened visited c12 again
 runs = tt

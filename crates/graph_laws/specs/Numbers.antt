@@ -11,6 +11,8 @@ use Rattle.listings.specs.Bytes.{pick}
 use Rattle.listings.specs.Listing.{CondWord, Stmts, Listing, total, count}
 use Rattle.listings.specs.Rows.{Parse, malformed, invalid, parsed, Content, noForm, endRow, stmtsRow, moduleRow, lineRow, toRow, simpleRow, condRow, split, onFirst, rowOf, contentOf}
 use Rattle.listings.specs.Read.{OpenCond, Branches, Position, begin, inModule, ended, inStmts, inCond, Reading, start, Outcome, taken, refused, orRefused, check, atBegin, ascends, readLine, atModule, readSimple, readCond, atStmts, NextBranch, noMore, mayFollow, nextBranch, condStmt, endCond, readTo, readStmts, atCond, readRow, Answer, listing, refusal, finish, readRows, read}
+use Rattle.listings.specs.Cut.{meant}
+use Rattle.listings.specs.CutLaws.{meant-refused}
 use Rattle.graph.specs.Build.{InputNumber, BuildNumber, ofInput, ofLines, ofNodes, ofEdges, Capacity, Built, graph, refused as notBuilt, edgeCount, fitted, builtOf, build}
 
 -- ---- a row
@@ -178,4 +180,4 @@ answer-number c (listing L) h n p e = subst Given e (fitted-number c L)
 answer-number c (refusal m q) h n p e = let x : m ≡ n = cc in ofInput (h n q (ap (λ (k : ℕ). refusal k q) x))
 
 pub build-number : (c : Capacity) (t : List ℕ) (n p : ℕ) → build c t ≡ notBuilt n p → BuildNumber n
-build-number c t = answer-number c (read t) (λ n p e. let r = read-refusal t n p e in (r .0, r .1))
+build-number c t = answer-number c (meant t) (λ n p e. let r = read-refusal t n p (meant-refused t n p e) in (r .0, r .1))

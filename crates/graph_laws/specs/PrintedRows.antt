@@ -14,8 +14,9 @@ use Rattle.listings.specs.Rows.{split, all, isDigit}
 use Rattle.listings.specs.ListingText.{NumberOk, Within}
 use Rattle.listings.specs.NumberText.{both-true, all-append-true, all-weaken, digit-range, decimal-digits}
 use Rattle.listings.specs.Every.{All, all[], all∷, noNewline}
-use Rattle.listings.specs.Read.{Answer, listing, refusal, read}
-use Rattle.listings.specs.RoundTrip.{accepted-in-form}
+use Rattle.listings.specs.Read.{Answer, listing, refusal}
+use Rattle.listings.specs.Cut.{meant}
+use Rattle.listings.specs.CutLaws.{meant-within}
 use Rattle.listings.specs.RowForms.{split-text}
 use Rattle.graph.specs.Lists.{each, list, below}
 use Rattle.graph.specs.Nodes.{Node, LineEntry, entries}
@@ -188,10 +189,10 @@ fitted-is c M L e = go (leb (count (M .lines)) (c .lines)) (leb (total (M .lines
 
 pub built-within : (c : Capacity) (t : List ℕ) (L : Listing) → build c t ≡ graph L → Within L
 unfolding builtOf
-built-within c t L e = go (read t) refl e
+built-within c t L e = go (meant t) refl e
   where
-    go : (a : Answer) → read t ≡ a → builtOf c a ≡ graph L → Within L
-    go (listing M) h e = subst Within (fitted-is c M L e) (accepted-in-form t M h .0 .within)
+    go : (a : Answer) → meant t ≡ a → builtOf c a ≡ graph L → Within L
+    go (listing M) h e = subst Within (fitted-is c M L e) (meant-within t M h)
     go (refusal n p) h e = not-built e
 
 -- so it is for every text that has a graph

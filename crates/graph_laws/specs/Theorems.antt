@@ -10,6 +10,9 @@ use Rattle.listings.specs.Listing.{Listing}
 use Rattle.listings.specs.ListingText.{InForm, listingText}
 use Rattle.listings.specs.Read.{listing, read}
 use Rattle.listings.specs.RoundTrip.{in-form-accepted, accepted-in-form}
+use Rattle.listings.specs.Cut.{cutListing, meant}
+use Rattle.listings.specs.CutLaws.{listing-again, meant-listing, meant-written}
+use Rattle.listings.specs.CutText.{cut-in-form}
 use Rattle.graph.specs.Lists.{addAll}
 use Rattle.graph.specs.Nodes.{nodes, entries}
 use Rattle.graph.specs.Targets.{dispatchTargets}
@@ -29,6 +32,16 @@ accepted = in-form-accepted
 
 pub in-form : (t : List ℕ) (L : Listing) → read t ≡ listing L → InForm L × (t ≡ listingText L)
 in-form = accepted-in-form
+
+-- what it means is that listing with its names cut, which is in form too; cutting twice is cutting once (document 02, L2)
+pub means : (W : Listing) → InForm W → meant (listingText W) ≡ listing (cutListing W)
+means W h = meant-listing (listingText W) W (accepted W h)
+
+pub meant-of : (t : List ℕ) (L : Listing) → meant t ≡ listing L → (W : Listing) × InForm W × (t ≡ listingText W) × (L ≡ cutListing W)
+meant-of t L e = let w = meant-written t L e in let f = in-form t (w .written) (w .reads) in (w .written, f .0, f .1, w .cut)
+
+pub cut-listing : (L : Listing) → (InForm L → InForm (cutListing L)) × (cutListing (cutListing L) ≡ cutListing L)
+cut-listing L = (cut-in-form L, listing-again L)
 
 -- 2. a refused build has one of the numbers 1 to 8, 21, 22 and 23
 pub numbers : (c : Capacity) (t : List ℕ) (n p : ℕ) → build c t ≡ refused n p → BuildNumber n

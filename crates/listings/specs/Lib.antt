@@ -22,3 +22,6 @@ pub mod Records
 pub mod RecordLaws
 pub mod ReadingRecords
 pub mod Scan
+pub mod Cut
+pub mod CutLaws
+pub mod CutText

@@ -9,14 +9,15 @@ use lib.ListN.{length, replicate, take, drop, replicate-append-replicate}
 use lib.Seq.{length-take-le, drop-at}
 use Rattle.listings.specs.Bytes.{pick}
 use Rattle.listings.specs.Listing.{Listing, total, count}
-use Rattle.listings.specs.Read.{Answer, listing, refusal, read}
+use Rattle.listings.specs.Read.{Answer, listing, refusal}
+use Rattle.listings.specs.Cut.{meant}
+use Rattle.listings.specs.CutLaws.{meant-within}
 use Rattle.listings.specs.Records.{fitted, answerOf, tableOf, countsOf, padded, lineRecs, argRow}
 use Rattle.listings.specs.ReadingRecords.{numbers-count, lines-length}
 use Rattle.listings.specs.RecordLaws.{recs-length}
 use Rattle.reader.specs.Tables.{joined-length}
 use Rattle.reader.specs.ReadBack.{lines-wide}
 use Rattle.listings.specs.ListingText.{Within}
-use Rattle.listings.specs.RoundTrip.{accepted-in-form}
 use borrow.Author.Tests.{leb-true}
 use Rattle.reader.specs.Answer.{listedOf}
 use Rattle.reader.specs.Listed.{lineEntries, stmtEntries, argEntries, RecordsWritten}
@@ -79,8 +80,8 @@ pub record Fits (q : Answer) (kl kn : ℕ) (L : Listing) : Type 0 where
 abbrev pub ReadWithin : Answer → Type 0
 ReadWithin q = (L : Listing) → q ≡ listing L → Within L
 
-pub text-within : (text : List ℕ) → ReadWithin (read text)
-text-within text L e = accepted-in-form text L e .0 .within
+pub text-within : (text : List ℕ) → ReadWithin (meant text)
+text-within text = meant-within text
 
 pub read-fits : (q : Answer) → ReadWithin q → (kl kn : ℕ) (L : Listing) → readBy kl kn q ≡ listing L → Fits q kl kn L
 unfolding answerOf lineEntries stmtEntries argEntries

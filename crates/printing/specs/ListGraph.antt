@@ -33,7 +33,7 @@ module _ (text : List ℕ) (s : Sizes) (c l t a e f k i r u p : List ℕ) (x : B
       let g = graph-of (text-read text) s T x w q in
       let L = g .0 in
       let n = counts-held L s T (g .3) in
-      let h = graph-held L s T (g .1 .in-form .within) (g .2) (g .3) in
+      let h = graph-held L s T (text-read text .within L (text-read text .reads L (g .1))) (g .2) (g .3) in
       (L, accepted-built (text-read text) s L (g .1) (g .2), rw (n .rows, n .stmts, n .targets) h)
 
   pub some-graph : x ≡ answer.Graph → SomeGraph l t e f i r u p (getD c 5 0) (getD c 1 0) (getD c 4 0)

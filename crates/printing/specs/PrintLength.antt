@@ -14,7 +14,9 @@ use Rattle.listings.specs.Listing.{Listing, total, count}
 use Rattle.listings.specs.ListingText.{LinesOk}
 use Rattle.listings.specs.NumberText.{decimal-small, decimal-more}
 use Rattle.listings.specs.Every.{All, all[], all∷}
-use Rattle.listings.specs.Read.{Answer, listing, refusal, read}
+use Rattle.listings.specs.Read.{Answer, listing, refusal}
+use Rattle.listings.specs.Cut.{meant}
+use Rattle.listings.specs.CutLaws.{meant-refused, meant-within}
 use Rattle.graph.specs.Lists.{each, list, below}
 use Rattle.graph_laws.specs.Members.{all-map}
 use Rattle.graph.specs.Nodes.{Node, nodes, LineEntry, entriesBefore, entries}
@@ -25,7 +27,6 @@ use Rattle.graph_laws.specs.GraphLaws.{nodeCount, entry-ids, continuation-ids, 
 use Rattle.graph_laws.specs.NodeBounds.{Small, NodeShort, all-get, pred-ids, below-all, entry-numbers, below-le, all-both, node-count, small, nodes-short}
 use Rattle.graph.specs.Print.{spaced, joined, nodeRow, nodeRows, entryRow, backRow, printed, printedRefusal}
 use Rattle.graph.specs.Build.{lengths, edgeCount, Capacity, graph, refused, fitted, builtOf, build, written, limits, flowlist}
-use Rattle.graph_laws.specs.Theorems.{in-form}
 use Rattle.graph_laws.specs.Numbers.{read-refusal}
 use Rattle.passes.specs.LineEntries.{entries-length}
 use Rattle.passes.specs.EdgeTable.{joinedLists, startOf, start-next, start-end, lists-all}
@@ -216,11 +217,11 @@ fitted-length c L ok hc ht =
 
 pub written-length : (c : Capacity) (t : List ℕ) → length (written (build c t)) ≤ 1048576
 unfolding builtOf written
-written-length c t = go (read t) refl
+written-length c t = go (meant t) refl
   where
-    go : (a : Answer) → read t ≡ a → length (written (builtOf c a)) ≤ 1048576
-    go (listing L) e = let f = in-form t L e .0 .within in fitted-length c L (f .lines) (f .lineCount) (f .stmtCount)
-    go (refusal n p) e = let h = read-refusal t n p e in omega (arith, refusal-length n p (omega (arith, h .1)) (omega (arith, h .2)))
+    go : (a : Answer) → meant t ≡ a → length (written (builtOf c a)) ≤ 1048576
+    go (listing L) e = let f = meant-within t L e in fitted-length c L (f .lines) (f .lineCount) (f .stmtCount)
+    go (refusal n p) e = let h = read-refusal t n p (meant-refused t n p e) in omega (arith, refusal-length n p (omega (arith, h .1)) (omega (arith, h .2)))
 
 pub flowlist-length : (t : List ℕ) → length (flowlist t) ≤ 1048576
 unfolding flowlist

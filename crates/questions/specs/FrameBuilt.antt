@@ -13,6 +13,8 @@ use Rattle.listings.specs.Listing.{Name, Tier, goto, gosub, runto, ongoto, ongo
 use Rattle.listings.specs.ListingText.{simpleWord, condWord, SimpleOk, Within}
 use Rattle.listings.specs.Rows.{isName, openingWords}
 use Rattle.listings.specs.Records.{nameKey, argsOf, padded}
+use Rattle.listings.specs.Cut.{cutName}
+use Rattle.listings.specs.CutLaws.{cut-name}
 use Rattle.listings.specs.Scan.{same-sym}
 use Rattle.listings.specs.WordTable.{words, first, wordIndex}
 use Rattle.listings.specs.WordKinds.{block-never}
@@ -145,15 +147,15 @@ module _ {L : Listing} {lines n : ℕ} {stmts args falls lists succ : List ℕ} 
   frame-is h i v flag room = go (isName v) (ltb h n) (ltb i n) refl refl refl
     where
       go : (x y z : Bool) → isName v ≡ x → ltb h n ≡ y → ltb i n ≡ z
-          → pick x (pick y (pick z (pick (frameOutside n stmts args falls lists succ h i) (refused 25 0) (unlessRefused (noStatement lines stmts n i) (ifRoom room (frameRead stmts args falls lists succ h i (nameKey v) flag)))) (refused 24 i)) (refused 24 h)) (refused 3 0)
-          ≡ pick x (pick (ltb h (length (nodes (L .lines)))) (pick (ltb i (length (nodes (L .lines)))) (ifRoom room (frameList L h i v flag)) (refused 24 i)) (refused 24 h)) (refused 3 0)
+          → pick x (pick y (pick z (pick (frameOutside n stmts args falls lists succ h i) (refused 25 0) (unlessRefused (noStatement lines stmts n i) (ifRoom room (frameRead stmts args falls lists succ h i (nameKey (cutName v)) flag)))) (refused 24 i)) (refused 24 h)) (refused 3 0)
+          ≡ pick x (pick (ltb h (length (nodes (L .lines)))) (pick (ltb i (length (nodes (L .lines)))) (ifRoom room (frameList L h i (cutName v) flag)) (refused 24 i)) (refused 24 h)) (refused 3 0)
       go false y z e f k = refl
       go true false z e f k = rw (sym (g .nodes-are), f) refl
       go true true false e f k = rw (sym (g .nodes-are), f, k) refl
       go true true true e f k =
           let a : h < n = ltb-true h n f in
           let b : i < n = ltb-true i n k in
-          rw (sym (g .nodes-are), f, k, none-outside h i a b, g .has-stmt i b) (ap (ifRoom room) (read-is h i v flag e a b))
+          rw (sym (g .nodes-are), f, k, none-outside h i a b, g .has-stmt i b) (ap (ifRoom room) (read-is h i (cutName v) flag (cut-name v e) a b))
 
 -- ---- the tables that a build wrote
 

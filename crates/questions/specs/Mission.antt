@@ -1,5 +1,5 @@
 -- The mission (00-mission.md) as one theorem: what holds for every input and all lent tables once `build` has returned, and of every question asked of the tables
--- that it left. `Means L`: the input is one that gives the listing L; a text means the listing that it is the text of (`ListingOf`). q: what is read of it. Statements alone, to be read beside 00-mission.md; quotes are its words and document 01's. The proof is in MissionProof. Assumes nothing.
+-- that it left. `Means L`: the input is one that gives the listing L; a text means the listing that it is the text of, with its names cut (`ListingOf`). q: what is read of it. Statements alone, to be read beside 00-mission.md; quotes are its words and document 01's. The proof is in MissionProof. Assumes nothing.
 use Prim.Native.Nat.{ℕ}
 use mathlib.Core.Path.{_≡_}
 use mathlib.Core.Bool.{Bool, false}
@@ -8,7 +8,8 @@ use mathlib.Core.Logic.{_⊎_}
 use mathlib.Core.Option.{some}
 use lib.ListN.{length, getD, getElem?, take}
 use Rattle.listings.specs.Listing.{Name, Listing}
-use Rattle.listings.specs.Read.{Answer, read}
+use Rattle.listings.specs.Read.{Answer}
+use Rattle.listings.specs.Cut.{meant}
 use Rattle.listings.specs.Records.{handlerNumber}
 use Rattle.listings.specs.WordTable.{wordIndex}
 use Rattle.graph.specs.Nodes.{Node, nodes}
@@ -118,4 +119,4 @@ pub record Mission (Means : Listing → Type 0) (q : Answer) (s : Sizes) (T : Ta
 
 -- what `build` promises, for every text, all tables that may be lent and every answer, is enough
 abbrev pub MissionMet : Type 0
-MissionMet = (text : List ℕ) (s : Sizes) (T : Tables) (x : BuiltAnswer) → BuildWrote (read text) s T x → Mission (ListingOf text) (read text) s T x
+MissionMet = (text : List ℕ) (s : Sizes) (T : Tables) (x : BuiltAnswer) → BuildWrote (meant text) s T x → Mission (ListingOf text) (meant text) s T x

@@ -6,7 +6,8 @@ use mathlib.Core.List.{List}
 use mathlib.Core.Option.{some}
 use lib.ListN.{length, getElem?, take}
 use Rattle.listings.specs.Listing.{Listing, total, count}
-use Rattle.listings.specs.Read.{Answer, read}
+use Rattle.listings.specs.Read.{Answer}
+use Rattle.listings.specs.Cut.{meant}
 use Rattle.listings.specs.ListingText.{Within}
 use Rattle.graph.specs.Nodes.{Node, nodes}
 use Rattle.graph.specs.Graph.{wire, returnTargets}
@@ -105,4 +106,4 @@ mission-of Means q ok s T x wrote =
 
 -- of every text
 pub mission : MissionMet
-mission text = mission-of (ListingOf text) (read text) (text-read text)
+mission text = mission-of (ListingOf text) (meant text) (text-read text)

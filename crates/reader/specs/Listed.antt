@@ -9,7 +9,8 @@ use lib.ListN.{length, replicate, length-replicate}
 use borrow.Author.Tests.{le-leb, lt-leb, ltb-true, ltb-false}
 use Rattle.listings.specs.Listing.{Listing, total, count}
 use Rattle.listings.specs.Read.{Answer, listing, refusal, read}
-use Rattle.listings.specs.RoundTrip.{accepted-in-form}
+use Rattle.listings.specs.Cut.{cutListing, cutAnswer, meant}
+use Rattle.listings.specs.CutLaws.{cut-count, cut-total, meant-written, meant-within}
 use Rattle.reader.specs.Answer.{listedOf, was-accepted, was-refused}
 use Rattle.reader.specs.Judge.{read-long}
 use Rattle.listings.specs.Records.{lineRecs, lineNumbers, recRows, argRows, handlerNumber, countsOf, padded, fitted, answerOf, tableOf}
@@ -37,11 +38,20 @@ pub record RecordsWritten (b : Answer) (nl ns na : ℕ) (c l t a : List ℕ) (r 
   pub stmts : t ≡ tableOf stmtEntries (answerOf nl ns na b) ns
   pub args : a ≡ tableOf argEntries (answerOf nl ns na b) na
 
+-- the cut changes nothing that is answered
+listed-cut : (text : List ℕ) → listedOf (meant text) ≡ listedOf (read text)
+unfolding meant cutAnswer listedOf cutListing
+listed-cut text = go (read text)
+  where
+    go : (a : Answer) → listedOf (cutAnswer a) ≡ listedOf a
+    go (listing W) = rw (cut-count (W .lines), cut-total (W .lines))
+    go (refusal n p) = refl
+
 -- ---- an accepted text, before its tables are tested
 
 pub record Judged (text counts lines stmts args : List ℕ) (h : Bool) (nl ns : ℕ) : Type 0 where
   pub tree : Listing
-  pub reads : read text ≡ listing tree
+  pub reads : meant text ≡ listing tree
   pub handlers : h ≡ tree .handlers
   pub lineCount : nl ≡ count (tree .lines)
   pub stmtCount : ns ≡ total (tree .lines)
@@ -50,22 +60,25 @@ pub record Judged (text counts lines stmts args : List ℕ) (h : Bool) (nl ns : 
   pub zeroStmts : stmts ≡ replicate (length stmts) 0
   pub zeroArgs : args ≡ replicate (length args) 0
 
-short : (text : List ℕ) (L : Listing) → read text ≡ listing L → length text ≤ 65536
-short text L e = go (ltb 65536 (length text)) refl
+short-read : (text : List ℕ) (L : Listing) → read text ≡ listing L → length text ≤ 65536
+short-read text L e = go (ltb 65536 (length text)) refl
   where
     go : (b : Bool) → ltb 65536 (length text) ≡ b → length text ≤ 65536
     go true q = absurd (let p = read-long text (ltb-true 65536 (length text) q) in let z : _≡_ {A = ℕ} 0 1 = cc in omega arith)
     go false q = ltb-false 65536 (length text) q
 
+short : (text : List ℕ) (L : Listing) → meant text ≡ listing L → length text ≤ 65536
+short text L e = let w = meant-written text L e in short-read text (w .written) (w .reads)
+
 module _ (text counts lines stmts args : List ℕ) (h : Bool) (nl ns : ℕ) (j : Judged text counts lines stmts args h nl ns) where
   pub judged-small : (nl ≤ 1024) × (ns ≤ 4096)
-  judged-small = let f = accepted-in-form text (j .tree) (j .reads) .0 .within in (omega (arith, f .lineCount, j .lineCount), omega (arith, f .stmtCount, j .stmtCount))
+  judged-small = let f = meant-within text (j .tree) (j .reads) in (omega (arith, f .lineCount, j .lineCount), omega (arith, f .stmtCount, j .stmtCount))
 
   -- a table is too short
-  refuses : (n p : ℕ) → fitted (length lines) (length stmts) (length args) (j .tree) ≡ refusal n p → RecordsWritten (read text) (length lines) (length stmts) (length args) counts lines stmts args (listed.Refused n p)
+  refuses : (n p : ℕ) → fitted (length lines) (length stmts) (length args) (j .tree) ≡ refusal n p → RecordsWritten (meant text) (length lines) (length stmts) (length args) counts lines stmts args (listed.Refused n p)
   unfolding answerOf tableOf listedOf
   refuses n p e =
-      let a : answerOf (length lines) (length stmts) (length args) (read text) ≡ refusal n p = ap (answerOf (length lines) (length stmts) (length args)) (j .reads) ∙ e in
+      let a : answerOf (length lines) (length stmts) (length args) (meant text) ≡ refusal n p = ap (answerOf (length lines) (length stmts) (length args)) (j .reads) ∙ e in
       record {
         answer = sym (ap listedOf a);
         counts = j .zeroCounts ∙ sym (ap (λ (z : Answer). tableOf countsOf z 6) a);
@@ -74,14 +87,14 @@ module _ (text counts lines stmts args : List ℕ) (h : Bool) (nl ns : ℕ) (j :
         args = j .zeroArgs ∙ sym (ap (λ (z : Answer). tableOf argEntries z (length args)) a);
       }
 
-  pub short-lines : length lines < nl → RecordsWritten (read text) (length lines) (length stmts) (length args) counts lines stmts args (listed.Refused 21 nl)
+  pub short-lines : length lines < nl → RecordsWritten (meant text) (length lines) (length stmts) (length args) counts lines stmts args (listed.Refused 21 nl)
   unfolding fitted
   short-lines b =
       let c = count (j .tree .lines) in
       let p : length lines < c = omega (arith, j .lineCount) in
       rw (j .lineCount) (refuses 21 c (rw (lt-leb c (length lines) p)))
 
-  pub short-stmts : nl ≤ length lines → length stmts / 12 < ns → RecordsWritten (read text) (length lines) (length stmts) (length args) counts lines stmts args (listed.Refused 22 ns)
+  pub short-stmts : nl ≤ length lines → length stmts / 12 < ns → RecordsWritten (meant text) (length lines) (length stmts) (length args) counts lines stmts args (listed.Refused 22 ns)
   unfolding fitted
   short-stmts b c =
       let k = count (j .tree .lines) in
@@ -90,7 +103,7 @@ module _ (text counts lines stmts args : List ℕ) (h : Bool) (nl ns : ℕ) (j :
       let q : length stmts / 12 < m = omega (arith, j .stmtCount) in
       rw (j .stmtCount) (refuses 22 m (rw (le-leb k (length lines) p, lt-leb m (length stmts / 12) q)))
 
-  pub short-args : nl ≤ length lines → ns ≤ length stmts / 12 → length args / 64 < ns → RecordsWritten (read text) (length lines) (length stmts) (length args) counts lines stmts args (listed.Refused 22 ns)
+  pub short-args : nl ≤ length lines → ns ≤ length stmts / 12 → length args / 64 < ns → RecordsWritten (meant text) (length lines) (length stmts) (length args) counts lines stmts args (listed.Refused 22 ns)
   unfolding fitted
   short-args b c d =
       let k = count (j .tree .lines) in
@@ -115,7 +128,7 @@ module _ (text counts lines stmts args : List ℕ) (h : Bool) (nl ns : ℕ) (j :
           args = j .zeroArgs;
         }
 
-    fits : answerOf (length lines) (length stmts) (length args) (read text) ≡ listing (j .tree)
+    fits : answerOf (length lines) (length stmts) (length args) (meant text) ≡ listing (j .tree)
     unfolding answerOf fitted
     fits =
         let k = count (j .tree .lines) in
@@ -126,7 +139,7 @@ module _ (text counts lines stmts args : List ℕ) (h : Bool) (nl ns : ℕ) (j :
         ap (answerOf (length lines) (length stmts) (length args)) (j .reads) ∙ rw (le-leb k (length lines) p, le-leb m (length stmts / 12) q, le-leb m (length args / 64) s)
 
     pub judged-written : (x y z : ℕ) (k n t a : List ℕ) → x ≡ nl → y ≡ ns → z ≡ handlerNumber h → k ≡ x ∷ y ∷ z ∷ 0 ∷ 0 ∷ 0 ∷ [] → Filled text lines stmts args n t a
-        → RecordsWritten (read text) (length lines) (length stmts) (length args) k n t a (listed.Accepted h nl ns)
+        → RecordsWritten (meant text) (length lines) (length stmts) (length args) k n t a (listed.Accepted h nl ns)
     unfolding tableOf listedOf lineEntries stmtEntries argEntries padded countsOf
     judged-written x y z k n t a p q s i f =
         let g = f (j .tree) (j .reads) in
@@ -146,7 +159,10 @@ module _ (text counts lines stmts args : List ℕ) (h : Bool) (nl ns : ℕ) (j :
 
 -- ---- zeroed tables of nl, ns and na entries
 
-module _ (text c n t a : List ℕ) (nl ns na : ℕ) (zc : c ≡ 0 ∷ 0 ∷ 0 ∷ 0 ∷ 0 ∷ 0 ∷ []) (zn : n ≡ replicate nl 0) (zt : t ≡ replicate ns 0) (za : a ≡ replicate na 0) (v : Listed) (is : v ≡ listedOf (read text)) where
+module _ (text c n t a : List ℕ) (nl ns na : ℕ) (zc : c ≡ 0 ∷ 0 ∷ 0 ∷ 0 ∷ 0 ∷ 0 ∷ []) (zn : n ≡ replicate nl 0) (zt : t ≡ replicate ns 0) (za : a ≡ replicate na 0) (v : Listed) (judged : v ≡ listedOf (read text)) where
+  is : v ≡ listedOf (meant text)
+  is = judged ∙ sym (listed-cut text)
+
   long : (m : ℕ) (l : List ℕ) → l ≡ replicate m 0 → length l ≡ m
   long m l e = ap length e ∙ length-replicate m 0
 
@@ -155,13 +171,13 @@ module _ (text c n t a : List ℕ) (nl ns na : ℕ) (zc : c ≡ 0 ∷ 0 ∷ 0 �
 
   pub zeroed-judged : (h : Bool) (l s : ℕ) → v ≡ listed.Accepted h l s → Judged text c n t a h l s
   zeroed-judged h l s e =
-      let q = was-accepted (read text) h l s (sym e ∙ is) in
+      let q = was-accepted (meant text) h l s (sym e ∙ is) in
       record { tree = q .0; reads = q .1; handlers = q .2; lineCount = q .3; stmtCount = q .4; zeroCounts = zc; zeroLines = zeros nl n zn; zeroStmts = zeros ns t zt; zeroArgs = zeros na a za }
 
-  pub zeroed-refused : (m p : ℕ) → v ≡ listed.Refused m p → RecordsWritten (read text) nl ns na c n t a (listed.Refused m p)
+  pub zeroed-refused : (m p : ℕ) → v ≡ listed.Refused m p → RecordsWritten (meant text) nl ns na c n t a (listed.Refused m p)
   unfolding answerOf tableOf listedOf
   zeroed-refused m p e =
-      let q : answerOf nl ns na (read text) ≡ refusal m p = ap (answerOf nl ns na) (was-refused (read text) m p (sym e ∙ is)) in
+      let q : answerOf nl ns na (meant text) ≡ refusal m p = ap (answerOf nl ns na) (was-refused (meant text) m p (sym e ∙ is)) in
       record {
         answer = sym (ap listedOf q);
         counts = zc ∙ sym (ap (λ (z : Answer). tableOf countsOf z 6) q);
@@ -171,7 +187,7 @@ module _ (text c n t a : List ℕ) (nl ns na : ℕ) (zc : c ≡ 0 ∷ 0 ∷ 0 �
       }
 
   -- by the lengths of the zeroed tables
-  pub zeroed-written : (c′ n′ t′ a′ : List ℕ) (r : Listed) → RecordsWritten (read text) (length n) (length t) (length a) c′ n′ t′ a′ r → RecordsWritten (read text) nl ns na c′ n′ t′ a′ r
+  pub zeroed-written : (c′ n′ t′ a′ : List ℕ) (r : Listed) → RecordsWritten (meant text) (length n) (length t) (length a) c′ n′ t′ a′ r → RecordsWritten (meant text) nl ns na c′ n′ t′ a′ r
   zeroed-written c′ n′ t′ a′ r w =
-      subst (λ (k : ℕ). RecordsWritten (read text) k ns na c′ n′ t′ a′ r) (long nl n zn)
-      (subst (λ (k : ℕ). RecordsWritten (read text) (length n) k na c′ n′ t′ a′ r) (long ns t zt) (subst (λ (k : ℕ). RecordsWritten (read text) (length n) (length t) k c′ n′ t′ a′ r) (long na a za) w))
+      subst (λ (k : ℕ). RecordsWritten (meant text) k ns na c′ n′ t′ a′ r) (long nl n zn)
+      (subst (λ (k : ℕ). RecordsWritten (meant text) (length n) k na c′ n′ t′ a′ r) (long ns t zt) (subst (λ (k : ℕ). RecordsWritten (meant text) (length n) (length t) k c′ n′ t′ a′ r) (long na a za) w))

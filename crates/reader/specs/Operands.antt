@@ -23,6 +23,7 @@ use Rattle.listings.specs.RowText.{simple-tokens, row-simple}
 use Rattle.listings.specs.Scan.{indexOf, after, split-some, split-alone, split-first}
 use Rattle.tokens.specs.Numbers.{asNumber}
 use Rattle.tokens.specs.Names.{asKey}
+use Rattle.listings.specs.Cut.{cutName, cutSlot, cutSimple}
 use Rattle.listings.specs.Records.{nameKey, slotKey, argsOf, tierNumber, markNumber, detailOf}
 use Rattle.reader.specs.declared.operands.Given.{Given}
 use Rattle.tokens.specs.declared.numbers.ParsedNumber.{ParsedNumber}
@@ -32,7 +33,7 @@ use Rattle.tokens.specs.declared.names.NameKey.the-variants as key
 
 -- ---- one word
 
--- a number's value, a name's key; 0 for a word that is neither, as `*`
+-- a number's value, a cut name's key; 0 for a word that is neither, as `*`
 unfoldable pub numberEntry : Parse ℕ → ℕ
 numberEntry malformed = 0
 numberEntry invalid = 0
@@ -41,7 +42,7 @@ numberEntry (parsed n) = n
 unfoldable pub keyEntry : Parse Name → ℕ
 keyEntry malformed = 0
 keyEntry invalid = 0
-keyEntry (parsed v) = nameKey v
+keyEntry (parsed v) = nameKey (cutName v)
 
 unfoldable pub entryBy : Bool → List ℕ → ℕ
 entryBy true w = keyEntry (parseName w)
@@ -264,7 +265,7 @@ numbers-room l k n p q h = omega (arith, ap length (entries-numbers (split 32 l)
 pub put-by : {es fs : List ℕ} {d b : ℕ} (t t′ : List ℕ) (r : Given) → es ≡ fs → d ≡ b → Put es d t t′ r → Put fs b t t′ r
 put-by t t′ r e q g = record { count = g .count ∙ ap length e; detail = g .detail ∙ q; table = g .table ∙ ap (λ (l : List ℕ). l ++ drop (length l) t) e }
 
--- ---- the words of a statement come to its arguments
+-- ---- the words of a statement come to its arguments, names cut
 
 number-entry : (n : ℕ) → n ≤ 65535 → entryBy false (decimal n) ≡ n
 unfolding entryBy numberEntry
@@ -275,7 +276,7 @@ unfolding NumbersOk
 numbers-entries [] h = refl
 numbers-entries (n ∷ ns) h = rw (number-entry n (h .0), numbers-entries ns (h .1))
 
-name-entry : (v : Name) → isName v ≡ true → entryBy true v ≡ nameKey v
+name-entry : (v : Name) → isName v ≡ true → entryBy true v ≡ nameKey (cutName v)
 unfolding entryBy keyEntry
 name-entry v h = rw (name-text v h)
 
@@ -283,8 +284,8 @@ star-entry : entryBy true (42 ∷ []) ≡ 0
 unfolding entryBy keyEntry parseName isName isCapital
 star-entry = refl
 
-slots-entries : (ss : List Slot) → SlotsOk ss → map (entryBy true) (map slotWord ss) ≡ map slotKey ss
-unfolding SlotsOk slotWord slotKey
+slots-entries : (ss : List Slot) → SlotsOk ss → map (entryBy true) (map slotWord ss) ≡ map slotKey (map cutSlot ss)
+unfolding SlotsOk slotWord slotKey cutSlot
 slots-entries [] h = refl
 slots-entries (none ∷ ss) h = rw (star-entry, slots-entries ss h)
 slots-entries (some v ∷ ss) h = rw (name-entry v (h .0), slots-entries ss (h .1))
@@ -324,8 +325,8 @@ none-detail g = go (eqb g 9) (eqb g 10)
     go false true = refl
     go false false = refl
 
-pub simple-entries : (o : Simple) → SimpleOk o → rowEntries (simpleWord o ∷ simpleArgs o) ≡ argsOf o
-unfolding opened
+pub simple-entries : (o : Simple) → SimpleOk o → rowEntries (simpleWord o ∷ simpleArgs o) ≡ argsOf (cutSimple o)
+unfolding opened cutSimple
 simple-entries (jump goto n) h = rw (number-entry n h)
 simple-entries (jump gosub n) h = rw (number-entry n h)
 simple-entries (jump runto n) h = rw (number-entry n h)
@@ -336,8 +337,8 @@ simple-entries (next m ss) h = slots-entries ss h
 simple-entries (block w) h = none-entries (kindAt (wordIndex (blockWord w)))
 simple-entries (bare w) h = none-entries (kindAt (wordIndex (bareWord w)))
 
-pub simple-detail : (o : Simple) → rowDetail (simpleWord o ∷ simpleArgs o) ≡ detailOf o
-unfolding opened join headMark
+pub simple-detail : (o : Simple) → rowDetail (simpleWord o ∷ simpleArgs o) ≡ detailOf (cutSimple o)
+unfolding opened cutSimple join headMark
 simple-detail (jump goto n) = refl
 simple-detail (jump gosub n) = refl
 simple-detail (jump runto n) = refl
@@ -367,12 +368,12 @@ closed-long : (w : List ℕ) (ws : List (List ℕ)) (r : List ℕ) → r ≡ clo
 unfolding closedForm
 closed-long w ws r e = omega (arith, ap length e, length-append w (spacedWords ws ++ (41 ∷ [])), length-append (spacedWords ws) (41 ∷ []))
 
--- what the code needs and gets of a statement's row
+-- what the code needs and gets of a statement's row: its arguments with their names cut
 pub record Stated (row : List ℕ) (o : Simple) : Type 0 where
   pub long : 2 ≤ length row
   pub word : openingWord (split 32 (inside row)) ≡ wordIndex (simpleWord o)
-  pub entries : rowEntries (split 32 (inside row)) ≡ argsOf o
-  pub detail : rowDetail (split 32 (inside row)) ≡ detailOf o
+  pub entries : rowEntries (split 32 (inside row)) ≡ argsOf (cutSimple o)
+  pub detail : rowDetail (split 32 (inside row)) ≡ detailOf (cutSimple o)
 
 pub stated : (row : List ℕ) (d : Counted) → contentOf (rowOf row) ≡ simpleRow (parsed d) → Stated row (d .0)
 unfolding simpleText areTokens inWord openingWord

@@ -6,7 +6,8 @@ use mathlib.Core.List.{List, [], _∷_, _++_}
 use lib.Dec.{T}
 use Rattle.listings.specs.Bytes.{bytes, same}
 use Rattle.listings.specs.Opened as reading
-use Rattle.listings.specs.Read.{Answer, listing, refusal, read}
+use Rattle.listings.specs.Read.{Answer, listing, refusal}
+use Rattle.listings.specs.Cut.{meant}
 use Rattle.listings.specs.ListingText.{simpleWord, condWord}
 use Rattle.listings.specs.WordTable.{words, first, wordIndex}
 use Rattle.listings.specs.Records.{nameKey, slotKey, argsOf, tierNumber, markNumber, detailOf, branchNumber, branchLine, simpleRec, condRec, stmtRecs, lineRecs, lineNumbers, padded, recRow, joined, argRow, handlerNumber, countsOf, fitted, answerOf, tableOf}
@@ -36,7 +37,7 @@ told (refusal n p) = n ∷ p ∷ []
 
 unfoldable right : Case → Bool
 right c =
-    let r = answerOf (c .lineTable) (c .stmtTable) (c .argTable) (read (bytes (c .text))) in
+    let r = answerOf (c .lineTable) (c .stmtTable) (c .argTable) (meant (bytes (c .text))) in
     same (told r) (c .number ∷ c .place ∷ []) && same (tableOf countsOf r 6) (c .counts) && same (tableOf lineEntries r (c .lineTable)) (padded (c .lineTable) (c .lines))
     && same (tableOf stmtEntries r (c .stmtTable)) (padded (c .stmtTable) (c .stmts)) && same (tableOf argEntries r (c .argTable)) (padded (c .argTable) (rows (c .args)))
 

@@ -9,7 +9,7 @@ use layout::zeroing::zero16;
 use layout::zeroing::zero64;
 ghost use mathlib.Core.Path.{_≡_};
 ghost use lib.ListN.{length};
-ghost use Rattle.listings.specs.Read.{read};
+ghost use Rattle.listings.specs.Cut.{meant};
 ghost use Rattle.listings.specs.Records.{handlerNumber};
 ghost use Rattle.reader.specs.Listed.{Judged, RecordsWritten};
 
@@ -48,7 +48,7 @@ fn write_listing(
     ns: usize,
 ) -> Listed
     requires { ⌜ Judged (now text) (now counts) (now lines) (now stmts) (now args) handlers nl ns ⌝ }
-    ensures { λ r. ⌜ RecordsWritten (read (now (text .entry))) (length (now (lines .entry))) (length (now (stmts .entry))) (length (now (args .entry))) (now (counts .exit)) (now (lines .exit)) (now (stmts .exit)) (now (args .exit)) r ⌝ }
+    ensures { λ r. ⌜ RecordsWritten (meant (now (text .entry))) (length (now (lines .entry))) (length (now (stmts .entry))) (length (now (args .entry))) (now (counts .exit)) (now (lines .exit)) (now (stmts .exit)) (now (args .exit)) r ⌝ }
 {
     if lines.len() < nl {
         return Listed::Refused {
@@ -85,7 +85,7 @@ pub fn read_listing(
     stmts: &mut [u16],
     args: &mut [u64],
 ) -> Listed
-    ensures { λ r. ⌜ RecordsWritten (read (now (text .entry))) (length (now (lines .entry))) (length (now (stmts .entry))) (length (now (args .entry))) (now (counts .exit)) (now (lines .exit)) (now (stmts .exit)) (now (args .exit)) r ⌝ }
+    ensures { λ r. ⌜ RecordsWritten (meant (now (text .entry))) (length (now (lines .entry))) (length (now (stmts .entry))) (length (now (args .entry))) (now (counts .exit)) (now (lines .exit)) (now (stmts .exit)) (now (args .exit)) r ⌝ }
 {
     put_counts(counts, 0, 0, 0);
     zero16(lines);

@@ -2,15 +2,15 @@
 use Prim.Native.Nat.{ℕ, zero, suc, _+_, _*_, _-_, _≤_, _<_}
 use mathlib.Core.Path.{_≡_, refl, sym, ap}
 use mathlib.Core.List.{List, [], _∷_}
-use mathlib.Core.Bool.{Bool, true, false, _&&_, _||_}
+use mathlib.Core.Bool.{Bool, true, false, not, _&&_, _||_}
 use mathlib.Core.Logic.{⊎-elim}
 use native.Mathlib.Omega.{arith}
 use native.Mathlib.Numerals.{add-one}
 use native.Mathlib.Nat.{not-suc-le-zero, le-of-suc-le-suc, suc-add}
-use lib.Dec.{eqb, leb}
+use lib.Dec.{eqb, leb, ltb}
 use lib.ListN.{length, getD, drop, length-drop}
 use lib.Seq.{drop-cons}
-use borrow.Author.Tests.{eqb-true, eqb-false, leb-true, le-leb}
+use borrow.Author.Tests.{eqb-true, eqb-false, leb-true, le-leb, lt-ltb, le-ltb}
 use Rattle.listings.specs.Bytes.{same, pick}
 use Rattle.listings.specs.Listing.{Name}
 use Rattle.listings.specs.Rows.{Parse, malformed, invalid, parsed, refusalOf, all, isDigit, isCapital, nameEnd, isName, parseName}
@@ -20,12 +20,14 @@ use Rattle.tokens.specs.declared.names.NameKey.{NameKey}
 use Rattle.tokens.specs.declared.names.NameKey.the-variants.{Refused, Key}
 use Rattle.listings.specs.WordText.{capital-range, same-nil}
 use Rattle.listings.specs.Records.{nameKey}
+use Rattle.listings.specs.Cut.{cutTo, cutName}
+use Rattle.listings.specs.CutLaws.{name-length}
 
--- the code's answer for what was read: a name's key, or document 01's number
+-- the code's answer for what was read: the key of the name, cut to two characters, or document 01's number
 abbrev pub asKey : Parse Name → NameKey
 asKey malformed = Refused (refusalOf {A = Name} malformed)
 asKey invalid = Refused (refusalOf {A = Name} invalid)
-asKey (parsed w) = Key (nameKey w)
+asKey (parsed w) = Key (nameKey (cutName w))
 
 pub name-invalid : (w : List ℕ) → isName w ≡ false → parseName w ≡ invalid
 unfolding parseName
@@ -168,16 +170,65 @@ tail-bytes [] (suc i) h = refl
 tail-bytes (b ∷ l) zero h = h
 tail-bytes (b ∷ l) (suc i) h = tail-bytes l i (both-true (inKey b) (all inKey l) h .1)
 
--- of what follows a position that is not the first: below 2^48
-pub rest-below : (w : List ℕ) (i : ℕ) → isName w ≡ true → 0 < i → nameKey (drop i w) < 281474976710656
-unfolding power
-rest-below w i h p =
-    let c : power (length (drop i w)) ≤ power 8 = power-le (length (drop i w)) 8 (omega (arith, name-short w h, length-drop i w)) in
-    omega (arith, key-below (drop i w) (tail-bytes w i (name-bytes w h)))
+cut-bytes : (k : ℕ) (l : List ℕ) → all inKey l ≡ true → all inKey (cutTo k l) ≡ true
+unfolding all cutTo
+cut-bytes zero [] h = refl
+cut-bytes (suc k) [] h = refl
+cut-bytes (suc k) (b ∷ l) h = let p = both-true (inKey b) (all inKey l) h in rw (p .0, cut-bytes k l (p .1))
+cut-bytes zero (b ∷ l) h = let p = both-true (inKey b) (all inKey l) h in go (isCapital b || isDigit b) (p .0) (cut-bytes 0 l (p .1))
+  where
+    go : (x : Bool) → inKey b ≡ true → all inKey (cutTo 0 l) ≡ true → all inKey (pick x (cutTo 0 l) (b ∷ cutTo 0 l)) ≡ true
+    go true f g = g
+    go false f g = rw (f, g)
 
-pub key-next : (w : List ℕ) (i : ℕ) → i < length w → nameKey (drop i w) ≡ (getD w i 0 - 32) + 64 * nameKey (drop (suc i) w)
-unfolding nameKey
-key-next w i h = rw (drop-cons w i 0 h)
+-- ---- the cut name's key, from a position on
+
+-- what the cut leaves of the bytes from i on
+unfoldable pub cutFrom : List ℕ → ℕ → List ℕ
+cutFrom w i = cutTo (2 - i) (drop i w)
+
+-- whether the cut leaves byte b, which stands at i
+unfoldable pub kept : ℕ → ℕ → Bool
+kept i b = ltb i 2 || not (isCapital b || isDigit b)
+
+pub kept-first : (i b : ℕ) → i < 2 → true ≡ kept i b
+unfolding kept
+kept-first i b h = rw (lt-ltb i 2 h)
+
+pub kept-behind : (i b : ℕ) → 2 ≤ i → not (isCapital b || isDigit b) ≡ kept i b
+unfolding kept
+kept-behind i b h = rw (le-ltb i 2 h)
+
+-- of what follows a position that is not the first: below 2^48
+pub rest-below : (w : List ℕ) (i : ℕ) → isName w ≡ true → 0 < i → nameKey (cutFrom w i) < 281474976710656
+unfolding power cutFrom
+rest-below w i h p =
+    let l = cutTo (2 - i) (drop i w) in
+    let c : power (length l) ≤ power 8 = power-le (length l) 8 (omega (arith, name-length (2 - i) (drop i w), name-short w h, length-drop i w)) in
+    omega (arith, key-below l (cut-bytes (2 - i) (drop i w) (tail-bytes w i (name-bytes w h))))
+
+pub key-next : (w : List ℕ) (i : ℕ) → i < length w
+    → nameKey (cutFrom w i) ≡ pick (kept i (getD w i 0)) ((getD w i 0 - 32) + 64 * nameKey (cutFrom w (suc i))) (nameKey (cutFrom w (suc i)))
+unfolding nameKey cutFrom cutTo kept
+key-next w zero h = rw (drop-cons w 0 0 h)
+key-next w (suc zero) h = rw (drop-cons w 1 0 h)
+key-next w (suc (suc i)) h =
+    let a : 2 - suc (suc i) ≡ 0 = omega arith in
+    let b : 2 - suc (suc (suc i)) ≡ 0 = omega arith in
+    rw (a, b, drop-cons w (suc (suc i)) 0 h, le-ltb (suc (suc i)) 2 (omega arith)) (go (isCapital (getD w (suc (suc i)) 0) || isDigit (getD w (suc (suc i)) 0)))
+  where
+    c : ℕ
+    c = getD w (suc (suc i)) 0
+    l : List ℕ
+    l = cutTo 0 (drop (suc (suc (suc i))) w)
+    go : (x : Bool) → nameKey (pick x l (c ∷ l)) ≡ pick (not x) ((c - 32) + 64 * nameKey l) (nameKey l)
+    go true = refl
+    go false = refl
+
+-- from the first byte on it is the cut name
+pub key-whole : (w : List ℕ) → cutFrom w 0 ≡ cutName w
+unfolding cutFrom cutName
+key-whole w = refl
 
 -- ---- the key is that of one name, and never 0
 
@@ -195,7 +246,7 @@ keys-injective (a ∷ v) (b ∷ w) g h e =
     let m : v ≡ w = keys-injective v w (p .1) (q .1) (omega arith) in
     cc
 
--- "Names are compared whole, with their kind": by their keys
+-- no two names have the same key
 pub key-injective : (v w : List ℕ) → isName v ≡ true → isName w ≡ true → nameKey v ≡ nameKey w → v ≡ w
 key-injective v w g h e = keys-injective v w (name-bytes v g) (name-bytes w h) e
 

@@ -4,12 +4,12 @@ use super::numbers::is_digit;
 ghost use mathlib.Core.Path.{_≡_};
 ghost use mathlib.Core.Bool.{_&&_, _||_};
 ghost use mathlib.Core.List.{[]};
-ghost use Prim.Native.Nat.{suc, _<_};
+ghost use Prim.Native.Nat.{suc, _+_, _-_, _*_, _<_, _≤_};
 ghost use lib.Dec.{eqb};
 ghost use lib.ListN.{length, getD, drop};
-ghost use Rattle.listings.specs.Bytes.{same};
+ghost use Rattle.listings.specs.Bytes.{same, pick};
 ghost use Rattle.listings.specs.Rows.{isDigit, isCapital, isName, parseName};
-ghost use Rattle.tokens.specs.Names.{asKey};
+ghost use Rattle.tokens.specs.Names.{asKey, kept};
 
 // A name's key, or document 01's number: 3 for a word that is no name.
 pub enum NameKey {
@@ -77,7 +77,29 @@ pub fn is_name(w: &[u8]) -> bool
     true
 }
 
-// The key of a name: its bytes less 32 as digits to the base 64, the first byte lowest. No two names have the same key.
+// Whether the cut leaves byte b, which stands at i: one of the first two, or the kind.
+fn is_kept(i: usize, b: u8) -> bool
+    ensures { λ r. ⌜ r ≡ kept i b ⌝ }
+{
+    if i < 2 {
+        return true;
+    }
+    !is_letter(b)
+}
+
+// The key so far, with the byte at i before it where the cut leaves that byte.
+fn with_byte(a: u64, i: usize, b: u8) -> u64
+    requires { ⌜ (a < 281474976710656) × (33 ≤ b) × (b ≤ 95) ⌝ }
+    ensures { λ r. ⌜ r ≡ pick (kept i b) ((b - 32) + 64 * a) a ⌝ }
+{
+    if !is_kept(i, b) {
+        return a;
+    }
+    a * 64 + (byte_value(b) - 32)
+}
+
+// The key of a name that is judged whole and then cut to two characters and its kind: the bytes less 32 as digits to the base 64, the first byte lowest. No two
+// cut names have the same key.
 pub fn key_of(w: &[u8]) -> NameKey
     ensures { λ r. ⌜ r ≡ asKey (parseName (now (w .entry))) ⌝ }
 {
@@ -88,7 +110,7 @@ pub fn key_of(w: &[u8]) -> NameKey
     let mut i: usize = w.len();
     while 0 < i {
         i -= 1;
-        a = a * 64 + (byte_value(w[i]) - 32);
+        a = with_byte(a, i, w[i]);
     }
     NameKey::Key(a)
 }

@@ -6,7 +6,8 @@ use mathlib.Core.Bool.{Bool, true, false, _&&_}
 use lib.Dec.{eqb}
 use Rattle.listings.specs.Bytes.{bytes, same}
 use Rattle.listings.specs.Listing.{Listing}
-use Rattle.listings.specs.Read.{Answer, listing, refusal, read}
+use Rattle.listings.specs.Read.{Answer, listing, refusal}
+use Rattle.listings.specs.Cut.{meant}
 use Rattle.graph.specs.Build.{flowlist}
 use Rattle.graph.specs.Opened as wiring
 use Rattle.graph.specs.QuestionsOpened as questions
@@ -60,7 +61,7 @@ askedOf (refusal n p) l = false
 
 unfoldable pub rightAsks : List AskVector → Bool
 rightAsks [] = true
-rightAsks (v ∷ vs) = askedOf (read (bytes (v .text))) (v .asks) && rightAsks vs
+rightAsks (v ∷ vs) = askedOf (meant (bytes (v .text))) (v .asks) && rightAsks vs
 
 unfoldable pub opened : ℕ
 unfolding wiring.opened questions.opened wordIs listIs asked allAsked askedOf

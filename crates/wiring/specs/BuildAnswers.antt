@@ -10,9 +10,11 @@ use native.Mathlib.Nat.{min-le-left, min-le-right, le-min}
 use borrow.Author.Tests.{leb-true, le-leb}
 use lib.Dec.{leb}
 use Rattle.listings.specs.Listing.{Listing, total, count}
-use Rattle.listings.specs.Read.{Answer, listing, refusal, read}
+use Rattle.listings.specs.Read.{Answer, listing, refusal}
+use Rattle.listings.specs.Cut.{meant}
+use Rattle.listings.specs.CutLaws.{meant-refused, meant-within}
 use Rattle.graph.specs.Build.{Capacity, Built, graph, refused, edgeCount, fitted, builtOf, BuildNumber}
-use Rattle.graph_laws.specs.Theorems.{accepted, in-form}
+use Rattle.graph_laws.specs.Theorems.{means, meant-of}
 use Rattle.graph_laws.specs.Numbers.{read-refusal, answer-number}
 use Rattle.passes.specs.Room.{room-fits, fits-room}
 use Rattle.passes.specs.TableForms.{Sizes, capacity, capacity-is, Tables, Written, AllZero}
@@ -76,14 +78,14 @@ module _ (s : Sizes) (L : Listing) where
       rw (capacity-is s)
       (λ h. (le-min (h .0) (h .1), h .2), λ h. (omega (arith, h .0, min-le-left (s .succ) (s .pred)), omega (arith, h .0, min-le-right (s .succ) (s .pred)), h .1))
 
--- a text means the listing that it is the text of
-pub text-read : (text : List ℕ) → ReadAs (ListingOf text) (read text)
+-- a text means the listing that it is the text of, with its names cut
+pub text-read : (text : List ℕ) → ReadAs (ListingOf text) (meant text)
 text-read text =
     record {
-      reads = λ L h. ap read (h .text-is) ∙ accepted L (h .in-form);
-      meant = λ L e. let q = in-form text L e in record { in-form = q .0; text-is = q .1 };
-      within = λ L e. in-form text L e .0 .within;
-      numbers = λ n p e. let r = read-refusal text n p e in (r .0, r .1);
+      reads = λ L h. ap meant (h .text-is) ∙ means (h .written) (h .in-form) ∙ ap listing (sym (h .cut-is));
+      means = λ L e. let q = meant-of text L e in record { written = q .0; in-form = q .1; text-is = q .2; cut-is = q .3 };
+      within = meant-within text;
+      numbers = λ n p e. let r = read-refusal text n p (meant-refused text n p e) in (r .0, r .1);
     }
 
 module _ {Means : Listing → Type 0} {q : Answer} (ok : ReadAs Means q) (s : Sizes) where
@@ -122,7 +124,7 @@ module _ {Means : Listing → Type 0} {q : Answer} (ok : ReadAs Means q) (s : Si
       go : (b : Answer) → q ≡ b → Decided
       go (refusal n p) e = inl (n, p, input n p e)
       go (listing L) e =
-          let h = ok .meant L e in
+          let h = ok .means L e in
           elim (decLe (count (L .lines)) (capacity s .lines)) [
             | no f ↦ inl (21, count (L .lines), noLines L h (λ a. f (lines-fit s L .0 a)))
             | yes a ↦ elim (decLe (total (L .lines)) (capacity s .nodes)) [

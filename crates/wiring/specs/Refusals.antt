@@ -6,20 +6,24 @@ use mathlib.Core.List.{List}
 use Rattle.listings.specs.Listing.{Listing, total, count}
 use Rattle.listings.specs.ListingText.{Within, InForm, listingText}
 use Rattle.listings.specs.Read.{Answer, listing, refusal}
+use Rattle.listings.specs.Cut.{cutListing}
 use Rattle.graph.specs.Build.{InputNumber, edgeCount}
 use Rattle.passes.specs.Room.{StmtsFit}
 use Rattle.passes.specs.TableForms.{Sizes}
 
--- "A listing that follows the bracket form and the limits of document 01": the text is that of L
+-- "A listing that follows the bracket form and the limits of document 01": the text is that of a listing in form, written with names of up to eight characters,
+-- and L is that listing with its names cut ("The reader therefore cuts a name to two characters", document 02, L2)
 pub record ListingOf (text : List ℕ) (L : Listing) : Type 0 where
-  pub in-form : InForm L
-  pub text-is : text ≡ listingText L
+  pub written : Listing
+  pub in-form : InForm written
+  pub text-is : text ≡ listingText written
+  pub cut-is : L ≡ cutListing written
 
 -- What was read of an input, q, of which `Means L` says that it gives the listing L: q is that listing exactly where the input means it, it lies within the
 -- limits, and an input that means none is refused by a number of the input.
 pub record ReadAs (Means : Listing → Type 0) (q : Answer) : Type 0 where
   pub reads : (L : Listing) → Means L → q ≡ listing L
-  pub meant : (L : Listing) → q ≡ listing L → Means L
+  pub means : (L : Listing) → q ≡ listing L → Means L
   pub within : (L : Listing) → q ≡ listing L → Within L
   pub numbers : (n p : ℕ) → q ≡ refusal n p → InputNumber n
 

@@ -9,7 +9,7 @@ use layout::zeroing::zero64;
 use reader::listing::Listed;
 ghost use mathlib.Core.Path.{_≡_};
 ghost use lib.ListN.{replicate};
-ghost use Rattle.listings.specs.Read.{read};
+ghost use Rattle.listings.specs.Cut.{meant};
 ghost use Rattle.passes.specs.TableForms.{sizesOf, tablesOf};
 ghost use Rattle.wiring.specs.GraphTables.{Zeroed, BuildWrote};
 ghost use Rattle.wiring.specs.BuildLaws.{GraphReady, GraphMade};
@@ -114,7 +114,7 @@ pub fn build(
     succ: &mut [u16],
     pred: &mut [u16],
 ) -> Built
-    ensures { λ r. ⌜ BuildWrote (read (now (text .entry))) (sizesOf (now (lines .entry)) (now (stmts .entry)) (now (args .entry)) (now (entries .entry)) (now (falls .entry)) (now (links .entry)) (now (lists .entry)) (now (returns .entry)) (now (succ .entry)) (now (pred .entry))) (tablesOf (now (counts .exit)) (now (lines .exit)) (now (stmts .exit)) (now (args .exit)) (now (entries .exit)) (now (falls .exit)) (now (links .exit)) (now (lists .exit)) (now (returns .exit)) (now (succ .exit)) (now (pred .exit))) r ⌝ }
+    ensures { λ r. ⌜ BuildWrote (meant (now (text .entry))) (sizesOf (now (lines .entry)) (now (stmts .entry)) (now (args .entry)) (now (entries .entry)) (now (falls .entry)) (now (links .entry)) (now (lists .entry)) (now (returns .entry)) (now (succ .entry)) (now (pred .entry))) (tablesOf (now (counts .exit)) (now (lines .exit)) (now (stmts .exit)) (now (args .exit)) (now (entries .exit)) (now (falls .exit)) (now (links .exit)) (now (lists .exit)) (now (returns .exit)) (now (succ .exit)) (now (pred .exit))) r ⌝ }
 {
     let most_lines = line_room(lines.len(), entries.len());
     let most_stmts = stmt_room(

@@ -8,7 +8,7 @@ use reader::listing::read_listing;
 ghost use mathlib.Core.Path.{_≡_};
 ghost use Prim.Native.Nat.{_*_, _≤_};
 ghost use lib.ListN.{length};
-ghost use Rattle.listings.specs.Read.{read};
+ghost use Rattle.listings.specs.Cut.{meant};
 ghost use Rattle.passes.specs.Reading.{FittingRead};
 
 // What stands behind the front parts becomes zero.
@@ -22,7 +22,7 @@ pub(crate) fn read_fitting(
     stmt_room: usize,
 ) -> Listed
     requires { ⌜ («line_room» ≤ length (now lines)) × («stmt_room» * 12 ≤ length (now stmts)) × («stmt_room» * 64 ≤ length (now args)) ⌝ }
-    ensures { λ r. ⌜ FittingRead (read (now (text .entry))) «line_room» «stmt_room» (length (now (lines .entry))) (length (now (stmts .entry))) (length (now (args .entry))) (now (counts .exit)) (now (lines .exit)) (now (stmts .exit)) (now (args .exit)) r ⌝ }
+    ensures { λ r. ⌜ FittingRead (meant (now (text .entry))) «line_room» «stmt_room» (length (now (lines .entry))) (length (now (stmts .entry))) (length (now (args .entry))) (now (counts .exit)) (now (lines .exit)) (now (stmts .exit)) (now (args .exit)) r ⌝ }
 {
     let stmt_end = stmt_room * STMT_ENTRIES;
     let arg_end = stmt_room * ARG_ENTRIES;

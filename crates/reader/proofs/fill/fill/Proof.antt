@@ -1,13 +1,16 @@
 -- The tables hold the records of the rows read so far, from row to row. Assumes nothing.
 use borrow.Author.Needs.{needs}
 use native.Mathlib.Omega.{arith}
+use mathlib.Core.Path.{subst}
 use mathlib.Core.List.{List, _∷_}
 use Prim.Native.Nat.{ℕ, suc, _+_, _-_, _≤_, _<_}
 use lib.ListN.{length, drop}
 use Rattle.listings.specs.Rows.{split, contentOf, rowOf}
+use Rattle.listings.specs.CutLaws.{cutContent}
 use Rattle.listings.specs.Scan.{pieceAt, next-more}
+use Rattle.reader.specs.AcceptedRows.{WellFormed}
 use Rattle.reader.specs.Fill.{Says}
-use Rattle.reader.specs.RowOperands.{rowOperands, row-says, row-ready}
+use Rattle.reader.specs.RowOperands.{rowOperands, row-cut, row-says, row-ready}
 use Rattle.reader.specs.FillSteps.{Room, Fills, fills-bounded, fills-long, fills-formed, fills-ready, fills-refused, fills-taken}
 use Rattle.reader.specs.FillLoop.{Accepts, rowsIn, zeroed-start, text-ends, text-goes-on}
 use Rattle.reader.proofs.fill.fill.Statement.{statement}
@@ -41,13 +44,13 @@ row-inside c =
 ahead : (c : tie.Else1 Inv-loop μ-loop)
     → let a = start-of c .args in
     let v = loop-of c .loop in
-    Fills (v .inv .1 .tree) (length (a .lines .now)) (length (a .stmts .now)) (length (a .args .now)) (contentOf (rowOf (piece c)) ∷ rowsIn (split 10 (drop (v .at + c .before .find .result + 1) (a .text .now)))) (v .s) (v .w) (v .lines) (v .stmts) (v .args)
+    Fills (v .inv .1 .tree) (length (a .lines .now)) (length (a .stmts .now)) (length (a .args .now)) (cutContent (contentOf (rowOf (piece c))) ∷ rowsIn (split 10 (drop (v .at + c .before .find .result + 1) (a .text .now)))) (v .s) (v .w) (v .lines) (v .stmts) (v .args)
 ahead c =
     let v = loop-of c .loop in
     let e = c .before .find in
     text-goes-on (start-of c .args .text .now) (v .at) (e .result) (v .inv .0) (e .ensures .0) (c .if1 .left) (e .ensures .1) (v .inv .2)
 
-says : (c : tie.After-accepted-row Inv-loop μ-loop) → Says (contentOf (rowOf (piece (c .before .before)))) (c .accepted-row .result) (rowOperands (piece (c .before .before)) (c .accepted-row .result))
+says : (c : tie.After-accepted-row Inv-loop μ-loop) → Says (cutContent (contentOf (rowOf (piece (c .before .before))))) (c .accepted-row .result) (rowOperands (piece (c .before .before)) (c .accepted-row .result))
 says c = row-says (piece (c .before .before)) (c .accepted-row .result) (c .accepted-row .ensures)
 
 abbrev room : (c : tie.Else1 Inv-loop μ-loop) → let a = start-of c .args in Room (loop-of c .loop .inv .1 .tree) (length (a .lines .now)) (length (a .stmts .now)) (length (a .args .now))
@@ -115,7 +118,7 @@ part-accepted-row-end : tie.Need-part-accepted-row-end Inv-loop μ-loop
 part-accepted-row-end c = search needs
 
 accepted-row-requires : tie.Need-accepted-row-requires Inv-loop μ-loop
-accepted-row-requires c κs = fills-formed (room (c .before)) (ahead (c .before))
+accepted-row-requires c κs = subst WellFormed (row-cut _) (fills-formed (room (c .before)) (ahead (c .before)))
 
 step-row-requires : tie.Need-step-row-requires Inv-loop μ-loop
 step-row-requires c κs =

@@ -1,7 +1,7 @@
 -- `build`: read, then wired; a refused text leaves zeros. Assumes nothing.
 use borrow.Author.Needs.{needs}
 use mathlib.Core.Path.{_∙_}
-use Rattle.listings.specs.Read.{read}
+use Rattle.listings.specs.Cut.{meant}
 use Rattle.passes.specs.Reading.{text-within}
 use Rattle.wiring.specs.BuildLaws.{rooms, refused-build, ready-build, accepted-build}
 use Rattle.wiring.proofs.build.build.Statement.{statement}
@@ -75,7 +75,7 @@ read-fitting-requires c κs =
     let b = at-start .args in
     let kl = at-line-room .line-room in
     let kn = at-stmt-room .stmt-room in
-    rooms (read (b .text .now)) (text-within (b .text .now)) (b .lines .now) (b .stmts .now) (b .args .now) (b .entries .now) (b .falls .now) (b .links .now) (b .lists .now) (b .returns .now) (b .succ .now) (b .pred .now) (kl .result) (kn .result) (kl .ensures) (kn .ensures)
+    rooms (meant (b .text .now)) (text-within (b .text .now)) (b .lines .now) (b .stmts .now) (b .args .now) (b .entries .now) (b .falls .now) (b .links .now) (b .lists .now) (b .returns .now) (b .succ .now) (b .pred .now) (kl .result) (kn .result) (kl .ensures) (kn .ensures)
 
 enum-known-number : tie.Need-enum-known-number
 enum-known-number c = search needs
@@ -96,7 +96,7 @@ graph-of-requires c κs =
     let kl = at-line-room .line-room in
     let kn = at-stmt-room .stmt-room in
     let g = at-handlers .handlers .given in
-    ready-build (read (b .text .now)) (text-within (b .text .now)) (b .lines .now) (b .stmts .now) (b .args .now) (b .entries .now) (b .falls .now) (b .links .now) (b .lists .now) (b .returns .now) (b .succ .now) (b .pred .now) (kl .result) (kn .result) (kl .ensures) (kn .ensures) (at-clear-links .clear-links .ensures) (at-clear-lists .clear-lists .ensures) (at-read-fitting .read-fitting .ensures) (g .0 .0) (g .0 .1 .0) (g .0 .1 .1 .0) (g .1)
+    ready-build (meant (b .text .now)) (text-within (b .text .now)) (b .lines .now) (b .stmts .now) (b .args .now) (b .entries .now) (b .falls .now) (b .links .now) (b .lists .now) (b .returns .now) (b .succ .now) (b .pred .now) (kl .result) (kn .result) (kl .ensures) (kn .ensures) (at-clear-links .clear-links .ensures) (at-clear-lists .clear-lists .ensures) (at-read-fitting .read-fitting .ensures) (g .0 .0) (g .0 .1 .0) (g .0 .1 .1 .0) (g .1)
 
 same-length : tie.Need-same-length
 same-length c = search
@@ -140,7 +140,7 @@ returns c =
     let kl = at-line-room .line-room in
     let kn = at-stmt-room .stmt-room in
     let g = c .before .number .given in
-    refused-build (read (b .text .now)) (text-within (b .text .now)) (b .lines .now) (b .stmts .now) (b .args .now) (b .entries .now) (b .falls .now) (b .links .now) (b .lists .now) (b .returns .now) (b .succ .now) (b .pred .now) (kl .result) (kn .result) (kl .ensures) (kn .ensures) (at-clear-links .clear-links .ensures) (at-clear-lists .clear-lists .ensures) (at-read-fitting .read-fitting .ensures) (g .0 .0) (g .0 .1 .0) (g .1)
+    refused-build (meant (b .text .now)) (text-within (b .text .now)) (b .lines .now) (b .stmts .now) (b .args .now) (b .entries .now) (b .falls .now) (b .links .now) (b .lists .now) (b .returns .now) (b .succ .now) (b .pred .now) (kl .result) (kn .result) (kl .ensures) (kn .ensures) (at-clear-links .clear-links .ensures) (at-clear-lists .clear-lists .ensures) (at-read-fitting .read-fitting .ensures) (g .0 .0) (g .0 .1 .0) (g .1)
 
 same-length-11 : tie.Need-same-length-11
 same-length-11 c =
@@ -210,7 +210,7 @@ returns-2 c =
     let kl = at-line-room .line-room in
     let kn = at-stmt-room .stmt-room in
     let g = at-handlers .handlers .given in
-    accepted-build (read (b .text .now)) (text-within (b .text .now)) (b .lines .now) (b .stmts .now) (b .args .now) (b .entries .now) (b .falls .now) (b .links .now) (b .lists .now) (b .returns .now) (b .succ .now) (b .pred .now) (kl .result) (kn .result) (kl .ensures) (kn .ensures) (at-clear-links .clear-links .ensures) (at-clear-lists .clear-lists .ensures) (at-read-fitting .read-fitting .ensures) (g .0 .0) (g .0 .1 .0) (g .0 .1 .1 .0) (g .1) (at-graph-of .graph-of .ensures)
+    accepted-build (meant (b .text .now)) (text-within (b .text .now)) (b .lines .now) (b .stmts .now) (b .args .now) (b .entries .now) (b .falls .now) (b .links .now) (b .lists .now) (b .returns .now) (b .succ .now) (b .pred .now) (kl .result) (kn .result) (kl .ensures) (kn .ensures) (at-clear-links .clear-links .ensures) (at-clear-lists .clear-lists .ensures) (at-read-fitting .read-fitting .ensures) (g .0 .0) (g .0 .1 .0) (g .0 .1 .1 .0) (g .1) (at-graph-of .graph-of .ensures)
 
 pub build-spec : {M : Type 1} → statement M
 build-spec =

@@ -1,6 +1,6 @@
 -- `read_fitting`: the front parts as the reader leaves them, zeros behind. Assumes nothing.
 use borrow.Author.Needs.{needs}
-use Rattle.listings.specs.Read.{read}
+use Rattle.listings.specs.Cut.{meant}
 use Rattle.passes.specs.Reading.{text-within, front-length, fitting-read}
 use Rattle.wiring.proofs.reading.read_fitting.Statement.{statement}
 use Rattle.wiring.proofs.reading.read_fitting.Tie as tie
@@ -72,7 +72,7 @@ returns c =
     let at-clear-behind2 : tie.After-clear-behind2 = search in
     let at-clear-behind : tie.After-clear-behind = search in
     let at-start : tie.Start = search ways in
-    fitting-read (read (at-start .args .text .now)) (text-within (at-start .args .text .now)) (at-start .args .line-room) (at-start .args .stmt-room) (at-start .args .lines .now) (at-start .args .stmts .now) (at-start .args .args .now) (at-start .pre .0) (at-start .pre .1) (at-start .pre .2) _ _ _ (at-clear-behind .clear-behind .ensures) (at-clear-behind2 .clear-behind2 .ensures) (at-clear-words-behind .clear-words-behind .ensures) _ _ _ _ _ (at-read-listing .read-listing .ensures)
+    fitting-read (meant (at-start .args .text .now)) (text-within (at-start .args .text .now)) (at-start .args .line-room) (at-start .args .stmt-room) (at-start .args .lines .now) (at-start .args .stmts .now) (at-start .args .args .now) (at-start .pre .0) (at-start .pre .1) (at-start .pre .2) _ _ _ (at-clear-behind .clear-behind .ensures) (at-clear-behind2 .clear-behind2 .ensures) (at-clear-words-behind .clear-words-behind .ensures) _ _ _ _ _ (at-read-listing .read-listing .ensures)
 
 pub read-fitting-spec : {M : Type 1} → statement M
 read-fitting-spec =
