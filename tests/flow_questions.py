@@ -5,7 +5,8 @@
   flow_questions.py judge FOLDER   the stored stdout against the original's answers
   flow_questions.py compare PROGRAM KIND SEED COUNT   a run of the program for each of so many fresh listings
 
-Lists, entries, words and frame lists are the original's; the refusals at the end are document 01's, by hand.
+Lists, entries, words and frame lists are the original's; the refusals at the end are document 01's, by hand, and so are the frame
+lists of long names (document 02, L2).
 """
 
 import os
@@ -16,9 +17,13 @@ import sys
 HERE = os.path.dirname(os.path.abspath(__file__))
 sys.path.insert(0, os.path.join(HERE, "oracle"))
 sys.dont_write_bytecode = True
-from vectors import ask, find_oracle, generated  # noqa: E402
+from vectors import ask, falls_together, find_oracle, generated, some  # noqa: E402
 
 SEED, MOST_NODES, MOST_FRAMES = 1983, 60, 600
+# The stored listing's first line: its FOR is node 0 and falls to node 1. What is asked of it by long names.
+FIRST_LINE = b"(line 0\n(for COUNT static)\n(plain)\n)\n"
+LONG_NAMES = [("(frame 0 0 COUNTER 0)", "(frame)"), ("(frame 0 0 COUNTER% 0)", "(frame 1)"), ("(frame 0 0 CO 1)", "(frame)"),
+              ("(frame 0 0 C 1)", "(frame 1)"), ("(frame 0 0 CP 0)", "(frame 1)"), ("(frame 0 0 COUNTERS 1)", "(frame)")]
 
 
 def spaced(word, ids):
@@ -37,7 +42,7 @@ def graph_rows(graph):
 
 def frame_rows(answers):
     frames = re.findall(r"^\(frame (\d+) (\d+) (\S+) ([01]) \(([\d ]*)\)\)$", answers, re.M)
-    for header, node, name, flag, ids in frames[:: max(1, -(-len(frames) // MOST_FRAMES))]:
+    for header, node, name, flag, ids in some(frames, MOST_FRAMES):
         yield f"(frame {header} {node} {name} {flag})", spaced("frame", ids.split())
 
 
@@ -46,6 +51,8 @@ def refused_rows(count, missing, at):
     rows = [
         (f"(successors {count})", f"(refused 24 {count})"), (f"(statement {count})", f"(refused 24 {count})"),
         (f"(frame {count + 1} {count} I 0)", f"(refused 24 {count + 1})"), (f"(frame {count} {count} i 1)", "(refused 3 0)"),
+        ("(frame 9 9 COUNTERSX 0)", "(refused 3 0)"), (f"(frame {count} {count} COUNTERSX% 1)", "(refused 3 0)"),
+        (f"(frame {count} {count} COunt 0)", "(refused 3 0)"), (f"(frame {count} {count} COUNTERS% 0)", f"(refused 24 {count})"),
         ("(path 0)", "(refused 26 0)"), ("(path 65535 0)", "(refused 26 0)"), (f"(entry {missing})", "(entry)"),
     ]
     bad = ["(successors)", "(successors 0 1)", "(entries 1)", "(entry x)", "(frame 0 0 I 2)", "(questions", "successors 0", ""]
@@ -62,6 +69,7 @@ def asked(listing, graph, answers):
     rows = [(q, a if a.startswith("(") else f"(statement {a} {words[a]})") for q, a in graph_rows(graph)]
     rows += [(f"(statement {node})", f"(statement {node} {word})") for node, word in words.items()]
     rows += list(frame_rows(answers))
+    rows += LONG_NAMES if listing[len(b"(module 0\n"):].startswith(FIRST_LINE) else []
     return rows + refused_rows(len(words), missing, len(rows))
 
 
@@ -75,8 +83,9 @@ def texts_and_due(oracle, listings):
 
 def write(folder):
     oracle = find_oracle() or sys.exit(3)
-    listings = [t for t in generated(oracle, "medium", SEED, 40) if 40 <= t.count(b"(") <= MOST_NODES * 2]
-    text, due = next(texts_and_due(oracle, listings[:1]))
+    listings = [t for t in generated(oracle, "medium", SEED, 100) if 40 <= t.count(b"(") <= MOST_NODES * 2 and falls_together(t)]
+    head, rest = max(listings, key=lambda t: t.count(b"(for ")).split(b"\n", 1)
+    text, due = next(texts_and_due(oracle, [head + b"\n" + FIRST_LINE + rest]))
     for name, data in (("stdin", text), ("stdout", due)):
         with open(os.path.join(folder, name), "wb") as out:
             out.write(data)

@@ -12,6 +12,7 @@ A folder stands for the tables in it.
 
 import io
 import os
+import random
 import re
 import subprocess
 import sys
@@ -28,6 +29,8 @@ PER_TABLE = 60
 MOST_NODES, MOST_BYTES, MOST_DAMAGED_BYTES = 12, 400, 600
 # Listings with questions, and how many frame lists of each.
 ASKED_LISTINGS, MOST_FRAMES = 60, 40
+# Of so many listings to choose from one has two names that are one once they are cut.
+TOGETHER = 3
 # How often each refusal stands among 240 damaged texts; 1, 5 and 6 need long texts.
 SHARES = {2: 120, 3: 50, 4: 30, 7: 15, 8: 25}
 
@@ -91,16 +94,21 @@ def write_tables(folder, name, comment, vectors):
             print(f"{os.path.basename(path)}: {len(part[start:start + PER_TABLE])} vectors")
 
 
+def some(rows, most):
+    """At most so many of the rows, in their order. By chance: a fixed step can meet one name alone."""
+    chosen = random.Random(len(rows)).sample(range(len(rows)), min(most, len(rows)))
+    return [rows[at] for at in sorted(chosen)]
+
+
 def ask_rows(answers, most):
     """The questions of one listing: every opening word, and at most so many frame lists, spread over all of them."""
     words = re.findall(r"^\(stmt (\d+) (\S+)\)$", answers, re.M)
     frames = re.findall(r"^\(frame (\d+) (\d+) (\S+) ([01]) \(([\d ]*)\)\)$", answers, re.M)
     if len(words) + len(frames) != answers.count("\n"):
         raise SystemExit(f"an answer that is no question's: {answers[:200]!r}")
-    step = max(1, -(-len(frames) // most))
     for node, word in words:
         yield f'word {node} "{word}"'
-    for header, node, name, flag, ids in frames[::step]:
+    for header, node, name, flag, ids in some(frames, most):
         listed = " ∷ ".join(ids.split() + ["[]"])
         yield f'frame {header} {node} "{name}" {("false", "true")[int(flag)]} ({listed})'
 
@@ -195,6 +203,23 @@ def listings(oracle, texts, count):
     return chosen
 
 
+def falls_together(text):
+    """Has the listing two names that are one once they are cut?"""
+    names = set(re.findall(rb"(?<= )([A-Z][A-Z0-9]?)([A-Z0-9]*)([%$]?)(?=[ )])", text))
+    return len({(two, kind) for two, _, kind in names}) < len(names)
+
+
+def mixed(texts):
+    """The same texts, with those whose names fall together at fixed places, as long as there are any."""
+    together = [text for text in texts if falls_together(text)]
+    others = [text for text in texts if not falls_together(text)]
+    while together and others:
+        yield together.pop(0)
+        yield from others[:TOGETHER - 1]
+        del others[:TOGETHER - 1]
+    yield from together + others
+
+
 def damaged(texts, count):
     """Refused texts, each refusal with its share, none twice."""
     left = {n: -(-share * count // 240) for n, share in SHARES.items()}
@@ -217,9 +242,10 @@ def enough(vectors, count, what):
 
 def random_tables(oracle, seed, n_listings, n_damaged, folder):
     texts = generated(oracle, "small", seed, 3 * n_listings + 100)
-    chosen = enough(listings(oracle, texts, n_listings), n_listings, "listings")
+    chosen = enough(listings(oracle, mixed(texts), n_listings), n_listings, "listings")
     comment = "Random listings with the original's graphs"
     write_tables(folder, "Listings", comment, chosen)
+    print(f"names fall together in {sum(falls_together(text) for text, _ in chosen)} of {len(chosen)} listings")
     write_asks(folder, "Frames", oracle, [text for text, _ in chosen[:ASKED_LISTINGS]])
     texts = generated(oracle, "damaged", seed, 60 * n_damaged + 2000)
     chosen = enough(damaged(texts, n_damaged), n_damaged, "damaged texts")

@@ -1,12 +1,12 @@
 //! Names whose 16-bit hashes collide in the original. Found through its answers alone:
 //! `(for A static) (next plain B) (stop)` loops at node 1 only where A and B are one to it.
+//! It gets every name cut, so the pairs of at most two characters are all that there are.
 
 use crate::cfg::Cfg;
 use crate::generate::NAMES;
 use crate::listing::{Form, Line, Listing};
 use crate::lower;
-use crate::random::Random;
-use std::hash::{Hash, Hasher};
+use std::collections::BTreeSet;
 
 fn pair(open: &str, close: &str) -> Listing {
     let body = vec![
@@ -36,62 +36,29 @@ fn pairs(names: &[String]) -> Vec<(&str, &str)> {
     found
 }
 
-/// Every name of up to so many characters, without a suffix: a suffix is kept apart in the original.
-fn names_up_to(length: u64) -> Vec<String> {
-    let mut names: Vec<String> = Vec::new();
-    let mut longest: Vec<String> = ('A'..='Z').map(String::from).collect();
-    for _ in 1..length {
-        names.append(&mut longest.clone());
-        longest = longest.iter().flat_map(|n| ('A'..='Z').chain('0'..='9').map(move |c| format!("{n}{c}"))).collect();
-    }
-    names.append(&mut longest);
-    names
+/// Every cut name without a suffix: a suffix is kept apart in the original.
+fn cut_names() -> Vec<String> {
+    let letters: Vec<String> = ('A'..='Z').map(String::from).collect();
+    let longer = letters.iter().flat_map(|n| ('A'..='Z').chain('0'..='9').map(move |c| format!("{n}{c}")));
+    letters.iter().cloned().chain(longer).collect()
 }
 
 pub fn report() {
-    let names = names_up_to(2);
+    let names = cut_names();
     let found = pairs(&names);
     for (a, b) in &found {
         println!("(pair {a} {b})");
     }
     println!("(names {} pairs {})", names.len(), found.len());
-    let own: Vec<String> = NAMES.iter().map(|n| n.to_string()).collect();
-    assert!(pairs(&own).is_empty(), "names of the generator collide");
+    let own: BTreeSet<String> = NAMES.concat().into_iter().map(lower::cut).collect();
+    assert!(pairs(&Vec::from_iter(own)).is_empty(), "names of the generator collide");
 }
 
-/// Too many names for all pairs: those with the same 16 bits of the standard library's hash are candidates, and each is asked of the original;
-/// so are a million pairs that are none.
-pub fn count(length: u64) {
-    let names = names_up_to(length);
-    let mut buckets: Vec<Vec<usize>> = vec![Vec::new(); 65536];
-    for (i, name) in names.iter().enumerate() {
-        buckets[low_bits(name)].push(i);
-    }
-    let mut found = 0;
-    for bucket in &buckets {
-        for (k, &i) in bucket.iter().enumerate() {
-            for &j in &bucket[..k] {
-                assert!(one_to_the_original(&names[i], &names[j]), "{} {}", names[i], names[j]);
-                found += 1;
-            }
-        }
-    }
-    let mut random = Random::new(length);
-    for _ in 0..1_000_000 {
-        let (a, b) = (random.pick(&names).clone(), random.pick(&names).clone());
-        assert!(low_bits(&a) == low_bits(&b) || !one_to_the_original(&a, &b), "{a} {b}");
-    }
-    println!("(names {} pairs {found})", names.len());
-}
-
-fn low_bits(name: &String) -> usize {
-    let mut hasher = std::collections::hash_map::DefaultHasher::new();
-    name.hash(&mut hasher);
-    (hasher.finish() & 0xffff) as usize
-}
-
-/// Listings outside the domain that show the difference, both ways round.
+/// Listings outside the domain that show the difference, both ways round; long names that are cut to such a pair too.
 pub fn texts() -> Vec<Vec<u8>> {
-    let known = [("EU", "T9"), ("FR", "UE"), ("LQ", "MR"), ("QT", "RG")];
+    let known = [
+        ("EU", "T9"), ("FR", "UE"), ("LQ", "MR"), ("QT", "RG"),
+        ("EUROPE", "T9"), ("FRAME%", "UE%"), ("LQ$", "MR12$"), ("QTY", "RGB"),
+    ];
     known.iter().flat_map(|(a, b)| [pair(a, b).text(), pair(b, a).text()]).collect()
 }

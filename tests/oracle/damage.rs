@@ -7,7 +7,7 @@ use crate::random::Random;
 type Rows = Vec<Vec<u8>>;
 
 /// Words to put where another stood: opening words, good and bad numbers, good and bad names.
-const WORDS: [&str; 78] = [
+const WORDS: [&str; 84] = [
     "module", "line", "if", "ifelse", "rcomp", "to", "stmts", "goto", "gosub", "return", "run",
     "ongoto", "ongosub", "for", "next", "repeat", "loop", "until", "endloop", "exit", "exitif",
     "doif", "else", "done", "clr", "stop", "any", "plain", "orphan", "static", "framed",
@@ -15,7 +15,8 @@ const WORDS: [&str; 78] = [
     "99999", "1234567890123456789012345678901234567890", "000000000000000000000000000000000000",
     "18446744073709551616", "4294967306", "-1", "1x", "x1", "+5", "1.0", "*", "**", "A", "a", "I",
     "I%", "I%$", "%", "$", "A%%", "9A", "A_B", "ABCDEFGH", "ABCDEFGH$", "ABCDEFGHI", "ABCDEFGHI%",
-    "A B", "A)", "", "A\r", "A\t", "\0", "1\r", "\u{c4}", "plain\r",
+    "A B", "A)", "", "A\r", "A\t", "\0", "1\r", "\u{c4}", "plain\r", "COUNT", "COUNTER%", "COUNTERS%",
+    "COUNTERSX", "COunt", "CO%UNT",
 ];
 
 pub fn damaged(random: &mut Random) -> Vec<u8> {

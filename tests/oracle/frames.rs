@@ -36,15 +36,34 @@ pub fn answers(listing: &Listing, salt: u64) -> String {
     out
 }
 
-/// The names that occur, and one that does not: it differs in its kind only where it can.
+/// The names that occur, as written and cut; one that is written nowhere and is cut to one of them; and one that is not cut to
+/// any: it differs in its kind only where it can.
 pub fn names(listing: &Listing) -> BTreeSet<String> {
-    let mut names = BTreeSet::new();
-    listing.lines.iter().for_each(|l| collect(&l.body, &mut names));
-    let first = names.first().map_or("Q", |n| n.trim_end_matches(['%', '$'])).to_string();
-    let others = [first.clone(), format!("{first}%"), format!("{first}$"), "QQ".to_string()];
-    let other = others.into_iter().find(|n| !names.contains(n)).expect("a further name");
+    let mut names = written(listing);
+    let cuts: BTreeSet<String> = names.iter().map(|n| lower::cut(n)).collect();
+    let first = names.first().map_or("QU", |n| n.trim_end_matches(['%', '$'])).to_string();
+    let others = ["", "%", "$"].iter().map(|kind| format!("{first}{kind}")).chain(('A'..='Z').rev().map(String::from));
+    let other = others.into_iter().find(|n| !cuts.contains(&lower::cut(n))).expect("a further name");
+    let longer = cuts.iter().rev().find_map(|cut| longer(cut, &names));
+    names.extend(cuts);
+    names.extend(longer);
     names.insert(other);
     names
+}
+
+/// The names that occur, as written.
+pub fn written(listing: &Listing) -> BTreeSet<String> {
+    let mut names = BTreeSet::new();
+    listing.lines.iter().for_each(|l| collect(&l.body, &mut names));
+    names
+}
+
+/// A name of eight characters that is cut to this one, if it has two.
+fn longer(cut: &str, written: &BTreeSet<String>) -> Option<String> {
+    let base = cut.trim_end_matches(['%', '$']);
+    let kind = &cut[base.len()..];
+    let mut names = ["ABCDEF", "012345"].iter().map(|rest| format!("{base}{rest}{kind}"));
+    if base.len() == 2 { names.find(|n| !written.contains(n)) } else { None }
 }
 
 fn collect(body: &[Form], names: &mut BTreeSet<String>) {

@@ -1,14 +1,23 @@
 //! Random valid listings. Few names and few line numbers, so that loops meet and jumps both
-//! hit and miss.
+//! hit and miss. Names are of one another's neighbourhood: some are one once they are cut, and
+//! some differ in their kind or their second character alone.
 
 use crate::listing::{Branch, Form, Line, Listing, BARE};
 use crate::lower;
 use crate::random::Random;
 
-/// No two of one kind have the same 16-bit hash in the original; `collisions` checks it.
-pub const NAMES: [&str; 14] = [
-    "I", "J", "K", "X", "A1", "I%", "J%", "N%", "I$", "Z9$", "LOOPVAR1", "LOOPVAR2",
-    "ABCDEFGH", "ABCDEFGH%",
+/// Cut, no two of one kind have the same 16-bit hash in the original; `collisions` checks it.
+pub const NAMES: [&[&str]; 10] = [
+    &["I", "J", "K", "X"],
+    &["I%", "J%", "N%", "I$", "I", "J"],
+    &["COUNT", "COUNTER", "J"],
+    &["CO", "CO1", "CO2", "COUNT", "COUNTER", "COUNTERS"],
+    &["COUNT%", "COUNTER%", "CO%", "COUNT", "COUNTER", "COUNTERS$", "C%", "C", "CP", "CP%"],
+    &["A1", "A1B2", "A1B2C3D4", "A1B2%", "A2B2", "A", "A%", "A$"],
+    &["LOOPVAR1", "LOOPVAR2", "LO", "LOOPVAR1$", "L1", "L"],
+    &["ABCDEFGH", "ABCDEFG", "ABCDEFGH%", "AB%", "ACDEFGH", "AC%"],
+    &["Z9$", "Z9999999$", "Z9", "Z$", "Z9Z%", "Z99%"],
+    &["N%", "NO%", "NOTE%", "NOTES%", "N", "NN%"],
 ];
 
 const NUMBERS: [u16; 12] = [0, 1, 5, 10, 20, 30, 40, 50, 100, 999, 65534, 65535];
@@ -71,7 +80,11 @@ impl<'a> Make<'a> {
                 words.extend(family);
             }
         }
-        let names = (0..*random.pick(&[1, 2, 2, 3])).map(|_| *random.pick(&NAMES)).collect();
+        let mut names = Vec::new();
+        for _ in 0..*random.pick(&[1, 1, 2]) {
+            let near = *random.pick(&NAMES);
+            names.extend((0..*random.pick(&[1, 2, 3, 5])).map(|_| *random.pick(near)));
+        }
         Make { random, words, names, targets: Vec::new(), left: 0, depth, wide }
     }
 
@@ -96,8 +109,11 @@ impl<'a> Make<'a> {
         if self.random.chance(40) {
             self.routine(&mut lines);
         }
+        if self.random.chance(35) {
+            self.named_loop(&mut lines, "static", "plain");
+        }
         if self.random.chance(15) {
-            self.dispatched_loop(&mut lines);
+            self.named_loop(&mut lines, "dispatched", "orphan");
         }
         let handlers = self.random.chance(35);
         let mut listing = Listing { handlers, lines };
@@ -122,12 +138,12 @@ impl<'a> Make<'a> {
         }
     }
 
-    /// A dispatched FOR and an orphan NEXT that can name it, in any order.
-    fn dispatched_loop(&mut self, lines: &mut [Line]) {
+    /// A FOR and a NEXT that can name it, in any order; the name may be written otherwise there.
+    fn named_loop(&mut self, lines: &mut [Line], tier: &str, mark: &str) {
         let name = self.name();
-        let slot = if self.random.chance(40) { None } else { Some(name.clone()) };
-        self.insert(lines, Form::For(name, "dispatched".to_string()));
-        self.insert(lines, Form::Next("orphan".to_string(), vec![slot]));
+        let slot = if self.random.chance(30) { None } else { Some(self.same_cut(&name)) };
+        self.insert(lines, Form::For(name, tier.to_string()));
+        self.insert(lines, Form::Next(mark.to_string(), vec![slot]));
     }
 
     fn insert(&mut self, lines: &mut [Line], form: Form) {
@@ -209,9 +225,18 @@ impl<'a> Make<'a> {
     }
 
     fn name(&mut self) -> String {
-        // A name outside the listing's few meets no frame.
+        // A name outside the listing's few seldom meets a frame.
         let foreign = self.random.chance(8);
-        let from = if foreign { &NAMES[..] } else { &self.names[..] };
-        self.random.pick(from).to_string()
+        let from = if foreign { *self.random.pick(&NAMES) } else { &self.names[..] };
+        let name = *self.random.pick(from);
+        if self.random.chance(35) { self.same_cut(name) } else { name.to_string() }
+    }
+
+    /// A name that is cut as this one is.
+    fn same_cut(&mut self, name: &str) -> String {
+        let cut = lower::cut(name);
+        let all = NAMES.concat();
+        let same: Vec<&str> = all.into_iter().filter(|n| lower::cut(n) == cut).collect();
+        self.random.pick(&same).to_string()
     }
 }

@@ -181,12 +181,12 @@ fn deep(depth: usize, copies: usize) -> Listing {
     listing(bodies)
 }
 
-/// Many open FORs, closed one by one from the top, or all at once by the first name.
+/// Many open FORs, closed one by one from the top, or all at once by the first name; a NEXT writes its name otherwise than its FOR.
 fn names(count: usize, at_once: bool) -> Listing {
     let names = distinct(count);
-    let open = names.iter().map(|n| Form::For(n.clone(), "framed".to_string()));
+    let open = names.iter().map(|n| Form::For(written(n, 'F'), "framed".to_string()));
     let mut body: Vec<Form> = open.collect();
-    let close = |n: &String| Form::Next("plain".to_string(), vec![Some(n.clone())]);
+    let close = |n: &String| Form::Next("plain".to_string(), vec![Some(written(n, 'N'))]);
     if at_once {
         body.extend(names[..1].iter().map(close));
         body.push(Form::Next("plain".to_string(), vec![None]));
@@ -196,22 +196,32 @@ fn names(count: usize, at_once: bool) -> Listing {
     listing(vec![body])
 }
 
-/// Names without a suffix whose 16-bit hashes differ in the original, as its domain asks.
+/// A longer name that is cut to this one.
+fn written(cut: &str, third: char) -> String {
+    let (base, kind) = cut.split_at(2);
+    format!("{base}{third}{kind}")
+}
+
+/// Names of two characters and a kind whose 16-bit hashes differ in the original, as its domain asks; of the 2,808 of them few do not.
 fn distinct(count: usize) -> Vec<String> {
     let digits = "0123456789ABCDEFGHIJKLMNOPQRSTUVWXYZ".as_bytes();
     let mut seen = HashSet::new();
-    let letters = (0..).map(|i: usize| {
-        let (a, b, c) = (i / 1_296 % 26 + 10, i / 36 % 36, i % 36);
-        String::from_utf8(vec![digits[a], digits[b], digits[c]]).expect("letters")
+    let names = (0..2_808).map(|i: usize| {
+        let (a, b) = (i / 108 + 10, i / 3 % 36);
+        let base = String::from_utf8(vec![digits[a], digits[b]]).expect("letters");
+        (base, ["", "%", "$"][i % 3])
     });
-    letters
-        .filter(|name| {
+    let found: Vec<String> = names
+        .filter(|(base, kind)| {
             let mut hasher = DefaultHasher::new();
-            name.hash(&mut hasher);
-            seen.insert(hasher.finish() as u16)
+            base.hash(&mut hasher);
+            seen.insert((hasher.finish() as u16, *kind))
         })
+        .map(|(base, kind)| format!("{base}{kind}"))
         .take(count)
-        .collect()
+        .collect();
+    assert_eq!(found.len(), count, "names enough");
+    found
 }
 
 fn frames(open: &'static str, close: &'static str) -> Listing {

@@ -2,6 +2,9 @@
 //!
 //! `(stop)`, `(any)` and `(plain)` each stand for several original statements. Which one is
 //! taken hangs on the position and a salt, and never changes the handler fact.
+//!
+//! Equality with the original speaks of listings whose names were cut first (document 02, L2),
+//! so a name goes to it cut, that of a frame question too.
 
 use crate::ast::{OnBranchKind, VarKind, VarName};
 use crate::for_next_runtime::{ForTier, OrphanAnalysis};
@@ -47,11 +50,20 @@ fn handler_words(body: &[Form]) -> usize {
     body.iter().map(|f| own(f) + inner(f)).sum()
 }
 
+/// "Cuts a name to two characters and keeps its `%` or `$`"; the name is a good one.
+pub fn cut(name: &str) -> String {
+    let base = name.trim_end_matches(['%', '$']);
+    let kind = &name[base.len()..];
+    base.chars().take(2).chain(kind.chars()).collect()
+}
+
+/// The original's variable for a written name.
 pub fn var(name: &str) -> VarName {
+    let name = cut(name);
     let (base, kind) = match name.as_bytes()[name.len() - 1] {
         b'%' => (&name[..name.len() - 1], VarKind::Integer),
         b'$' => (&name[..name.len() - 1], VarKind::String),
-        _ => (name, VarKind::Float),
+        _ => (&name[..], VarKind::Float),
     };
     VarName { base: base.to_string(), kind }
 }

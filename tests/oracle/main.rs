@@ -24,7 +24,7 @@ use stand_ins::{analysis, ast, for_next_runtime, ir};
 use listing::Listing;
 use random::Random;
 
-const USAGE: &str = "usage: oracle graph|frames [--salt N] | stats | collisions [LENGTH]
+const USAGE: &str = "usage: oracle graph|frames [--salt N] | stats | collisions
        oracle gen small|medium|limit|damaged|directed|collide SEED COUNT";
 
 fn main() {
@@ -37,7 +37,6 @@ fn main() {
         ["frames", "--salt", n] => answer_each(|l| frames::answers(l, number(n))),
         ["stats"] => stats::report(&framing::read_all()),
         ["collisions"] => collide::report(),
-        ["collisions", length] => collide::count(number(length)),
         ["gen", kind, seed, count] => generate_texts(kind, number(seed), number(count)),
         _ => fail(USAGE),
     }

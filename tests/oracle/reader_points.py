@@ -95,6 +95,12 @@ ROWS = {
     "10": [(2, [b"(if)", b"(line 10)", b"(line 20", b"(ifelse)", b"(rcomp)", b"(stmts)", b"(stmts",
                 b"(to 10)", b"(to 007)", b"(to", b"(plain", b"(return", b"(if 1", b"(if ",
                 b"(line 007", b"(module 0", b"(stmts 1", b"(else", b"[plain]"])],
+    # Document 02, L2: a name is judged whole, before it is cut.
+    "L2": [(3, [b"(for COUNTERSX static)", b"(for COUNTERSX% static)", b"(next plain COunt)", b"(for CO%UNT static)",
+                b"(for COUNT%$ framed)", b"(next orphan * COUNT*)", b"(for CO\x00 static)", b"(next plain COUNT CO- CO)",
+                b"(for CCCCCCCCCCCCCCCCCC dispatched)"]),
+           (FINE, [b"(for COUNTERS% static)", b"(for COUNTERS static)", b"(for CO0 dispatched)",
+                   b"(next plain COUNT COUNTER CO% C$ COUNT)"])],
 }
 
 

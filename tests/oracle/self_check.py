@@ -13,7 +13,7 @@ import sys
 sys.dont_write_bytecode = True
 from second_reading import framed, judge  # noqa: E402
 
-# The corners of document 01 as the directed list has them first: lists, and further rows.
+# The corners of document 01, and document 02's long names, as the directed list has them first: lists, and further rows.
 CORNERS = [
     ("C1", "", ["(graph 0 0", "(returns)"]),
     ("C2", "[]", ["(entry 10 0)", "(entry 20 0)"]),
@@ -33,6 +33,16 @@ CORNERS = [
     ("C10 H 1", "[1 2] [5] [5] [4] [] [4 3]", ["(returns 4 3)"]),
     ("C11", "[0]", ["(returns)"]),
     ("C12", "[3] [2] [] [2 4] [1]", ["(returns 1)", "(back 0 1)"]),
+    ("L2 COUNT COUNTER (stop)", "[1] [1 2] []", []),
+    ("L2 COUNT COUNTER", "[1] [1]", []),
+    ("L2 COUNT COUNTER%", "[1] [2] []", []),
+    ("L2 COUNT% CO%", "[1] [1 2] []", []),
+    ("L2 AB% AC%", "[1] [2] []", []),
+    ("L2 A AB", "[1] [2] []", []),
+    ("L2 A1B2 A2B2", "[1] [2] []", []),
+    ("L2 COUNTERS$ CO1$", "[1] [1 2] []", []),
+    ("L2 as C8", "[1] [2] [3] [4] []", []),
+    ("L2 as C9", "[1] [1 2] [3] [4 1] []", []),
 ]
 # How often a row of that opening word stands in the graph.
 COUNTS = {"C2": ("(entry ", 2), "C11": ("(back ", 0), "C12": ("(entry ", 3)}
@@ -66,7 +76,16 @@ def corners(harness):
         due(all(row in graph.split("\n") for row in rows), f"{name}: {graph}")
         word, count = COUNTS.get(name, ("(graph ", 1))
         due(graph.count(word) == count, f"{name}: {graph}")
-    print(f"corners: {len(CORNERS)} as document 01 has them")
+    print(f"corners: {len(CORNERS)} as documents 01 and 02 have them")
+
+
+def frame_names(harness):
+    """A frame question's name is cut, that of the listing too."""
+    listing = b"(module 0\n(line 10\n(for COUNT static)\n(plain)\n)\n)\n"
+    rows = harness.texts("frames", data=b"%d\n" % len(listing) + listing)[0].decode().split("\n")
+    for row in ("(frame 0 0 COUNT 0 ())", "(frame 0 0 CO 0 ())", "(frame 0 0 COABCDEF 1 ())", "(frame 0 0 COUNT% 0 (1))"):
+        due(row in rows, f"{row} is not among {rows}")
+    print("frame questions: cut names, and one of another kind")
 
 
 def stand_ins(harness):
@@ -105,7 +124,8 @@ def coverage(stats, kind):
                  "branches empty", "targets missed", "listings with edges by orphan NEXT",
                  "listings with H 0, longest RETURN list of two or more",
                  "listings with H 1, longest RETURN list of two or more",
-                 "listings with a list that is not ascending"):
+                 "listings with a list that is not ascending", "listings with two names of one cut",
+                 "listings with another graph if names were not cut"):
         due(counts.get(what, 0) > 0, f"{kind}: no {what}")
 
 
@@ -134,7 +154,7 @@ def main():
     if len(sys.argv) != 2:
         sys.exit(__doc__)
     harness = Harness(sys.argv[1])
-    for part in (corners, stand_ins, generators, damage, collisions):
+    for part in (corners, frame_names, stand_ins, generators, damage, collisions):
         part(harness)
 
 

@@ -2,9 +2,10 @@
 
 use crate::cfg::Cfg;
 use crate::ir::Stmt;
+use crate::frames;
 use crate::listing::{self, Branch, Form, Listing};
 use crate::lower;
-use std::collections::{BTreeMap, HashSet};
+use std::collections::{BTreeMap, BTreeSet, HashSet};
 
 type Counts = BTreeMap<String, usize>;
 
@@ -40,7 +41,44 @@ fn one_listing(counts: &mut Counts, found: &Listing) {
         deepest = deepest.max(forms(counts, &numbers, &line.body, 0));
     }
     count(counts, &format!("listings of depth {deepest:02}"), 1);
+    names(counts, found);
     graph(counts, found);
+}
+
+/// Written names that are one once they are cut, and whether the graph hangs on that.
+fn names(counts: &mut Counts, found: &Listing) {
+    let written = frames::written(found);
+    let cuts: BTreeSet<String> = written.iter().map(|n| lower::cut(n)).collect();
+    let fall_together = cuts.len() < written.len();
+    count(counts, "listings with two names of one cut", usize::from(fall_together));
+    if fall_together && written.len() <= 72 {
+        let changes = successors(found) != successors(&kept_apart(found, &written));
+        count(counts, "listings with another graph if names were not cut", usize::from(changes));
+    }
+}
+
+fn successors(listing: &Listing) -> Vec<Vec<usize>> {
+    let module = lower::module(listing, 0);
+    let cfg = Cfg::build_with(&module, &module.marks);
+    cfg.nodes.into_iter().map(|n| n.successors).collect()
+}
+
+/// The same listing with two characters of its own for each written name.
+fn kept_apart(listing: &Listing, written: &BTreeSet<String>) -> Listing {
+    let digits = "0123456789ABCDEFGHIJKLMNOPQRSTUVWXYZ".as_bytes();
+    let other = |word: &str| match written.iter().position(|n| n == word) {
+        Some(i) => {
+            let kind = &word[word.trim_end_matches(['%', '$']).len()..];
+            format!("{}{}{kind}", ["A", "B"][i / 36], char::from(digits[i % 36]))
+        }
+        None => word.to_string(),
+    };
+    let text = String::from_utf8(listing.text()).expect("a listing's bytes");
+    let rows = text.lines().map(|row| {
+        let words = row.trim_end_matches(')').split(' ').map(other).collect::<Vec<_>>().join(" ");
+        format!("{words}{}\n", &row[row.trim_end_matches(')').len()..])
+    });
+    listing::read(rows.collect::<String>().as_bytes()).expect("a listing")
 }
 
 /// Counts words, branches and targets; answers the greatest depth.
