@@ -6,53 +6,44 @@ use Rattle.vectors.specs.Vector.{Vector, right, opened}
 
 table : List Vector
 table =
-    record { text = "(module 1\n(line 10\n)\n(line 10\n(gosub 100)\n)\n(line 20\n(plain)\n(plain)\n(exitif)\n)\n(line 100\n(for I% dispatched)\n(next plain * I% *)\n(for X dispatched)\n(repeat)\n(return)\n)\n)\n"; writes = "(refused 4 3)\n" } ∷
-    record { text = "(module 0\n(line 5\n(ongoto 5 20)\n)\n(line 65534\n)\n(line 50\n)\n(line 999\n(for A1 static)\n(next orphan)\n(endloop)\n(for A1 dispatched)\n(next orphan *)\n(line 007\n(next plain ABCDEFGH)\n(exitif)\n)\n(line 65534\n(done)\n(gosub 20)\n(stop)\n)\n(line 65535\n(ifelse\n(stmts\n)\n(stmts\n)\n)\n)\n)\n"; writes = "(refused 4 6)\n" } ∷
-    record { text = "(module 0\n(line 65534\n(plain)\n(repeat)\n(exitif)\n(for N% dispatched)\n(next orphan A1)\n(until)\n)\n(line 65534\n(return)\n(exitif)\n(if\n(next to 65534)\n)\n)\n)\n\n"; writes = "(refused 4 9)\n" } ∷
-    record { text = "(module 0\n(line 007\n)\n)\n"; writes = "(refused 3 1)\n" } ∷
-    record { text = "(module 0\n(line 40\n(plain)\n(done)\n(stop)\n(else)\n(gosub 40)\n(exit)\n(gosub 40)\n)\n(line 40\n(goto 30)\n(return)\n)\n)\n"; writes = "(refused 4 10)\n" } ∷
-    record { text = "(module 1\n(line 0\n)\n(line 20\n(if\n(stmts\n(ifelse\n(stmts\n(rcomp\n(to 10)\n(stmts\n(ifelse\n(to 10)\n(stmts\n(if\n(stmts\n(ifelse\n(stmts\n)\n(stmts\n(ifelse\n(stmts\n)\n(stmts\n(if\n(stmts\n(if\n(stmts\n(ifelse\n(stmts\n(rcomp\n(stmts\n(rcomp\n(stmts\n)\n(stmts\n(rcomp\n(stmts\n(rcomp\n(stmts\n)\n(stmts\n(ifelse\n(stmts\n)\n(stmts\n(return)\n(next orphan K)\n(exit)\n(if\n(to 0)\n)\n(gosub 0)\n(if\n(stmts\n(if\n(stmts\n(if\n(stmts\n(for I% dispatched)\n)\n)\n)\n)\n)\n)\n(plain)\n)\n)\n)\n)\n)\n)\n)\n)\n)\n)\n)\n(to 10)\n)\n)\n)\n)\n)\n)\n)\n)\n)\n)\n)\n)\n)\n)\n)\n)\n(to 10)\n)\n)\n)\n)\n"; writes = "(refused 7 57)\n" } ∷
-    record { text = "(module 0\n(line 10\n(return)\n(ongosub 30 30)\n(clr)\n(next plain * * * * * * * * * * * * * * * * * * * * * * * * * * * * * * * * * * * * * * * * * * * * * * * * * * * * * * * * * * * * * * * * *)\n)\n(line 30\n(stop)\n(return)\n(line\n)\n(line 40\n(ifelse\n(stmts\n(return)\n)\n(to 10)\n)\n)\n)\n"; writes = "(refused 8 5)\n" } ∷
-    record { text = "(module 0\n(line 40\n(next plain * * * * * * * * * * * * * * * * * * * * * * * * * * * * * * * * * * * * * * * * * * * * * * * * * * * * * * * * * * * * * * * * *)\n)\n(line 50\n(ongosub 100 40 40)\n(return)\n(plain)\n(gosub 40)\n(ongosub 40 40 50)\n(if\n(stmts\n)\n)\n)\n)\n"; writes = "(refused 8 2)\n" } ∷
-    record { text = "(module 0\n(line 40\n(doif)\n(return)\n)\n(line 100\n(gosub 40)\n(return)\n(ongosub 9 9 9 9 9 9 9 9 9 9 9 9 9 9 9 9 9 9 9 9 9 9 9 9 9 9 9 9 9 9 9 9 9 9 9 9 9 9 9 9 9 9 9 9 9 9 9 9 9 9 9 9 9 9 9 9 9 9 9 9 9 9 9 9)\n)\n(line 0\n(return)\n(return)\n(next plain *)\n(if\n(stmts)\n(gosub 30)\n)\n)\n(next orphan LOOPVAR2 LOOPVAR2 I%)\n(gosub 40)\n)\n)\n"; writes = "(refused 4 10)\n" } ∷
-    record { text = "(module 1\n(line 20\n(next plain *)\n(return)\n(ongosub 10 10)\n(any)\n)\n(line 10\n)\n)\n \n"; writes = "(refused 4 7)\n" } ∷
-    record { text = "(module 1\n(line 010\n(rcomp\n(stmts\n(if\n(stmts\n(if\n(stmts\n(ifelse\n(stmts\n)\n(stmts\n(if\n(stmts\n(ifelse\n(stmts\n)\n(stmts\n(rcomp\n(to 10)\n(stmts\n(rcomp\n(to 10)\n(stmts\n(ifelse\n(stmts\n)\n(stmts\n(rcomp\n(stmts\n(rcomp\n(stmts\n)\n(stmts\n(rcomp\n(stmts\n(rcomp\n(to 10)\n(stmts\n(rcomp\n(to 10)\n(stmts\n(rcomp\n(stmts\n)\n(stmts\n(return)\n(gosub 0)\n(gosub 0)\n(any)\n)\n)\n)\n)\n)\n)\n)\n)\n)\n)\n)\n)\n)\n)\n)\n)\n)\n)\n)\n)\n)\n)\n)\n)\n)\n)\n)\n)\n)\n)\n)\n)\n)\n"; writes = "(refused 3 1)\n" } ∷
-    record { text = "(module 0\n(line 00\n)\n(line 65534\n(loop)\n(plain)\n(done)\n(clr)\n(else)\n(plain)\n(done)\n(plain)\n(plain)\n(done)\n(next orphan *)\n(doif)\n)\n)\n"; writes = "(refused 3 1)\n" } ∷
-    record { text = "(module 1\n(line 0\n(any)\n(ongosub 10 10 10 10 10 10 10 10 10 10 10 10 10 10 10 10 10 10 10 10 10 10 10 10 10 10 10 10 10 10 10 10 10 10 10 10 10 10 10 10 10 10 10 10 10 10 10 10 10 10 10 10 10 10 10 10 10 10 10 10 10 10 10 10 10)\n)\n)\n"; writes = "(refused 8 3)\n" } ∷
-    record { text = "(module 0\n(line 010\n(ifelse\n(to 65535)\n(stmts\n(loop)\n(loop)\n(until)\n)\n)\n(exitif)\n(gosub 65535)\n(return)\n(gosub 65535)\n)\n)\n"; writes = "(refused 3 1)\n" } ∷
-    record { text = "(module 0\n(line 40\n(for A1 framed)\n(return)\n)\n(line 999\n(for Aa1 framed)\n(exit)\n(next orphan X X)\n(for X dispatched)\n(for LOOPVAR1 dispatched)\n(ongosub 40 40)\n(endloop)\n)\n)\n"; writes = "(refused 3 6)\n" } ∷
-    record { text = "(module 0\n(line 20\n(repeat)\n(gosub 100)\n)\n(line 010\n(loop)\n(return)\n(gosub 100)\n(ongoto 10 10 10 10 10 10 10 10 10 10 10 10( 10 10 10 10 10 10 10 10 10 10 10 10 10 10 10 10 10 10 10 10 10 10 10 10 10 10 10 10 10 10 10 10 10 10 10 10 10 10 10 10 10 10 10 10 10 10 10 10 10 10 10 10)\n(module 0\n)\n)\n"; writes = "(refused 3 5)\n" } ∷
-    record { text = "(module 1\n(line 10\n)\n(line 20\n(if\n(to 999)\n)\n)\n(line 1\n)\n(line 50\n"; writes = "(refused 4 8)\n" } ∷
-    record { text = "(module 0\n(line 5\n(gosub 10)\n(for LOOPVAR2 dispatched)\n(plain)\n)\n(line 10\n(for A1 framed)\n(for N% dispatched)\n(plain)\n(for N% dispatched)\n(for LOOPVAR2 framed)\n(next orphan N%)\n(plain)\n(for A1 static)\n(next plain A1)\n)\n(line 10\n)\n)\n"; writes = "(refused 4 17)\n" } ∷
-    record { text = "(module 0\n(line 5\n(plain)\n(clr)\n(goto 50)\n)\n(line 10\n(ongoto 50)\n)\n(line 50\n(next plain * LOOPVAR1 LOOPVAR1)\n(clr)\n(for I% dispatched)\n(run)\n(next orphan I%)\n)\n(line 10\n(any)\n(any)\n)\n)\n"; writes = "(refused 4 16)\n" } ∷
-    record { text = "(module 1\n(line 0\n(gosub 0)\n(return)\n(plain)\n(ongosub 0 0 0 0 0 0 8 0 0 0 0 0 0 0 0 0 0 0 0 0 0 0 0 0 0 0 0 0 0 0 0 0 0 0 0 0 0 0 0 0 0 0 0 0 0 0 0 0 0 0 0 0 0 0 0 0 0 0 0 0 0 0 0 0 0)\n)\n)\n"; writes = "(refused 8 5)\n" } ∷
-    record { text = "(module 0\n(line 40\n(return)\n(ongosub 40 40)\n)\n(line 100\n(return)\n(stop)\n(if\n(stmts\n(gosub 007)\n)\n)\n(plain)\n)\n(line 999\n(plain)\n(plain)\n(gosub 40)\n(gosub 999)\n(ongoto)\n(if\n(to 30)\n)\n(goto 999)\n)\n)\n"; writes = "(refused 3 10)\n" } ∷
-    record { text = "(module 0\n(line 99999\n(if\n(stmts\n(doif)\n(ongoto 20)\n)\n)\n(done)\n)\n(line 20\n)\n(line 50\n(else)\n)\n)\n"; writes = "(refused 3 1)\n" } ∷
-    record { text = "(module 0\n(line 65536\n(gosub 5)\n(run 5)\n)\n)\n"; writes = "(refused 3 1)\n" } ∷
-    record { text = "(module 1\n(line 5\n(next plain * ABCDEFGH)\n(for X dispatched)\n(next orphan LOOPVAR2)\n(any)\n)\n(line 20\n(for ABCDEFGH dispatched)\n(ongosub 20 20)\n(return)\n(next plain I I I I I I I I I I I I I I I I I I I I I I I I I I I I I I I I I I I I I I I I I I I I I I I I I I I I I I I I I I I I I I I I I)\n)\n(line loop\n)\n)\n"; writes = "(refused 8 11)\n" } ∷
-    record { text = "(module 0\n(line 100\n(else)\n(ongoto)\n(repeat)\n(gosub 100)\n(done)\n(exitif)\n(ongosub)\n(return)\n(ongoto 9 9 9 9 9 9 9 9 9 9 9 9 9 9 9 9 9 9 9 9 9 9 9 9 9 9 9 9 9 9 9 9 9 9 9 9 9 9 9 9 9 9 9 9 9 9 9 9 9 9 9 9 9 9 9 9 9 9 9 9 9 9 9 9 9)\n(stmts\n)\n)\n"; writes = "(refused 8 10)\n" } ∷
-    record { text = "(module 1\n(line 20\n(gosub 20)\n(for Z9$ dispatched)\n(gosub 20)\n(next orphan Z9$)\n(return)\n(any)\n(next plain * * * * * * * * * * * * * * * * * * * * * * * * * * * * * * * * * * * * * * * * * * * * * * * * * * * * * * * * * * * * * * * * *)\n)\n)\n"; writes = "(refused 8 8)\n" } ∷
-    record { text = "(module 0\n(line 20\n(ifelse\n(stmts\n(rcomp\n(to 10)\n(stmts\n(rcomp\n(to 10)\n(stmts\n(if\n(stmts\n(if\n(stmts\n(rcomp\n(stmts\n(ifelse\n(to 10)\n(stmts\n(rcomp\n(to 10)\n(stmts\n(rcomp\n(stmts\n)\n(stmts\n(rcomp\n(stmts\n(ifelse\n(to 10)\n(stmts\n(if\n(stmts\n(if\n(stmts\n(ifelse\n(stmts\n)\n(stmts\n(if\n(stmts\n(rcomp\n(stmts\n)\n(stmts\n(ifelse\n(stmts\n(gosub 20)\n(gosub 20)\n(return)\n(ongosub 20 20)\n)\n(stmts\n)\n)\n)\n)\n)\n)\n)\n)\n)\n)\n)\n)\n)\n)\n)\n)\n)\n)\n)\n)\n)\n)\n)\n)\n)\n)\n)\n)\n)\n)\n)\n)\n)\n(stmts\n)\n)\n)\n)"; writes = "(refused 7 47)\n" } ∷
-    record { text = "(module 0\n(line 999\n(ifelse\n(stmts\n(ifelse\n(stmts\n)\n(stmts\n(rcomp\n(stmts\n)\n(stmts\n(rcomp\n(to 10)\n(stmts\n(rcomp\n(stmts\n(ifelse\n(to 10)\n(stmts\n(ifelse\n(stmts\n(rcomp\n(stmts\n(ifelse\n(stmts\n)\n(stmts\n(ifelse\n(stmts\n(if\n(stmts\n(if\n(stmts\n(rcomp\n(stmts\n(rcomp\n(to 10)\n(stmts\n(if\n(stmts\n(rcomp\n(to 10)\n(stmts\n(rcomp\n(stmts\n(exit)\n(loop)"; writes = "(refused 7 46)\n" } ∷
-    record { text = "(module 0\n(line 100\n(ifelse\n(to 10)\n(stmts\n(ifelse\n(stmts\n(rcomp\n(stmts\n(rcomp\n(stmts\n)\n(stmts\n(ifelse\n(stmts\n)\n(stmts\n(ifelse\n(stmts\n)\n(stmts\n(ifelse\n(stmts\n)\n(stmts\n(if\n(stmts\n(rcomp\n(stmts\n(ifelse\n(stmts\n(ifelse\n(to 10)\n(stmts\n(rcomp\n(to 10)\n(stmts\n(ifelse\n(stmts\n(rcomp\n(to 10)\n(stmts\n(ifelse\n(stmts\n(ifelse\n(stmts\n)\n(stmts\n(if\n(stmts\n(plain)\n)\n)\n)\n)\n)\n(stmts\n)\n)\n)\n)\n)\n(stmts\n)\n)\n)\n)\n)\n)\n)\n(to 10)\n)\n)\n)\n)\n)\n)\n)\n)\n)\n)\n)\n)\n)\n)\n)\n)\n(stmts\n)\n)\n)\n)\n)\n)\n"; writes = "(refused 7 50)\n" } ∷
-    record { text = "(module 0\n(line 0\n(rcomp\n(stmts\n(ifelse\n(to 10)\n(stmts\n(ifelse\n(stmts\n)\n(stmts\n(if\n(stmts\n(rcomp\n(stmts\n)\n(stmts\n(rcomp\n(stmts\n(rcomp\n(stmts\n(ifelse\n(stmts\n)\n(stmts\n(rcomp\n(stmts\n(rcomp\n(stmts\n(ifelse\n(stmts\n(if\n(stmts\n(rcomp\n(stmts\n(ifelse\n(stmts\n)\n(stmts\n(if\n(stmts\n(ifelse\n(to 10)\n(stmts\n(rcomp\n(stmts\n(next plain *)\n(gosub 65534)\n(if\n(to 65534)\n)\n(if\n(stmts\n(next orphan N% N%)\n)\n)\n)\n)\n)\n)\n)\n)\n)\n)\n)\n)\n)\n)\n)\n)\n(stmts\n)\n)\n)\n)\n)\n)\n)\n)\n)\n)\n)\n)\n)\n)\n)\n)\n)\n)\n)\n)\n)\n)\n)\n(line 1\n(stop)\n)\n(line 999\n(gosub 65534)\n)\n(line 65534\n(for N% framed)\n(for N% dispatched)\n(gosub 999)\n(for N% static)\n(return)\n)\n)\n"; writes = "(refused 7 46)\n" } ∷
-    record { text = "(module 0\n(line 1\n(done)\n(if\n(stmts\n(next plain Z9$)\n(if\n(stmts\n(doif)\n)\n)\n)\n)\n(ongoto 9 9 9 9 9 9 9 9 9 9 9 9 9 9 9 9 9 9 9 9 9 9 9 9 9 9 9 9 9 9 9 9 9 9 9 9 9 9 9 9 9 9 9 9 9 9 9 9 9 9 9 9 9 9 9 9 9 9 9 9 9 9 9 9 9)\n)\n(line 30\n(next orphan Z9$)\n(return)\n(for 4294967306 dispatched)\n)\n(line 50\n(return)\n(ongosub)\n(gosub 30)\n)\n)\n"; writes = "(refused 8 13)\n" } ∷
-    record { text = "(module 0\n(line 1\n(return)\n(next plain I I I I I I I I I I I I I I I I I I I I I I I I I I I I I I I I I I I I I I I I I I I I I I I I I I I I I I I I I I I I I I I I I)\n)\n(line 20\n(ifelse\n(stmts\n(return)\n)\n(to 65534)\n)\n)\n(line 65534\n(gosub 65534)\n)\n)\n)\n"; writes = "(refused 8 3)\n" } ∷
-    record { text = "(module 1\n(line 5\n(else)\n(any)\n)\n(line 30\n(goto 30)\n(run)\n(ongoto 0 0 0 0 0 0 0 0 0 0 0 0 0 0 0 0 0 0 0 0 0 0 0 0 0 0 0 0 0 0 0 0 0 0 0 0 0 0 0 0 0 0 0 0 0 0 0 0 0 0 0 0 0 0 0 0 0 0 0 0 0 0 0 0 0)\n)\n(line 40\n(if\n(stmts\n(clr)\n(loop)\n(for LOOPVAR2 static)\n)\n)\n(doif)\n(next plain *)\n)\n(line 100\n)\n(line 65534\n)\n)\n"; writes = "(refused 8 8)\n" } ∷
-    record { text = "(module 1\n(line 40\n)\n(line 100\n)\n(line 999\n(if\n(stmts\n(return)\n(exit)\n)\n)\n(return)\n(gosub 999)\n(gosub 100)\n(any)\n(ongosub 10 10 10 10 10 10 10 10 10 10 10 10 10 10 10 10 10 10 10 10 10 10 10 10 10 10 10 10 10 10 10 10 10 10 10 10 10 10 10 10 10 10 10 10 10 10 10 10 10 10 10 10 10 10 10 10 10 10 10 10 10 10 10 10 10)\n)\n)\n"; writes = "(refused 8 16)\n" } ∷
-    record { text = "(module 1\n(line 30\n(next plain *)\n(ongosub 9 9 9 9 9 9 9 9 9 9 9 9 9 9 9 9 9 9 9 9 9 9 9 9 9 9 9 9 9 9 9 9 9 9 9 9 9 9 9 9 9 9 9 9 9 9 9 9 9 9 9 9 9 9 9 9 9 9 9 9 9 9 9 9 9)\n)\n(line 100\n(if\n(stmts\n)\n)\n(ifelse\n(stmts\n(goto 100)\n)\n(stmts\n)\n)\n)\n(line 100\n(any)\n)\n)\n"; writes = "(refused 8 3)\n" } ∷
-    record { text = "(module 0\n(line 5\n(ifelse\n(stmts\n(rcomp\n(stmts\n(ifelse\n(to 10)\n(stmts\n(rcomp\n(stmts\n(if\n(stmts\n(ifelse\n(stmts\n(rcomp\n(to 10)\n(stmts\n(ifelse\n(stmts\n(ifelse\n(stmts\n(ifelse\n(stmts\n(rcomp\n(stmts\n(rcomp\n(stmts\n(rcomp\n(to 10)\n(stmts\n(ifelse\n(stmts\n(ifelse\n(to 10)\n(stmts\n(if\n(stmts\n(ifelse\n(stmts\n)\n(stmts\n(rcomp\n(to 5)\n(to 5)\n)\n(plain)\n)\n)\n)\n)\n)\n)\n)\n(stmts\n)\n)\n)\n)\n)\n)\n)\n)\n)\n(to 10)\n)\n)\n(stmts\n)\n)\n)\n(stmts\n)\n)\n)\n)\n)\n(to 10)\n)\n)\n)\n)\n)\n)\n)\n)\n)\n)\n(stmts\n)\n)\n)\n(line 65535\n(plain)\n(gosub 65535)\n(gosub 65535)\n(ifelse\n(stmts\n(next orphan I$)\n)\n(stmts\n)\n)\n(return)\n)\n)\n"; writes = "(refused 7 42)\n" } ∷
-    record { text = "(module 1\n(line 5\n(next orphan J%)\n(next plain LOOPVAR1)\n(for LOOPVAR1 dispatched)\n(for K dispatched)\n(run 999)\n(for LOOPVAR1 dispatched)\n(next orphan *)\n(for K static)\n(gosub 999)\n)\n(line 999\n(plain)\n(next orphan LOOPVAR1 LOOPVAR1 K *)\n(return)\n(ongoto 10 10 10 10 10 10 10 10 10 10 10 10 10 10 10 10 10 10 10 10 10 10 10 10 10 10 10 10 10 10 10 10 10 10 10 10 10 10 10 10 10 10 10 10 10 10 10 10 10 10 10 10 10 10 10 10 10 10 10 10 10 10 10 10 10)\n)\n)\n"; writes = "(refused 8 16)\n" } ∷
-    record { text = "(module 1\n(line 100\n(done)\n(gosub 100)\n(gosub 100)\n(return)\n(any)\n(next plain * * * * * * * * * * * * * * * * * * * * * * * * * * * * * * * * * * * * * * * * * * * * * * * * * * * * * * * * * * * * * * * * *)\n)\n)\n"; writes = "(refused 8 7)\n" } ∷
-    record { text = "(module 1\n(line 5\n(else)\n)\n(line 20\n(for I dispatched)\n(doif)\n)\n(line 50\n(any)\n(next orphan I)\n(ongosub 9 9 9 9 9 9 9 9 9 9 9 9 9 9 9 9 9 9 9 9 9 9 9 9 9 9 9 9 9 9 9 9 9 9 9 9 9 9 9 9 9 9 9 9 9 9 9 9 9 9 9 9 9 9 9 9 9 9 9 9 9 9 9 9 9)\n)\n(line 100\n(rcomp\n(stmts\n(else)\n(else)\n)\n)\n(rcomp\n(to 65535)\n(stmts\n(if\n(stmts\n(rcomp\n(to 5)\n(stmts\n(ifelse\n(to 65534)\n(to 100)\n)\n)\n)\n)\n)\n)\n)\n)\n(line 65534\n)\n(line 65535\n)\n)\n"; writes = "(refused 8 11)\n" } ∷
-    record { text = "(module 0\n(line 30\n(rcomp\n(stmts\n(if\n(to 30)\n)\n(clr)\n(loop)\n)\n)\n(next orphan Z9$)\n(doif)\n(return)\n(for Z9$ dispatched)\n(return)\n(if\n(stmts\n(ongoto)\n)\n)\n(ongoto 9 9 9 9 9 9 9 9 9 9 9 9 9 9 9 9 9 9 9 9 9 9 9 9 9 9 9 9 9 9 9 9 9 9 9 9 9 9 9 9 9 9 9 9 9 9 9 9 9 9 9 9 9 9 9 9 9 9 9 9 9 9 9 9 9)\n)\n)\n"; writes = "(refused 8 21)\n" } ∷
-    record { text = "(module 0\n(line 1\n(gosub 1)\n(if\n(stmts\n(ifelse\n(to 1)\n(stmts\n(ifelse\n(stmts\n(gosub 1)\n(ifelse\n(to 1)\n(to 1)\n)\n)\n(to 1)\n)\n)\n)\n)\n)\n(return)\n(ongosub 1 1)\n(ongosub 0 0 0 0 0 0 0 0 0 0 0 0 0 0 0 0 0 0 0 0 0 0 0 0 0 0 0 0 0 0 0 0 0 0 0 0 0 0 0 0 0 0 0 0 0 0 0 0 0 0 0 0 0 0 0 0 0 0 0 0 0 0 0 0 0)\n)\n)\n"; writes = "(refused 8 24)\n" } ∷
-    record { text = "(module 1\n(line 40\n(rcomp\n(to 10)\n(stmts\n(ifelse\n(to 10)\n(stmts\n(ifelse\n(stmts\n(rcomp\n(stmts\n(if\n(stmts\n(ifelse\n(stmts\n(rcomp\n(stmts\n)\n(stmts\n(ifelse\n(stmts\n(ifelse\n(stmts\n(ifelse\n(stmts\n(if\n(stmts\n(rcomp\n(stmts\n(ifelse\n(stmts\n(ifelse\n(stmts\n)\n(stmts\n(rcomp\n(stmts\n(ifelse\n(to 10)\n(stmts\n(ifelse\n(stmts\n(else)\n(else)\n)\n(stmts\n)\n)\n)\n)\n)\n)\n)\n)\n)\n(stmts\n)\n)\n)\n)\n)\n)\n)\n(stmts\n)\n)\n)\n(to 10)\n)\n)\n(stmts\n)\n)\n)\n)\n)\n(to 10)\n)\n)\n)\n)\n)\n)\n(to 10)\n)\n)\n)\n)\n)\n)\n(line 50\n(endloop)\n)\n(line 999\n(plain)\n(doif)\n(plain)\n(ongoto)\n)\n(line 65534\n(doif)\n)\n(line 65535\n(doif)\n(doif)\n)\n)\n"; writes = "(refused 7 43)\n" } ∷
-    record { text = "(module 0\n(line 65535\n(rcomp\n(stmts\n(rcomp\n(stmts\n(if\n(stmts\n(ifelse\n(to 10)\n(stmts\n(rcomp\n(to 10)\n(stmts\n(rcomp\n(stmts\n(if\n(stmts\n(rcomp\n(stmts\n(rcomp\n(stmts\n(ifelse\n(to 10)\n(stmts\n(ifelse\n(stmts\n(rcomp\n(to 10)\n(stmts\n(ifelse\n(stmts\n(rcomp\n(stmts\n)\n(stmts\n(ifelse\n(stmts\n)\n(stmts\n(ifelse\n(stmts\n)\n(stmts\n(return)\n(else)\n(if\n(stmts\n(else)\n(plain)\n)\n)\n(next plain *)\n(exitif)\n(repeat)\n(gosub 65535)\n(clr)\n(next orphan I)\n)\n)\n)\n)\n)\n)\n)\n(to 10)\n)\n(module )\n)\n)\n(stmts\n)\n)\n)\n)\n)\n)\n)\n)\n)\n)\n)\n)\n)\n)\n)\n)\n)\n)\n)\n)\n)\n)\n)\n)\n"; writes = "(refused 7 48)\n" } ∷
-    record { text = "(module 0\n(line 1\n(ifelse\n(stmts\n)\n(stmts\n(ifelse\n(stmts\n(rcomp\n(to 10)\n(stmts\n(rcomp\n(to 10)\n(stmts\n(ifelse\n(stmts\n(rcomp\n(stmts\n(if\n(stmts\n(ifelse\n(to 10)\n(stmts\n(if\n(stmts\n(rcomp\n(to 10)\n(stmts\n(rcomp\n(stmts\n)\n(stmts\n(rcomp\n(stmts\n(ifelse\n(stmts\n)\n(stmts\n(ifelse\n(to 10)\n(stmts\n(rcomp\n(stmts\n(ifelse\n(stmts\n(if\n(stmts\n(next orphan N%)\n(any)\n(for N% dispatched)\n(loop)\n)\n)\n)\n(to 10)\n)\n)\n)\n)\n)\n)\n)\n)\n)\n)\n)\n)\n)\n)\n)\n)\n)\n)\n)\n)\n)\n)\n(stmts\n)\n)\n)\n)\n)\n)\n)\n(to 10)\n)\n)\n)\n)\n(line 10\n(any)\n(clr)\n)\n(line 30\n(if\n(ABCDEFGH\n)\n)\n)\n(line 65534\n(ongoto)\n(ongoto)\n)\n(line 65535\n)\n)\n"; writes = "(refused 7 47)\n" } ∷
-    record { text = "(module 0\n(line 40\n(doif)\n)\n(line 65534\n(ifelse\n(to 10)\n(stmts\n(if\n(stmts\n(rcomp\n(stmts\n)\n(stmts\n(if\n(stmts\n(rcomp\n(stmts\n)\n(stmts\n(rcomp\n(stmts\n(ifelse\n(stmts\n(ifelse\n(stmts\n(rcomp\n(stmts\n(ifelse\n(stmts\n(ifelse\n(stmts\n)\n(stmts\n(ifelse\n(to 10)\n(stmts\n(if\n(stmts\n(rcomp\n(stmts\n(ifelse\n(to 10)\n(stmts\n(if\n(stmts\n(ifelse\n(stmts\n(done)\n(ifelse\n(stmts\n)\n(stmts\n)\n)\n)\n(to 10)\n)\n)\n)\n)\n)\n)\n)\n)\n)\n)\n)\n)\n)\n)\n(stmts\n)\n)\n)\n)\n)\n(to 10)\n)\n)\n(stmts\n)\n)\n)\n)\n)\n)\n)\n)\n)\n)\n)\n)\n)\n)\n)\n)\n"; writes = "(refused 7 48)\n" } ∷
-    record { text = "(module 0\n(line 5\n(ifelse\n(stmts\n(rcomp\n(to 10)\n(stmts\n(if\n(stmts\n(rcomp\n(stmts\n)\n(stmts\n(ifelse\n(stmts\n(ifelse\n(stmts\n)\n(stmts\n(rcomp\n(stmts\n(ifelse\n(stmts\n(rcomp\n(stmts\n(rcomp\n(stmts\n(ifelse\n(stmts\n(rcomp\n(stmts\n(rcomp\n(stmts\n(ifelse\n(to 10)\n(stmts\n(if\n(stmts\n(ifelse\n(stmts\n(rcomp\n(stmts\n(else)\n)\n)\n)\n(to 10)\n)\n)\n)\n)\n)\n)\n)\n)\n)\n)\n(stmts\n)\n)\n)\n)\n)\n)\n)\n(stmts\n)\n)\n)\n)\n)\n)\n)\n(stmts\n)\n)\n)\n)\n)\n)\n)\n)\n)\n(to 10)\n)\n)\n(line 20\n(else)\n(doif)\n)\n(line 100\n(next orphan I$)\n(for I$ framed)\n(plain\n(done)\n)\n(line 65535\n(next plain LOOPVAR2)\n)\n)\n"; writes = "(refused 7 42)\n" } ∷
-    record { text = "(module 1\n(line 50\n(rcomp\n(to 10)\n(stmts\n(ifelse\n(stmts\n(ifelse\n(stmts\n)\n(stmts\n(if\n(stmts\n(rcomp\n(stmts\n)\n(stmts\n(ifelse\n(stmts\n(if\n(stmts\n(if\n(stmts\n(ifelse\n(stmts\n(rcomp\n(stmts\n)\n(stmts\n(ifelse\n(stmts\n)\n(stmts\n(ifelse\n(stmts\n(rcomp\n(stmts\n(ifelse\n(stmts\n)\n(stmts\n(rcomp\n(stmts\n(ifelse\n(stmts\n(rcomp\n(stmts\n)\n(stmts\n(rcomp\n(to 100)\n)\n(for N% static)\n)\n)\n)\n(stmts\n)\n)\n)\n)\n)\n)\n)\n)\n)\n(stmts\n)\n)\n)\n)\n)\n)\n)\n(stmts\n)\n)\n)\n)\n)\n)\n)\n(to 10)\n)\n)\n)\n)\n)\n)\n)\n)\n(to 10)\n)\n)\n)\n)\n(line 10\n(any)\n)\n)\n"; writes = "(refused 7 49)\n" } ∷
+    record { text = "(module 0\n(line 0\n(rcomp\n(stmts\n(ifelse\n(stmts\n(rcomp\n(stmts\n(rcomp\n(stmts\n(ifelse\n(stmts\n(rcomp\n(stmts\n(ifelse\n(to 10)\n(stmts\n(rcomp\n(stmts\n(if\n(stmts\n(rcomp\n(stmts\n(ifelse\n(stmts\n(rcomp\n(to 10)\n(stmts\n(rcomp\n(stmts\n(rcomp\n(stmts\n)\n(stmts\n(if\n(stmts\n(rcomp\n(to 10)\n(stmts\n(ifelse\n(stmts\n(until)\n(endloop)\n)\n)\n(stmts\n)\n)\n)\n)\n)\n)\n)\n)\n)\n)\n)\n)\n(stmts\n)\n)\n)\n)\n)\n)\n)\n)\n)\n)\n)\n)\n)\n(to 10)\n)\n)\n)\n)\n)\n)\n(to 10)\n)\n)\n)\n)\n(line 30\n(exit)\n)\n(line 40\n(repeat)\n)\n(line 50\n(exitif)\n(repeat)\n)\n(line 999\n(else)\n(exit)\n(loop)\n(exit)\n(return)\n)\n(line 65535\n(gosub 999)\n)\n)\n"; writes = "(refused 7 41)\n" } ∷
+    record { text = "(module 1\n(line 20\n(any)\n)\n(line 65535\n(for LOOPVAR1$ dispatched)\n(return)\n(done)\n(for LOOPVAR1$ static)\n(next plain LOOPVAR1$)\n(for LOOPVAR1$ static)\n(for LOOPVAR1$ dispatched)\n)\n(line 65535\n(ongosub 30 30 65535 20)\n(ongosub)\n(ongoto 9 9 9 9 9 9 9 9 9 9 9 9 9 9 9 9 9 9 9 9 9 9 9 9 9 9 9 9 9 9 9 9 9 9 9 9 9 9 9 9 9 9 9 9 9 9 9 9 9 9 9 9 9 9 9 9 9 9 9 9 9 9 9 9)\n)\n)\n"; writes = "(refused 4 13)\n" } ∷
+    record { text = "(module 1\n(line 30\n(return)\n(ongosub 30 30 1 1)\n(goto 1)\n(next orphan *)\n(repeat)\n(any)\n)\n(line 30\n(for J% dispatched)\n)\n)\n"; writes = "(refused 4 9)\n" } ∷
+    record { text = "(module 0\n(line 65534\n(if\n(stmts\n(return)\n(next plain CO)\n)\n)\n(next plain COUNT)\n(for COUNT dispatched)\n(for COUNTERS static)\n(next plain * * * * * * * * * * * * * * * * * * * * * * * * * * * * * * * * * * * * * * * * * * * * * * * * * * * * * * * * * * * * * * * * *)\n)\n)\n"; writes = "(refused 8 11)\n" } ∷
+    record { text = "(module 0\n(line 6553\n(for A$ static)\n(next plain A$)\n(done)\n(next plain I I I I I I I I I I I I I I I I I I I I I I I I I I I I I I I I I I I I I I I I I I I I I I I I I I I I I I I I I I I I I I I I I)\n)\n)\n"; writes = "(refused 8 5)\n" } ∷
+    record { text = "(module 0\n(line 999\n(done)\n(run)\n(gosub 999)\n(if\n(stmts\n(run)\n)\n)\n(goto 65536)\n(done)\n(for A1B2% static)\n(if\n(stmts\n)\n)\n)\n)\n"; writes = "(refused 3 10)\n" } ∷
+    record { text = "(module 0\n(line 010\n(rcomp\n(stmts\n(if\n(stmts\n(rcomp\n(stmts\n)\n(stmts\n(rcomp\n(stmts\n(rcomp\n(to 10)\n(stmts\n(ifelse\n(stmts\n)\n(stmts\n(if\n(stmts\n(ifelse\n(stmts\n(ifelse\n(stmts\n)\n(stmts\n(rcomp\n(stmts\n(ifelse\n(stmts\n)\n(stmts\n(ifelse\n(stmts\n(ifelse\n(to 10)\n(stmts\n(ifelse\n(to 10)\n(stmts\n(ifelse\n(to 10)\n(stmts\n(rcomp\n(to 10)\n(stmts\n(ifelse\n(to 10)\n(stmts\n(if\n(to 999)\n)\n)\n)\n)\n)\n)\n)\n)\n)\n)\n)\n)\n(to 10)\n)\n)\n)\n)\n)\n)\n)\n)\n(to 10)\n)\n)\n)\n)\n)\n)\n)\n)\n)\n)\n)\n)\n)\n)\n)\n)\n)\n"; writes = "(refused 3 1)\n" } ∷
+    record { text = "(module 1\n(line 1\n(plain)\n(for LOOPVAR1 static)\n(next plain LOOPVAR1)\n)\n(line 1\n(ongoto)\n(return)\n)\n(line 5\n(plain)\n(ongosub 0 5 5)\n)\n)\n"; writes = "(refused 4 6)\n" } ∷
+    record { text = "(module 1\n(line 1\n(else)\n(exit)\n(any)\n)\n(line 20\n(next plain *)\n(else)\n(ongosub 0 0 0 0 0 0 0 0 0 0 0 0 0 0 0 0 0 0 0 0 0 0 0 0 0 0 0 0 0 0 0 0 0 0 0 0 0 0 0 0 0 0 0 0 0 0 0 0 0 0 0 0 0 0 0 0 0 0 0 0 0 0 0 0 0)\n)\n(line line 65534\n(for COUNTER static)\n(done)\n)\n)\n"; writes = "(refused 8 9)\n" } ∷
+    record { text = "(module 1\n(line 65536\n(for A1B2C3D4 static)\n(rcomp\n(stmts\n(gosub 40)\n)\n)\n(next plain A1B2C3D4)\n(any)\n)\n(line 40\n)\n)\n"; writes = "(refused 3 1)\n" } ∷
+    record { text = "(module 0\n(line 30\n(ongoto 30 100 30 30)\n(stop)\n(ongosub 0 0 0 0 0 0 0 0 0 0 0 0 0 0 0 0 0 0 0 0 0 0 0 0 0 0 0 0 0 0 0 0 0 0 0 0 0 0 0 0 0 0 0 0 0 0 0 0 0 0 0 0 0 0 0 0 0 0 0 0 0 0 0 0 0)\n)\n)\n"; writes = "(refused 8 4)\n" } ∷
+    record { text = "(module 1\n(line 10\n(ifelse\n(to 10)\n(stmts\n(rcomp\n(stmts\n(ifelse\n(stmts\n(ifelse\n(stmts\n(if\n(stmts\n(ifelse\n(stmts\n(rcomp\n(stmts\n)\n(stmts\n(ifelse\n(to 10)\n(stmts\n(ifelse\n(to 10)\n(stmts\n(rcomp\n(stmts\n(ifelse\n(to 10)\n(stmts\n(rcomp\n(to 10)\n(stmts\n(if\n(stmts\n(ifelse\n(stmts\n(rcomp\n(to 10)\n(stmts\n(for N% static)\n)\n)\n)\n(to 10)\n)\n)\n)\n)\n)\n)\n)\n)\n)\n)\n)\n)\n)\n)\n)\n)\n(to 10)\n)\n)\n)\n)\n(to 10)\n)\n)\n(stmts\n)\n)\n)\n)\n)\n)\n)\n(line 40\n)\n(line 50\n(next orphan N%)\n(rcomp\n(stmts\n(next plain *)\n(until)\n(plain)\n)\n(to 65535)\n)\n)\n(line 010\n)\n)\n"; writes = "(refused 3 90)\n" } ∷
+    record { text = "(module 1\n(line 20\n(ifelse\n(stmts\n(next orphan *)\n)\n(stmts\n(repeat)\n(gosub 20)\n(exit)\n)\n)\n(for A$ static)\n(for A1B2% dispatched)\n(return)\n(ongosub 9 9 9 9 9 9 9 9 9 9 9 9 9 9 9 9 9 9 9 9 9 9 9 9 9 9 9 9 9 9 9 9 9 9 9 9 9 9 9 9 9 9 9 9 9 9 9 9 9 9 9 9 9 9 9 9 9 9 9 9 9 9 9 9 9)\n)\n(line 30\n(next orphan A1B2%)\n(ongosub 20 20)\n)\n(line 100\n(next plain *)\n(plain)\n)\n)\n"; writes = "(refused 8 15)\n" } ∷
+    record { text = "(module 0\n(line 0\n(next plain NOTE%)\n(any)\n(else)\n)\n(line 20\n(rcomp\n(stmts\n)\n(stmts\n(ifelse\n(stmts\n(if\n(stmts\n(ifelse\n(stmts\n)\n(stmts\n(rcomp\n(to 10)\n(stmts\n(rcomp\n(stmts\n)\n(stmts\n(rcomp\n(stmts\n(if\n(stmts\n(rcomp\n(to 10)\n(stmts\n(ifelse\n(stmts\n)\n(stmts\n(rcomp\n(stmts\n)\n(stmts\n(rcomp\n(stmts\n(if\n(stmts\n(rcomp\n(stmts\n(if\n(stmts\n(if\n(stmts\n(ifelse\n(stmts\n(if\n(stmts\n)\n)\n(plain)\n(for NO% static)\n)\n(stmts\n)\n)\n)\n)\n)\n)\n)\n)\n)\n)\n)\n)\n)\n)\n)\n)\n)\n)\n)\n)\n)\n)\n)\n)\n)\n)\n)\n)\n)\n)\n)\n(to 10)\n)\n)\n)\n)\n(line 40\n)\n)\n"; writes = "(refused 7 53)\n" } ∷
+    record { text = "(module 0\n(line 40\n(return)\n)\n(line 50\n(next plain for)\n(ifelse\n(stmts\n(ifelse\n(to 50)\n(stmts\n(repeat)\n(run)\n(done)\n)\n)\n(for J dispatched)\n(until)\n)\n(stmts\n)\n)\n(gosub 40)\n)\n(line 100\n(for J static)\n)\n)\n"; writes = "(refused 3 5)\n" } ∷
+    record { text = "(module 0\n(line 1\n(gosub 10)\n(gosub 40)\n)\n(line 10\n(gosub 40)\n(return)\n(next plain N%)\n(ongoto 100 65534)\n)\n(line 40\n(return)\n(gosub 10)\n(return)\n)\n(line 1\n(for N% static)\n)\n(line 1\n(ifelse\n(stmts\n(for J dispatched)\n(until)\n)\n(to 0)\n)\n)\n)\n"; writes = "(refused 4 16)\n" } ∷
+    record { text = "(module 1\n(line 1\n(else)\n(next orphan COUNT)\n(next orphan * COUNTER% C% CO static)\n(for COUNT dispatched)\n(next plain *)\n(for CO1 framed)\n(for COUNT dispatched)\n(any)\n)\n)\n"; writes = "(refused 3 4)\n" } ∷
+    record { text = "(module 1\n(line 20\n(doif)\n(for AB% dispatched)\n(ongosub 65534 65534 100 30)\n(ongosub 30 65534)\n(any)\n)\n(line 20\n(ongosub)\n(if\n(stmts\n(gosub 20)\n(return)\n(gosub 20)\n)\n)\n(gosub 30)\n)\n(line 100\n)\n(line 65534\n)\n"; writes = "(refused 4 8)\n" } ∷
+    record { text = "(module 0\n(line 65534\n(next plain * -1)\n(for K static)\n)\n)\n"; writes = "(refused 3 2)\n" } ∷
+    record { text = "(module 1\n(line 10\n(next plain J)\n(for J static)\n(until)\n)\n(line 50\n(for J dispatched)\n(next plain * I% I% *)\n(for J dispatched)\n(until)\n)\n(line 100\n(next plain I%)\n)\n(line 010\n(plain)\n)\n)\n"; writes = "(refused 3 15)\n" } ∷
+    record { text = "(module 0\n(line 65535\n(gosub 65535)\n(ongoto 65535 65535)\n(gosub 65535)\n(if\n(stmts\n(loop)\n)\n)\n(return)\n(return)\n(return)\n(next plain I I I I I I I I I I I I I I I I I I I I I I I I I I*I I I I I I I I I I I I I I I I I I I I I I I I I I I I I I I I I I I I I I I)\n)\n)\n"; writes = "(refused 3 13)\n" } ∷
+    record { text = "(module 0\n(line 0\n(endloop)\n(repeat)\n(gosub 0)\n(gosub 0)\n(return)\n)\n(line 30\n(exit)\n(endloop)\n(run)\n(run 30)\n(else)\n(next plain I I I I I I I I I I I I I I I I I I I I I I I I I I I I I I I I I I I I I I I I I I I I I I I I I I I I I I I I I I I I I I I I I)\n)\n(line stmts\n)\n)\n"; writes = "(refused 8 14)\n" } ∷
+    record { text = "(module 0\n(line 20\n(gosub 65535)\n(next plain I I I I I I I I I I I I I I I I I I I I I I I I I I I I I I I I I I I I I I I I I I I I I I I I I I I I I I I I I I I I I I I I I)\n)\n(line 40\n(else)\n(return)\n(plain)\n(else)\n)\n(line 65536\n)\n(line 65535\n(else)\n(stop)\n)\n)\n"; writes = "(refused 8 3)\n" } ∷
+    record { text = "(module 0\n(line 5\n(ongosub 65534 65535 5)\n)\n(line 100\n(done)\n(next plain * * * * * * * * * * * * * * * * * * * * * * * * * * * * * * * * * * * * * * * * * * * * * * * * * * * * * * * * * * * * * * * * *)\n)\n(line 65534\n)\n(line 65535\n(else)\n(doif)\n(plain)\n(doif)\n(done)\n(done)\n(next plain COUNT)\n(doif)\n(for COUNTER static)\n)\n)\n"; writes = "(refused 8 6)\n" } ∷
+    record { text = "(module 0\n(line 0\n(ifelse\n(stmts\n(ifelse\n(stmts\n(rcomp\n(stmts\n)\n(stmts\n(ifelse\n(to 10)\n(stmts\n(rcomp\n(stmts\n(ifelse\n(to 10)\n(stmts\n(rcomp\n(stmts\n)\n(stmts\n(if\n(stmts\n(rcomp\n(stmts\n)\n(stmts\n(ifelse\n(stmts\n(rcomp\n(stmts\n(if\n(stmts\n(ifelse\n(stmts\n)\n(stmts\n(ifelse\n(stmts\n(repeat)\n(next plain *)\n)\n(stmts\n)\n)\n)\n)\n)\n)\n)\n)\n)\n(stmts\n)\n)\n)\n)\n)\n)\n)\n)\n)\n)\n)\n)\n)\n)\n)\n)\n)\n(to 10)\n)\n)\n(stmts\n)\n)\n)\n(line 20\n(plain)\n)\n(line 40\n(else)\n)\n(line 1\n(stop)\n(return)\n(ongosub 50 50)\n(gosub 50)\n)\n(line 999\n(done)\n(plain)\n(until)\n(exitif)\n(for K static)\n)\n)\n"; writes = "(refused 4 84)\n" } ∷
+    record { text = "(module 0\n(line 0\n(return)\n(gosub 0)\n(return)\n(next plain * * * * * * * * * * * * * * * * * * * * * * * * * * * * * * * * * * * * * * * * * * * * * * * * * * * * * * * * * * * * * * * * *)\n(exit)\n(return)\n(return)\n(gosub 0)\n(repeat)\n)\n)\n"; writes = "(refused 8 5)\n" } ∷
+    record { text = "(module 0\n(line 999\n(else)\n(next plain I I I I I I I I I I I I I I I I I I I I I I I I I I I I I I I I I I I I I I I I I I I I I I I I I I I I I I I I I I I I I I I I I)\n)\n(line 999\n(plain)\n(plain)\n(else)\n)\n)\n"; writes = "(refused 8 3)\n" } ∷
+    record { text = "(module 1\n(line 20\n(until)\n)\n(line 30\n)\n(line 20\n(if\n(to 20)\n\n(run 20 0)\n(any)\n)\n)\n"; writes = "(refused 4 6)\n" } ∷
+    record { text = "(module 1\n(line 0\n(stop)\n(doif)\n(exit)\n(else)\n)\n(line 10\n(ifelse\n(stmts\n)\n(to 100)\n)\n(any)\n(ongoto 9 9 9 9 9 9 9 9 9 9 9 9 9 9 9 9 9 9 9 9 9 9 9 9 9 9 9 9 9 9 9 9 9 9 9 9 9 9 9 9 9 9 9 9 9 9 9 9 9 9 9 9 9 9 9 9 9 9 9 9 9 9 9 9 9)\n)\n(line 100\n(else)\n(repeat)\n(done)\n(until)\n)\n(line 65534\n)\n)\n"; writes = "(refused 8 14)\n" } ∷
+    record { text = "(module 0\n(line 5\n(stop)\n(run)\n(goto 5)\n(ongoto)\n)\n(line 30\n(clr)\n(any)\n)\n(line 1\n)\n)\n"; writes = "(refused 4 11)\n" } ∷
+    record { text = "(module 1\n(line 20\n(gosub 20)\n(ongosub 20 20 20 20)\n(gosub 20)\n(gosub 20)\n(return)\n(gosub 20)\n(gosub 20)\n(gosub 20)\n(return)\n(any)\n(next plain * * * * * * * * * * * * * * * * * * * * * * * * * * * * * * * * * * * * * * * * * * * * * * * * * * * * * * * * * * * * * * * * *)\n)\n)\n"; writes = "(refused 8 12)\n" } ∷
+    record { text = "(module 0\n(line 30\n(ifelse\n(stmts\n)\n(stmts\n(ifelse\n(to 10)\n(stmts\n(ifelse\n(stmts\n(ifelse\n(stmts\n(ifelse\n(stmts\n(if\n(stmts\n(ifelse\n(stmts\n(ifelse\n(stmts\n(rcomp\n(stmts\n(rcomp\n(to 10)\n(stmts\n(if\n(stmts\n(ifelse\n(to 10)\n(stmts\n(rcomp\n(to 10)\n(stmts\n(ifelse\n(stmts\n(if\n(stmts\n(rcomp\n(to 10)\n(stmts\n(ifelse\n(stmts\n(for AB% static)\n(for AB% dispatched)\n(plain)\n(for AB% framed)\n(return)\n)\n(stmts\n)\n)\n)\n)\n)\n)\n)\n(stmts\n)\n)\n)\n)\n\n)\n)\n)\n)\n)\n)\n)\n)\n(stmts\n)\n)\n)\n(to 10)\n)\n)\n)\n)\n(stmts\n)\n)\n)\n(stmts\n)\n)\n)\n(stmts\n)\n)\n)\n)\n)\n)\n)\n(line 65534\n(next plain * ABCDEFGH% AB% ABCDEFGH%)\n(gosub 30)\n(next plain ABCDEFGH%)\n)\n)\n"; writes = "(refused 7 43)\n" } ∷
+    record { text = "(module 0\n(line 0\n(ifelse\n(stmts\n)\n(stmts\n(ifelse\n(stmts\n)\n(stmts\n(rcomp\n(stmts\n(if\n(stmts\n(if\n(stmts\n(if\n(stmts\n(rcomp\n(stmts\n(rcomp\n(to 10)\n(stmts\n(ifelse\n(to 10)\n(stmts\n(rcomp\n(stmts\n(ifelse\n(stmts\n(ifelse\n(stmts\n(if\n(stmts\n(ifelse\n(stmts\n(rcomp\n(stmts\n(ifelse\n(to 10)\n(stmts\n(ifelse\n(stmts\n)\n(stmts\n(gosub 20)\n)\n)\n)\n)\n)\n)\n)\n(stmts\n)\n)\n)\n)\n)\n(to 10)\n)\n)\n(stmts\n)\n)\n)\n)\n)\n)\n)\n)\n)\n)\n)\n)\n)\n)\n)\n)\n)\n)\n)\n)\n)\n)\n)\n(line 1\n(exitif)\n)\n(line 5\n)\n(line 20\n(clr)\n(if\n(to 1)\n)\n(gosub 20)\n(goto 5)\n(if\n(stmts\n(goto 30)\n(goto 1)\n)\n)\n(loop)\n(return)\n)\n(line 30\n)\n)\n"; writes = "(refused 7 45)\n" } ∷
+    record { text = "(module 1\n(line 0\n(rcomp\n(to 10)\n(stmts\n(ifelse\n(to 10)\n(stmts\n(rcomp\n(stmts\n)\n(stmts\n(ifelse\n(stmts\n(if\n(stmts\n(rcomp\n(to 10)\n(stmts\n(rcomp\n(stmts\n(ifelse\n(stmts\n(ifelse\n(stmts\n(ifelse\n(stmts\n(ifelse\n(stmts\n(rcomp\n(stmts\n(if\n(stmts\n(rcomp\n(stmts\n(if\n(stmts\n(rcomp\n(stmts\n(ifelse\n(stmts\n)\n(stmts\n(repeat)\n(any)\n)\n)\n)\n)\n)\n)\n)\n)\n)\n)\n)\n)\n)\n(stmts\n)\n)\n)\n(stmts\n)\n)\n)\n(to 10)\n)\n)\n(to 10)\n)\n)\n)\n)\n(A B)\n)\n)\n)\n(stmts\n)\n)\n)\n)\n)\n)\n)\n)\n)\n(line 65535\n(run 999)\n(goto 999)\n)\n(line 30\n(done)\n)\n(line 999\n(repeat)\n(done)\n(exitif)\n(if\n(stmts\n(if\n(stmts\n)\n)\n)\n)\n)\n(line 65535\n)\n)\n"; writes = "(refused 7 43)\n" } ∷
+    record { text = "(module 0\n(line 5\n(rcomp\n(stmts\n)\n(stmts\n(ifelse\n(stmts\n(ifelse\n(stmts\n(ifelse\n(stmts\n(rcomp\n(stmts\n(if\n(stmts\n(if\n(stmts\n(rcomp\n(stmts\n(if\n(stmts\n(rcomp\n(stmts\n(if\n(stmts\n(if\n(stmts\n(ifelse\n(stmts\n(if\n(stmts\n(rcomp\n(stmts\n(ifelse\n(stmts\n)\n(stmts\n(gosub 5)\n(clr)\n(else)\n(if\n(stmts\n(ongoto 5 5)\n(exit)\n(if\n(stmts\n)\n)\n)\n)\n(if\n(stmts\n(loop)\n(rcomp\n)\n)\n(return)\n)\n)\n)\n)\n)\n)\n)\n(to 10)\n)\n)\n)\n)\n)\n)\n)\n)\n)\n)\n)\n)\n)\n)\n)\n)\n)\n)\n(to 10)\n)\n)\n(to 10)\n)\n)\n(stmts\n)\n)\n)\n)\n)\n)\n"; writes = "(refused 7 43)\n" } ∷
+    record { text = "(module 1\n(line 1\n(next orphan)\n(next plain Z9Z%)\n)\n(line 5\n(rcomp\n(stmts\n(rcomp\n(stmts\n)\n(stmts\n(ifelse\n(to 10)\n(stmts\n(ifelse\n(stmts\n(rcomp\n(to 10)\n(stmts\n(rcomp\n(to 10)\n(stmts\n(if\n(stmts\n(ifelse\n(stmts\n(rcomp\n(to 10)\n(stmts\n(if\n(stmts\n(if\n(stmts\n(ifelse\n(stmts\n)\n(stmts\n(rcomp\n(stmts\n(ifelse\n(stmts\n)\n(stmts\n(if\n(stmts\n(ifelse\n(stmts\n)\n(stmts\n(ifelse\n(stmts\n(endloop)\n(for A static)\n)\n(to 10)\n)\n)\n)\n)\n)\n)\n)\n)\n)\n)\n)\n)\n)\n)\n)\n)\n)\n)\n(stmts\n)\n)\n)\n)\n)\n)\n)\n)\n)\n(stmts\n)\n)\n)\n)\n)\n)\n)\n)\n)\n(line 50\n)\n(line 999\n(next orphan A A2B2 A *)\n(next orphan)\n(next plain A2B2)\n(any)\n)\n)\n"; writes = "(refused 7 52)\n" } ∷
+    record { text = "(module 1\n(line 5\n(rcomp\n(to 10)\n(stmts\n(if\n(stmts\n(rcomp\n(to 10)\n(stmts\n(rcomp\n(stmts\n)\n(stmts\n(ifelse\n(stmts\n)\n(stmts\n(ifelse\n(to 10)\n(stmts\n(ifelse\n(stmts\n)\n(stmts\n(if\n(stmts\n(ifelse\n(to 10)\n(stmts\n(rcomp\n(stmts\n)\n(stmts\n(ifelse\n(stmts\n(if\n(stmts\n(rcomp\n(stmts\n(if\n(stmts\n(ifelse\n(stmts\n(rcomp\n(stmts\n(rcomp\n(stmts\n(next plain *)\n)\n)\n)\n)\n)\n(stmts\n)\n)\n)\n)\n)\n)\n)\n)\n)\n(stmts\n)\n)\n)\n)\n)\n)\n)\n)\n)\n)\n)\n)\n)\n)\n)\n)\n)\n)\n)\n)\n)\n)\n)\n(line 10\n(next plain LOOPVAR1 J *)\n(for J static)\n(for A2B2 dispatched)\n(gosub 5)\n(for J dispatched)\n)\n(line 20\n(for A2B2 dispatched)\n(any)\n(clr)\n)\n(line 50\n(next orphan *)\n)\n)\n"; writes = "(refused 7 48)\n" } ∷
+    record { text = "(module 0\n(line 30\n(return)\n(ongosub)\n)\n(line 40\n(ifelse\n(stmts\n(if\n(stmts\n(ifelse\n(stmts\n(if\n(stmts\n(if\n(stmts\n(rcomp\n(stmts\n)\n(stmts\n(rcomp\n(stmts\n(rcomp\n(stmts\n)\n(stmts\n(rcomp\n(to 10)\n(stmts\n(rcomp\n(stmts\n)\n(stmts\n(rcomp\n(stmts\n(rcomp\n(stmts\n)\n(stmts\n(if\n(stmts\n(ifelse\n(stmts\n(ifelse\n(stmts\n(ifelse\n(stmts\n(ifelse\n(to 10)\n(stmts\n(gosub 30)\n(stop)\n)\n)\n)\n(stmts\n)\n)\n)\n(stmts\n)\n)\n)\n(to 10)\n)\n)\n)\n)\n)\n)\n)\n)\n)\n)\n)\n)\n)\n)\n)\n)\n)\n)\n)\n)\n)\n)\n(stmts\n)\n)\n)\n)\n)\n(stmts\n)\n)\n)\n(line 65535\n(any)\n(loop)\n(ongoto 40)\n(ext)\n(to)\n)\n(line 7\n)\n"; writes = "(refused 7 50)\n" } ∷
     []
 
 right-table : T (right table)

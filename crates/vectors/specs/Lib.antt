@@ -17,4 +17,5 @@ pub mod Points1
 pub mod Points2
 pub mod Points3
 pub mod Points4
+pub mod Points5
 pub mod PointsBytes1

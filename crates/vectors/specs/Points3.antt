@@ -19,6 +19,18 @@ table =
     record { text = "(module 0\n(line 10\n(stmts 1\n)\n)\n"; writes = "(refused 2 2)\n" } ∷
     record { text = "(module 0\n(line 10\n(else\n)\n)\n"; writes = "(refused 2 2)\n" } ∷
     record { text = "(module 0\n(line 10\n[plain]\n)\n)\n"; writes = "(refused 2 2)\n" } ∷
+    record { text = "(module 0\n(line 10\n(for COUNTERSX static)\n)\n)\n"; writes = "(refused 3 2)\n" } ∷
+    record { text = "(module 0\n(line 10\n(for COUNTERSX% static)\n)\n)\n"; writes = "(refused 3 2)\n" } ∷
+    record { text = "(module 0\n(line 10\n(next plain COunt)\n)\n)\n"; writes = "(refused 3 2)\n" } ∷
+    record { text = "(module 0\n(line 10\n(for CO%UNT static)\n)\n)\n"; writes = "(refused 3 2)\n" } ∷
+    record { text = "(module 0\n(line 10\n(for COUNT%$ framed)\n)\n)\n"; writes = "(refused 3 2)\n" } ∷
+    record { text = "(module 0\n(line 10\n(next orphan * COUNT*)\n)\n)\n"; writes = "(refused 3 2)\n" } ∷
+    record { text = "(module 0\n(line 10\n(next plain COUNT CO- CO)\n)\n)\n"; writes = "(refused 3 2)\n" } ∷
+    record { text = "(module 0\n(line 10\n(for CCCCCCCCCCCCCCCCCC dispatched)\n)\n)\n"; writes = "(refused 3 2)\n" } ∷
+    record { text = "(module 0\n(line 10\n(for COUNTERS% static)\n)\n)\n"; writes = "(graph 0 1\n(node 0 10 0 (0) (succ) (pred))\n(entry 10 0)\n(returns)\n)\n" } ∷
+    record { text = "(module 0\n(line 10\n(for COUNTERS static)\n)\n)\n"; writes = "(graph 0 1\n(node 0 10 0 (0) (succ) (pred))\n(entry 10 0)\n(returns)\n)\n" } ∷
+    record { text = "(module 0\n(line 10\n(for CO0 dispatched)\n)\n)\n"; writes = "(graph 0 1\n(node 0 10 0 (0) (succ) (pred))\n(entry 10 0)\n(returns)\n)\n" } ∷
+    record { text = "(module 0\n(line 10\n(next plain COUNT COUNTER CO% C$ COUNT)\n)\n)\n"; writes = "(graph 0 1\n(node 0 10 0 (0) (succ) (pred))\n(entry 10 0)\n(returns)\n)\n" } ∷
     record { text = "(module 00\n)\n"; writes = "(refused 2 0)\n" } ∷
     record { text = "(module 01\n)\n"; writes = "(refused 2 0)\n" } ∷
     record { text = "(module 2\n)\n"; writes = "(refused 2 0)\n" } ∷
@@ -54,18 +66,6 @@ table =
     record { text = "(module 0\n(line 10\n(plain)\n)\n)\n "; writes = "(refused 2 5)\n" } ∷
     record { text = "(module 0\n(line 10\n(plain)\n)\n)\n(plain)\n"; writes = "(refused 2 5)\n" } ∷
     record { text = "(module 0\n(line 10\n(plain)\n)\n)\nx"; writes = "(refused 2 5)\n" } ∷
-    record { text = "(module 0\n(line 10\n(plain)\n)\n)\n(module 0\n)\n"; writes = "(refused 2 5)\n" } ∷
-    record { text = "(module 0\n(line 10\n(plain)\n)\n)\n"; writes = "(graph 0 1\n(node 0 10 0 (0) (succ) (pred))\n(entry 10 0)\n(returns)\n)\n" } ∷
-    record { text = "(module 0\n(line 10\n(if\n)\n)\n)\n"; writes = "(refused 2 3)\n" } ∷
-    record { text = "(module 0\n(line 10\n(rcomp\n)\n)\n)\n"; writes = "(refused 2 3)\n" } ∷
-    record { text = "(module 0\n(line 10\n(ifelse\n)\n)\n)\n"; writes = "(refused 2 3)\n" } ∷
-    record { text = "(module 0\n(line 10\n(ifelse\n(to 10)\n)\n)\n)\n"; writes = "(refused 2 4)\n" } ∷
-    record { text = "(module 0\n(line 10\n(ifelse\n(stmts\n)\n)\n)\n)\n"; writes = "(refused 2 5)\n" } ∷
-    record { text = "(module 0\n(line 10\n(if\n(to 10)\n(to 10)\n)\n)\n)\n"; writes = "(refused 2 4)\n" } ∷
-    record { text = "(module 0\n(line 10\n(if\n(stmts\n)\n(stmts\n)\n)\n)\n)\n"; writes = "(refused 2 5)\n" } ∷
-    record { text = "(module 0\n(line 10\n(ifelse\n(to 10)\n(to 10)\n(to 10)\n)\n)\n)\n"; writes = "(refused 2 5)\n" } ∷
-    record { text = "(module 0\n(line 10\n(rcomp\n(to 10)\n(to 10)\n(to 007)\n)\n)\n)\n"; writes = "(refused 2 5)\n" } ∷
-    record { text = "(module 0\n(line 10\n(if\n(plain)\n)\n)\n)\n"; writes = "(refused 2 3)\n" } ∷
     []
 
 right-table : T (right table)
