@@ -215,6 +215,7 @@ uint8_t flow_entry(
     size_t answer[2]);
 
 /* The successors of `node` that keep the frame of the loop at `header` over the variable `name`; `flag`: a NEXT uses that frame.
+ * Of a name the first two characters and its % or $ count, in the listing too; 3 is asked of the whole name.
  * `answer[0]` of them stand in `out`, with zeros after; `answer[1]` is 0. Refused: 3, 24 (the header first), 25, 26, 28; `out`
  * is then as it was. */
 uint8_t flow_frame(

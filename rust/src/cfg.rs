@@ -127,14 +127,15 @@ impl Cfg {
         self.tables.lines.get(usize::from(line)).copied()
     }
 
-    /// The successors of a node that keep the FOR frame of the loop at `header` over the variable `var`. Refused are a `var`
-    /// that is no name (3) and ids that no node has (24).
+    /// The successors of a node that keep the FOR frame of the loop at `header` over the variable `var`. Of its name the first
+    /// two characters and the kind count, as in the listing. Refused are a `var` that is no name (3) and ids that no node has (24).
     ///
     /// ```
-    /// let cfg = flowgraph::Cfg::build(b"(module 0\n(line 10\n(for I static)\n(plain)\n(next plain I)\n(stop)\n)\n)\n")?;
+    /// let cfg = flowgraph::Cfg::build(b"(module 0\n(line 10\n(for COUNT static)\n(plain)\n(next plain COUNTER)\n(stop)\n)\n)\n")?;
     /// assert_eq!(cfg.successors(2), [1, 3]);
-    /// assert_eq!(cfg.frame_successors(0, 2, "I", true)?, [1]);
-    /// assert_eq!(cfg.frame_successors(0, 0, "I", true)?, []);
+    /// assert_eq!(cfg.frame_successors(0, 2, "CO", true)?, [1]);
+    /// assert_eq!(cfg.frame_successors(0, 0, "COUNTER", true)?, []);
+    /// assert_eq!(cfg.frame_successors(0, 0, "COUNTER%", true)?, [1]);
     /// # Ok::<(), flowgraph::Refusal>(())
     /// ```
     pub fn frame_successors(

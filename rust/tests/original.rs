@@ -1,6 +1,7 @@
 //! The original beside the library in one process, on random listings.
 //!
 //! FLOW_COUNT small listings (and a share of longer ones) from FLOW_SEED. Where the original is not at hand the test says so.
+//! The library gets names as written, the original cut ones (`lower::var`), in listings and in frame questions.
 
 #[cfg(not(original))]
 #[test]
@@ -134,7 +135,7 @@ mod compared {
                     assert_eq!(self.cfg.frame_successors(0, id, "I", true), Err(no_node(id)));
                 }
             }
-            for name in ["", "i", "1", "*", "A%%", "ABCDEFGHI", "A B"] {
+            for name in ["", "i", "1", "*", "A%%", "ABCDEFGHI", "A B", "COUNTERSX", "COunt", "CO%UNT"] {
                 let refused = Refusal { number: 3, place: 0 };
                 assert_eq!(self.cfg.frame_successors(nodes, 0, name, false), Err(refused), "name {name:?}");
             }

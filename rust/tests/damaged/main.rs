@@ -12,14 +12,14 @@ const LISTINGS: [&str; 5] = [
     include_str!("../../../tests/c12.listing"),
     // Branches in branches, each kind of holder, a second branch whose numbers go on.
     "(module 0\n(line 1\n(ifelse\n(stmts\n(plain)\n(rcomp\n(to 9)\n(stmts\n(clr)\n)\n)\n)\n(stmts\n(if\n(stmts\n(stop)\n)\n)\n)\n)\n)\n(line 9\n(run)\n)\n)\n",
-    // A loop with its frame, a call in it, an ON GOSUB.
-    "(module 1\n(line 5\n(for I dispatched)\n(gosub 7)\n(next orphan I *)\n(for J% static)\n(ongosub 5 7)\n)\n(line 6\n)\n(line 7\n(return)\n(next plain)\n)\n)\n",
+    // A loop with its frame, a call in it, an ON GOSUB; a name that is asked for otherwise than it is written.
+    "(module 1\n(line 5\n(for I dispatched)\n(gosub 7)\n(next orphan I *)\n(for COUNT% static)\n(ongosub 5 7)\n)\n(line 6\n)\n(line 7\n(return)\n(next plain)\n)\n)\n",
     // The other frames, a computed jump, an empty line at the end.
     "(module 0\n(line 0\n(doif)\n(else)\n(done)\n(repeat)\n(exitif)\n(until)\n(any)\n)\n(line 65535\n)\n)\n",
     "(module 0\n)\n",
 ];
 
-const NAMES: [&[u8]; 4] = [b"I", b"J%", b"ABCDEFGH$", b"i"];
+const NAMES: [&[u8]; 4] = [b"I", b"COUNTER%", b"ABCDEFGH$", b"COUNTERSX%"];
 
 /// What was asked and how often each refusal was given.
 #[derive(Default)]
@@ -214,7 +214,8 @@ fn each_entry() {
         }
         for at in 0..t.args.len() {
             let old = t.args[at];
-            for value in [0, u64::MAX, model::key(b"I"), model::key(b"J%"), old ^ 1 << 63] {
+            // The key of a name that was not cut is none that is asked for.
+            for value in [0, u64::MAX, model::key(b"I"), model::key(b"CO%"), model::key(b"COUNTER%"), old ^ 1 << 63] {
                 t.args[at] = value;
                 questions.ask(&t, &mut tally);
             }
@@ -223,6 +224,21 @@ fn each_entry() {
     }
     report("entries", &tally);
     assert!([3, 24, 25, 26, 28].iter().all(|n| tally.refused.contains_key(n)));
+}
+
+/// A build writes the keys of cut names, and the frame question cuts its own: without the model.
+#[test]
+fn long_names() {
+    let t = built(LISTINGS[2], 0);
+    assert_eq!((t.args[0], t.args[64 * 3]), (model::key(b"I"), model::key(b"CO%")));
+    let frame = |name: &str| t.frame_successors(3, 3, name.as_bytes(), false, &mut [0; 64]);
+    for name in ["CO%", "COUNT%", "COUNTER%", "CO123456%"] {
+        assert_eq!(frame(name), Ok(0), "{name}");
+    }
+    for name in ["CO", "COUNT", "COUNTER$", "C%", "CP%", "I"] {
+        assert_eq!(frame(name), Ok(1), "{name}");
+    }
+    assert_eq!(frame("COUNTERSX%"), Err(Refusal { number: 3, place: 0 }));
 }
 
 /// An entry that a question reads and that points outside its table: 25, without the model.

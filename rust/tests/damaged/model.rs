@@ -160,6 +160,13 @@ fn is_name(name: &[u8]) -> bool {
     first.is_ascii_uppercase() && base.iter().all(|b| b.is_ascii_uppercase() || b.is_ascii_digit())
 }
 
+/// "Cuts a name to two characters and keeps its `%` or `$`" (document 02, L2); the name is a good one.
+fn cut(name: &[u8]) -> Vec<u8> {
+    let is_kind = |b: &u8| matches!(b, b'%' | b'$');
+    let characters = name.iter().filter(|b| !is_kind(b)).take(2);
+    characters.chain(name.last().filter(|b| is_kind(b))).copied().collect()
+}
+
 /// "A name's key is its bytes less 32 as digits to the base 64, the first byte lowest."
 pub fn key(name: &[u8]) -> u64 {
     name.iter().rev().fold(0, |key, &b| key * 64 + u64::from(b - 32))
@@ -181,7 +188,7 @@ pub fn frame(t: &Tables, header: usize, node: usize, name: &[u8], flag: bool, ro
     let word = record(t, node).word;
     let kept = match word {
         CLR | RUN | RETURN => Vec::new(),
-        FOR if t.args[64 * node] == key(name) => Vec::new(),
+        FOR if t.args[64 * node] == key(&cut(name)) => Vec::new(),
         NEXT if flag => own.into_iter().filter(|s| body.contains(s)).collect(),
         GOSUB | ONGOSUB => match t.falls[3 * node] {
             0 => Vec::new(),
