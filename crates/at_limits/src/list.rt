@@ -14,7 +14,7 @@ ghost use Rattle.printing.specs.Limits.{ListedWhole};
 
 // With tables that suffice at all limits, and room for the longest graph.
 pub fn list_text(text: &[u8], out: &mut [u8; 1048576]) -> Printed
-    ensures { λ r. ⌜ ListedWhole (now (text .entry)) (now (out .exit)) (r .built) (r .len) ⌝ }
+    ensures { λ r. ⌜ ListedWhole (now (text .entry)) (now (out .entry)) (now (out .exit)) (r .built) (r .len) ⌝ }
 {
     let mut counts = [0u32; 6];
     let mut lines = [0u16; MAX_LINES];

@@ -60,12 +60,17 @@ module _ (text given : List ℕ) (s : Sizes) (c l t a e f k i r u p page page′
 
 -- ---- a verdict as a row
 
+-- all of the row is put into `out`, which is out′ then
+pub record RowShown (out out′ : List ℕ) (n : ℕ) (v : VerdictAnswer) : Type 0 where
+  pub puts : Puts out 0 out′ n (shown (verdictOf v))
+  pub whole : Whole out′ n (shown (verdictOf v))
+
 module _ (out out′ : List ℕ) (n : ℕ) (v : VerdictAnswer) (h : 64 ≤ length out) where
-  pub right-shown : v ≡ verdict.Right → Puts out 0 out′ n (bytes "(right)\n") → Whole out′ n (shown (verdictOf v))
+  pub right-shown : v ≡ verdict.Right → Puts out 0 out′ n (bytes "(right)\n") → RowShown out out′ n v
   unfolding shown verdictOf bytes
-  right-shown e g = rw e (puts-whole out out′ (bytes "(right)\n") n (omega arith) g)
+  right-shown e g = rw e (record { puts = g; whole = puts-whole out out′ (bytes "(right)\n") n (omega arith) g })
 
   pub wrong-shown : (j y : ℕ) → v ≡ verdict.Wrong j y → j < 100000000000000000000 → y < 100000000000000000000 → Puts out 0 out′ n (printedRefusal j y)
-      → Whole out′ n (shown (verdictOf v))
+      → RowShown out out′ n v
   unfolding shown verdictOf
-  wrong-shown j y e hj hy g = rw e (puts-whole out out′ (printedRefusal j y) n (omega (arith, refusal-length j y hj hy)) g)
+  wrong-shown j y e hj hy g = rw e (record { puts = g; whole = puts-whole out out′ (printedRefusal j y) n (omega (arith, refusal-length j y hj hy)) g })

@@ -1,4 +1,5 @@
--- A graph that is read in pieces (document 02, L1). No contract can say which bytes a file has; of those that were read the verdict is the definition's. Assumes nothing.
+-- A graph that is fed in pieces (document 02, L1). No contract can say which bytes a read brings, so what is said is of some bytes: those of the pieces, as the
+-- code that feeds them shows. Assumes nothing.
 use Prim.Native.Nat.{ℕ}
 use mathlib.Core.Path.{_≡_, refl, sym, ap, _∙_}
 use mathlib.Core.List.{List, [], _++_}
@@ -29,10 +30,10 @@ fed-none due z e = ([], e)
 pub fed-piece : (due piece : List ℕ) (y z : Standing) → SomeFed due y → z ≡ fed due y piece → SomeFed due z
 fed-piece due piece y z h e = (h .0 ++ piece, e ∙ ap (λ (x : Standing). fed due x piece) (h .1) ∙ sym (fed-append due (same 0 start) (h .0) piece))
 
-pub pieces-checked : (text page row : List ℕ) (x : BuiltAnswer) (n r : ℕ) (z : Standing) (v : VerdictAnswer) → ListedWhole text page x n → SomeFed (take n page) z
+pub pieces-checked : (text empty page row : List ℕ) (x : BuiltAnswer) (n r : ℕ) (z : Standing) (v : VerdictAnswer) → ListedWhole text empty page x n → SomeFed (take n page) z
     → verdictOf v ≡ concluded x z (take n page) → Whole row r (shown (verdictOf v)) → SomeChecked text row r
 unfolding flowcheck flowlist
-pieces-checked text page row x n r z v l h q w = (
+pieces-checked text empty page row x n r z v l h q w = (
   h .0,
   rw (q ∙ ap (λ (y : Standing). concluded x y (take n page)) (h .1) ∙ concluded-so limits text (h .0) (take n page) x (l .answer) (l .whole .bytes)) at w,
 )

@@ -20,7 +20,7 @@ pub enum Comparing {
     Ended { number: u8, at: usize },
 }
 
-// What is said of the graph given; of a wrong one document 02's number, and the first row that is not the one due.
+// What is said of the graph given; of a wrong one document 02's number, and the first row that is not the one due, or the refusal of its listing.
 pub enum Verdict {
     Right,
     Wrong { number: u8, place: usize },

@@ -46,14 +46,30 @@ fn fail_name(name: &[u8], len: usize) {
     }
 }
 
-// Whether a file could be read as far as was asked: the read behind that does not fail. If it does, that is said.
+// Whether a file was read to its end: one more read brings nothing. If it fails, or brings a byte, that is said.
 fn is_read(fd: i32, name: &[u8; 4096], len: usize) -> bool {
     let mut byte = [0u8; 1];
-    if 0 <= libc::read(fd, &mut byte) {
+    let got = libc::read(fd, &mut byte);
+    if got == 0 {
         return true;
+    }
+    if got > 0 {
+        io::write_all(
+            STDERR_FILENO,
+            b"flowcheck: a file was not read to its end\n",
+        );
+        return false;
     }
     fail_name(name, len);
     false
+}
+
+// Whether a listing was read to its end, or as far as it can matter: a longer one is refused by its length.
+fn is_text_read(n: usize, fd: i32, name: &[u8; 4096], len: usize) -> bool {
+    if n == 65537 {
+        return true;
+    }
+    is_read(fd, name, len)
 }
 
 // The graph in a file beside the one due, in pieces. A proved loop has to end, so it counts its turns down, from a number that no run uses up.
@@ -74,7 +90,7 @@ fn compare_file(fd: i32, due: &[u8]) -> Comparing
     s
 }
 
-// The row for a listing's text and a graph in a file: the definition's for the bytes that were read of it.
+// The row for a listing's text and a graph in a file: the definition's for some bytes, those that `compare_file` feeds.
 fn check_file(text: &[u8], fd: i32, row: &mut [u8; 64]) -> usize
     ensures { λ r. ⌜ SomeChecked (now (text .entry)) (now (row .exit)) r ⌝ }
 {
@@ -107,7 +123,7 @@ fn main() {
     };
     let mut text = [0u8; 65537];
     let n = io::read_full(fd, &mut text);
-    if !is_read(fd, &listing, len) {
+    if !is_text_read(n, fd, &listing, len) {
         return;
     }
     let mut row = [0u8; 64];

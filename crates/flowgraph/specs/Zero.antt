@@ -1,4 +1,4 @@
--- 0 is no refusal's number: the C functions return it for a graph or an answer alone. Assumes nothing.
+-- 0 is no refusal's number: the C functions return it for a graph, a right graph or an answer alone. Assumes nothing.
 use Prim.Native.Nat.{ℕ, zero, suc, _+_, _*_, _<_}
 use mathlib.Core.Path.{_≡_, refl}
 use mathlib.Core.Bool.{Bool, true, false}

@@ -11,7 +11,7 @@ use Rattle.graph.specs.Print.{printed}
 use Rattle.graph.specs.Build.{Capacity, graph, build}
 use Rattle.graph_laws.specs.FilledForms.{GraphRow}
 
--- "accepts exactly when the graph is the one that the definition gives": the text t is that of a listing with a graph, and g is what that graph prints
+-- "accepts exactly when the graph is the one that the definition gives": t means a listing whose graph is built, and g is what is printed for it
 pub record IsGraphOf (c : Capacity) (t g : List ℕ) : Type 0 where
   pub listing : Listing
   pub built : build c t ≡ graph listing

@@ -29,19 +29,22 @@ puts-whole out out′ l n h g =
     front : take 0 out ++ l ++ drop (0 + length l) out ≡ l ++ drop (length l) out
     front = let y : 0 + length l ≡ length l = omega arith in rw y
 
--- with tables that suffice at all limits, x is answered, and all of what the definition's `flowlist` says stands in `out`
-pub record ListedWhole (text out : List ℕ) (x : BuiltAnswer) (n : ℕ) : Type 0 where
+-- with tables that suffice at all limits, x is answered, and all of what the definition's `flowlist` says is put into `out`, which is out′ then
+pub record ListedWhole (text out out′ : List ℕ) (x : BuiltAnswer) (n : ℕ) : Type 0 where
   pub answer : x ≡ answerOf (build limits text)
-  pub whole : Whole out n (flowlist text)
+  pub puts : Puts out 0 out′ n (flowlist text)
+  pub whole : Whole out′ n (flowlist text)
 
 -- so `list_graph` with tables of these lengths, s, and 1,048,576 bytes for the graph writes all of what the definition's `flowlist` says
 pub listed-limits : (text : List ℕ) (s : Sizes) (c l t a e f k i r u p out out′ : List ℕ) (x : BuiltAnswer) (n : ℕ) → 1024 ≡ s .lines → 49152 ≡ s .stmts → 262144 ≡ s .args
     → 2048 ≡ s .entries → 12288 ≡ s .falls → 262144 ≡ s .links → 16384 ≡ s .lists → 4096 ≡ s .returns → 32768 ≡ s .succ
-    → 32768 ≡ s .pred → length out ≡ 1048576 → GraphListed text s c l t a e f k i r u p out out′ x n → ListedWhole text out′ x n
+    → 32768 ≡ s .pred → length out ≡ 1048576 → GraphListed text s c l t a e f k i r u p out out′ x n → ListedWhole text out out′ x n
 unfolding flowlist
 listed-limits text s c l t a e f k i r u p out out′ x n hl ht ha he hf hk hi hr hu hp ho g =
     let e = at-limits s hl ht ha he hf hk hi hr hu hp in
+    let p = puts-is (ap (λ (z : Capacity). written (build z text)) e) (g .listed) in
     record {
       answer = g .built .answer ∙ ap (λ (z : Capacity). answerOf (build z text)) e;
-      whole = puts-whole out out′ (flowlist text) n (omega (arith, flowlist-length text)) (puts-is (ap (λ (z : Capacity). written (build z text)) e) (g .listed));
+      puts = p;
+      whole = puts-whole out out′ (flowlist text) n (omega (arith, flowlist-length text)) p;
     }

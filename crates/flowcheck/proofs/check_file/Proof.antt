@@ -10,7 +10,7 @@ list-text-requires : tie.Need-list-text-requires
 list-text-requires c κs = search needs
 
 array-share-prefix-page : tie.Need-array-share-prefix-page
-array-share-prefix-page c = search needs
+array-share-prefix-page c = let at-listed : tie.After-list-text = search in at-listed .list-text .ensures .whole .inside
 
 slice-aggregate-compare-file : tie.Need-slice-aggregate-compare-file
 slice-aggregate-compare-file c = let at-listed : tie.After-list-text = search in sym (length-take-le _ _ (at-listed .list-text .ensures .whole .inside))
@@ -19,7 +19,7 @@ compare-file-requires : tie.Need-compare-file-requires
 compare-file-requires c κs = search needs
 
 array-share-prefix-page-2 : tie.Need-array-share-prefix-page-2
-array-share-prefix-page-2 c = search needs
+array-share-prefix-page-2 c = let at-listed : tie.After-list-text = search in at-listed .list-text .ensures .whole .inside
 
 slice-aggregate-conclude : tie.Need-slice-aggregate-conclude
 slice-aggregate-conclude c = let at-listed : tie.After-list-text = search in sym (length-take-le _ _ (at-listed .list-text .ensures .whole .inside))
@@ -36,7 +36,7 @@ returns c =
     let at-listed : tie.After-list-text = search in
     let at-compared : tie.After-compare-file = search in
     let at-concluded : tie.After-conclude = search in
-    pieces-checked (at-start .args .text .now) _ _ _ _ _ _ _ (at-listed .list-text .ensures) (at-compared .compare-file .ensures) (at-concluded .conclude .ensures) (c .show-verdict .ensures)
+    pieces-checked (at-start .args .text .now) _ _ _ _ _ _ _ _ (at-listed .list-text .ensures) (at-compared .compare-file .ensures) (at-concluded .conclude .ensures) (c .show-verdict .ensures .whole)
 
 pub check-file-spec : {M : Type 1} → statement M
 check-file-spec =

@@ -47,8 +47,8 @@ slice-aggregate-read-full c = search needs
 read-full-requires : tie.Need-read-full-requires
 read-full-requires c κs = search needs
 
-is-read-requires : tie.Need-is-read-requires
-is-read-requires c κs = search needs
+is-text-read-requires : tie.Need-is-text-read-requires
+is-text-read-requires c κs = search needs
 
 returns-4 : tie.Need-returns-4
 returns-4 c = search needs
@@ -62,8 +62,8 @@ slice-aggregate-check-file c = search needs
 check-file-requires : tie.Need-check-file-requires
 check-file-requires c κs = search needs
 
-is-read-requires-2 : tie.Need-is-read-requires-2
-is-read-requires-2 c κs = search needs
+is-read-requires : tie.Need-is-read-requires
+is-read-requires c κs = search needs
 
 array-share-prefix-row : tie.Need-array-share-prefix-row
 array-share-prefix-row c = search needs
@@ -100,12 +100,12 @@ main-spec =
     returns-3
     slice-aggregate-read-full
     read-full-requires
-    is-read-requires
+    is-text-read-requires
     returns-4
     array-share-prefix-text
     slice-aggregate-check-file
     check-file-requires
-    is-read-requires-2
+    is-read-requires
     array-share-prefix-row
     slice-aggregate-write-all-2
     write-all-requires-2

@@ -21,7 +21,7 @@ list-text-requires : tie.Need-list-text-requires
 list-text-requires c κs = search needs
 
 array-share-prefix-out : tie.Need-array-share-prefix-out
-array-share-prefix-out c = search needs
+array-share-prefix-out c = let at-listed : tie.After-list-text = search in at-listed .list-text .ensures .whole .inside
 
 slice-aggregate-write-all : tie.Need-slice-aggregate-write-all
 slice-aggregate-write-all c = sym (length-take-le _ _ (c .before .list-text .ensures .whole .inside))

@@ -23,7 +23,7 @@ list-text-requires : tie.Need-list-text-requires
 list-text-requires c κs = search needs
 
 array-share-prefix-out : tie.Need-array-share-prefix-out
-array-share-prefix-out c = search needs
+array-share-prefix-out c = let at-listed : tie.After-list-text = search in at-listed .list-text .ensures .whole .inside
 
 slice-aggregate-print-framed : tie.Need-slice-aggregate-print-framed
 slice-aggregate-print-framed c = sym (length-take-le _ _ (c .before .before .before .list-text .ensures .whole .inside))
@@ -32,10 +32,10 @@ print-framed-requires : tie.Need-print-framed-requires
 print-framed-requires c κs = search needs
 
 same-length : tie.Need-same-length
-same-length c = search needs
+same-length c = search
 
 returns-2 : tie.Need-returns-2
-returns-2 c = search needs
+returns-2 c = tt
 
 pub answer-part-spec : {M : Type 1} → statement M
 answer-part-spec =
