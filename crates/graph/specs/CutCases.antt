@@ -1,4 +1,4 @@
--- Names cut to two characters: the examples of document 02's L2, computed. Assumes nothing.
+-- Names cut to two characters (document 02, L2): examples of each use of a name, computed. Assumes nothing.
 use Prim.Native.Nat.{ℕ}
 use mathlib.Core.List.{List, [], _∷_}
 use mathlib.Core.Bool.{Bool, true, false, _&&_}
@@ -6,17 +6,11 @@ use lib.Dec.{T, eqb}
 use Rattle.listings.specs.Bytes.{bytes, same}
 use Rattle.listings.specs.Listing.{Name}
 use Rattle.listings.specs.Read.{Answer, listing, refusal}
-use Rattle.listings.specs.Cut.{cutName, meant}
+use Rattle.listings.specs.Cut.{meant}
 use Rattle.graph.specs.CaseTable.{Case, claims, writes, lists-are, list-is, listsFrom, holds, hold, holdOf, right, allRight, one}
 use Rattle.graph.specs.Questions.{Reply, answer, refused, askFrame}
 use Rattle.graph.specs.Opened as definitions
 use Rattle.graph.specs.QuestionsOpened as questions
-
--- "cuts a name to two characters and keeps its `%` or `$`"
-names : T (same (cutName (bytes "COUNT")) (bytes "CO") && same (cutName (bytes "COUNT%")) (bytes "CO%") && same (cutName (bytes "A1B2$")) (bytes "A1$")
-    && same (cutName (bytes "A$")) (bytes "A$") && same (cutName (bytes "AB%")) (bytes "AB%") && same (cutName (bytes "A")) (bytes "A"))
-unfolding definitions.opened
-names = tt
 
 -- "Users write `FOR COUNT` and `NEXT COUNTER` and the machine takes them as one variable": popped, with their kind
 cases : List Case

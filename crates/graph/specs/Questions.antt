@@ -90,6 +90,6 @@ unfoldable pub ifRoom : ℕ → List ℕ → Reply (List ℕ)
 ifRoom room l = pick (leb (length l) room) (answer l) (refused 28 (length l))
 
 -- "3 (a bad name, place 0), then 24 (the header first)"; room: how many entries the lent slice has. The name is judged whole and then cut: "The name given to
--- the frame question is cut too." (document 02, L2)
+-- the frame question is cut too." (document 02, L2); those of the listing are cut already
 unfoldable pub askFrame : Listing → (header node : ℕ) → Name → Bool → (room : ℕ) → Reply (List ℕ)
 askFrame L h i v flag room = pick (isName v) (ifNode L h (ifNode L i (ifRoom room (frameList L h i (cutName v) flag)))) (refused 3 0)

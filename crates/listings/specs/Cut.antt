@@ -8,7 +8,7 @@ use Rattle.listings.specs.Listing.{Name, Slot, Simple, jump, on, for, ne
 use Rattle.listings.specs.Rows.{isCapital, isDigit}
 use Rattle.listings.specs.Read.{Answer, listing, refusal, read}
 
--- the first k bytes; of the others all but the characters, which leaves the `%` or `$`
+-- keeps the first k bytes, and of the rest only what is no character: the `%` or `$`
 unfoldable pub cutTo : ℕ → Name → Name
 cutTo k [] = []
 cutTo zero (b ∷ v) = pick (isCapital b || isDigit b) (cutTo zero v) (b ∷ cutTo zero v)

@@ -23,5 +23,6 @@ pub mod RecordLaws
 pub mod ReadingRecords
 pub mod Scan
 pub mod Cut
+pub mod CutCases
 pub mod CutLaws
 pub mod CutText

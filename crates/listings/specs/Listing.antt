@@ -5,7 +5,7 @@ use mathlib.Core.Bool.{Bool}
 use mathlib.Core.List.{List}
 use mathlib.Core.Option.{Option}
 
--- a name with its kind (`%`, `$` or nothing at its end); names are compared whole
+-- a name with its kind (`%`, `$` or nothing at its end); names are compared whole, after they were cut (`Cut`)
 abbrev pub Name : Type 0
 Name = List ℕ
 

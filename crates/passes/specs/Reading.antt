@@ -42,7 +42,7 @@ table-wider f (refusal n p) k t h g =
 abbrev pub readBy : ℕ → ℕ → Answer → Answer
 readBy kl kn q = answerOf kl (kn * 12) (kn * 64) q
 
--- the answer and every entry, of tables with nl, ns and na entries; q: what was read
+-- the answer and every entry, of tables with nl, ns and na entries; q: what is meant, or the refusal
 pub record FittingRead (q : Answer) (kl kn nl ns na : ℕ) (c l t a : List ℕ) (r : Listed) : Type 0 where
   pub answer : r ≡ listedOf (readBy kl kn q)
   pub counts : c ≡ tableOf countsOf (readBy kl kn q) 6

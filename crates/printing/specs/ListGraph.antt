@@ -27,7 +27,7 @@ module _ (text : List ℕ) (s : Sizes) (c l t a e f k i r u p : List ℕ) (x : B
   abbrev T : Tables
   T = tablesOf c l t a e f k i r u p
 
-  -- the graph of the listing that the text is
+  -- the graph of the listing that the text means
   listing-held : x ≡ answer.Graph → (L : Listing) × (build (capacity s) text ≡ graph L) × GraphHeld L l t e f i r u p (getD c 5 0) (getD c 1 0) (getD c 4 0)
   listing-held q =
       let g = graph-of (text-read text) s T x w q in

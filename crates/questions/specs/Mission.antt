@@ -1,5 +1,5 @@
 -- The mission (00-mission.md) as one theorem: what holds for every input and all lent tables once `build` has returned, and of every question asked of the tables
--- that it left. `Means L`: the input is one that gives the listing L; a text means the listing that it is the text of, with its names cut (`ListingOf`). q: what is read of it. Statements alone, to be read beside 00-mission.md; quotes are its words and document 01's. The proof is in MissionProof. Assumes nothing.
+-- that it left. `Means L`: the input is one that gives the listing L; a text means the listing that it is the text of, with its names cut (`ListingOf`). q: what it means, or its refusal. Statements alone, to be read beside 00-mission.md; quotes are its words and document 01's. The proof is in MissionProof. Assumes nothing.
 use Prim.Native.Nat.{ℕ}
 use mathlib.Core.Path.{_≡_}
 use mathlib.Core.Bool.{Bool, false}

@@ -30,7 +30,7 @@ stmtEntries L = recRows (lineRecs (L .lines))
 unfoldable pub argEntries : Listing → List ℕ
 argEntries L = argRows (lineRecs (L .lines))
 
--- the answer and every entry, of tables with nl, ns and na entries; b: what was read
+-- the answer and every entry, of tables with nl, ns and na entries; b: what is meant, or the refusal
 pub record RecordsWritten (b : Answer) (nl ns na : ℕ) (c l t a : List ℕ) (r : Listed) : Type 0 where
   pub answer : r ≡ listedOf (answerOf nl ns na b)
   pub counts : c ≡ tableOf countsOf (answerOf nl ns na b) 6

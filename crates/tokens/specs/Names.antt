@@ -183,11 +183,11 @@ cut-bytes zero (b ∷ l) h = let p = both-true (inKey b) (all inKey l) h in go (
 
 -- ---- the cut name's key, from a position on
 
--- what the cut leaves of the bytes from i on
+-- what the cut keeps of the bytes from i on
 unfoldable pub cutFrom : List ℕ → ℕ → List ℕ
 cutFrom w i = cutTo (2 - i) (drop i w)
 
--- whether the cut leaves byte b, which stands at i
+-- whether the cut keeps byte b, which stands at i
 unfoldable pub kept : ℕ → ℕ → Bool
 kept i b = ltb i 2 || not (isCapital b || isDigit b)
 
@@ -219,8 +219,10 @@ key-next w (suc (suc i)) h =
   where
     c : ℕ
     c = getD w (suc (suc i)) 0
+
     l : List ℕ
     l = cutTo 0 (drop (suc (suc (suc i))) w)
+
     go : (x : Bool) → nameKey (pick x l (c ∷ l)) ≡ pick (not x) ((c - 32) + 64 * nameKey l) (nameKey l)
     go true = refl
     go false = refl

@@ -77,7 +77,7 @@ pub fn is_name(w: &[u8]) -> bool
     true
 }
 
-// Whether the cut leaves byte b, which stands at i: one of the first two, or the kind.
+// Whether the cut keeps byte b, which stands at i: one of the first two, or the kind.
 fn is_kept(i: usize, b: u8) -> bool
     ensures { λ r. ⌜ r ≡ kept i b ⌝ }
 {
@@ -87,7 +87,7 @@ fn is_kept(i: usize, b: u8) -> bool
     !is_letter(b)
 }
 
-// The key so far, with the byte at i before it where the cut leaves that byte.
+// The key so far, with the byte at i before it where the cut keeps that byte.
 fn with_byte(a: u64, i: usize, b: u8) -> u64
     requires { ⌜ (a < 281474976710656) × (33 ≤ b) × (b ≤ 95) ⌝ }
     ensures { λ r. ⌜ r ≡ pick (kept i b) ((b - 32) + 64 * a) a ⌝ }

@@ -53,7 +53,7 @@ Zeroed t t′ = t′ ≡ replicate (length t) 0
 abbrev pub Writes : Built → Sizes → Tables → BuiltAnswer → Type 0
 Writes b s T x = Answered b s (T .counts) (T .lines) (T .stmts) (T .args) (T .entries) (T .falls) (T .links) (T .lists) (T .returns) (T .succ) (T .pred) x
 
--- what `build` promises for what it read, q, and tables of these sizes
+-- what `build` promises for what its input means, or its refusal, q, and tables of these sizes
 abbrev pub BuildWrote : Answer → Sizes → Tables → BuiltAnswer → Type 0
 BuildWrote q s T x = Writes (builtOf (capacity s) q) s T x
 

@@ -19,7 +19,7 @@ pub record ListingOf (text : List ℕ) (L : Listing) : Type 0 where
   pub text-is : text ≡ listingText written
   pub cut-is : L ≡ cutListing written
 
--- What was read of an input, q, of which `Means L` says that it gives the listing L: q is that listing exactly where the input means it, it lies within the
+-- What an input means or its refusal, q; `Means L` says that it gives the listing L: q is that listing exactly where the input means it, it lies within the
 -- limits, and an input that means none is refused by a number of the input.
 pub record ReadAs (Means : Listing → Type 0) (q : Answer) : Type 0 where
   pub reads : (L : Listing) → Means L → q ≡ listing L
