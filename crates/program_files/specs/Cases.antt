@@ -46,9 +46,9 @@ right : List Case → Bool
 right [] = true
 right (c ∷ cs) = same (told (readProgram (c .saved))) (bytes (c .meant)) && right cs
 
--- by the points of the reading
-cases : List Case
-cases =
+-- points 1 to 8: the file
+files : List Case
+files =
     -- point 1
     file "64 64 00 00" "(module 0\n)\n"
     -- point 2
@@ -72,8 +72,17 @@ cases =
     ∷ file "01 08 01 08 00" "(refused 33 5)\n"
     -- point 7
     ∷ file "01 08 64 64 64 64 41 00 00 00" "(module 0\n(line 25700\n(plain)\n)\n)\n"
+    ∷ []
+
+files-right : T (right files)
+unfolding listings.opened spacedWords closedForm openForm endForm tierWord markWord slotWord jumpWord onWord blockWord bareWord simpleWord simpleArgs simpleText condWord condText handlerWord branchRows stmtRows lineRows listingRows textOf listingText listed lastNumber indexOf behind counts counted joinGo mapFound digits lineNumber characters withKind name afterComma several ends seek branch ifAction onAction nextAction runAction action passOver mapBody bodyOf sooner soonest foreign lacking offences shallow short withLine stmtsIn judged program linesFrom loaded readProgram hexDigit hexBytes file line10 told right files
+files-right = tt
+
+-- points 9 to 17: what covers a byte
+covered : List Case
+covered =
     -- point 10
-    ∷ line10 "22 3A 22 3A 41" "(module 0\n(line 10\n(plain)\n(plain)\n)\n)\n"
+    line10 "22 3A 22 3A 41" "(module 0\n(line 10\n(plain)\n(plain)\n)\n)\n"
     ∷ line10 "22 3A 41" "(module 0\n(line 10\n(plain)\n)\n)\n"
     -- point 11
     ∷ line10 "41 8F 3A 41" "(module 0\n(line 10\n(plain)\n)\n)\n"
@@ -105,8 +114,17 @@ cases =
     ∷ line10 "83" "(module 0\n(line 10\n(plain)\n)\n)\n"
     ∷ line10 "22" "(module 0\n(line 10\n(plain)\n)\n)\n"
     ∷ line10 "3A 3A 41 3A" "(module 0\n(line 10\n(plain)\n)\n)\n"
+    ∷ []
+
+covered-right : T (right covered)
+unfolding listings.opened spacedWords closedForm openForm endForm tierWord markWord slotWord jumpWord onWord blockWord bareWord simpleWord simpleArgs simpleText condWord condText handlerWord branchRows stmtRows lineRows listingRows textOf listingText listed lastNumber indexOf behind counts counted joinGo mapFound digits lineNumber characters withKind name afterComma several ends seek branch ifAction onAction nextAction runAction action passOver mapBody bodyOf sooner soonest foreign lacking offences shallow short withLine stmtsIn judged program linesFrom loaded readProgram hexDigit hexBytes file line10 told right covered
+covered-right = tt
+
+-- points 18 to 24: statements, numbers, names
+simple : List Case
+simple =
     -- point 18
-    ∷ line10 "99 89 31 30" "(module 0\n(line 10\n(plain)\n)\n)\n"
+    line10 "99 89 31 30" "(module 0\n(line 10\n(plain)\n)\n)\n"
     ∷ line10 "41 8E" "(module 0\n(line 10\n(plain)\n)\n)\n"
     ∷ line10 "88 8B" "(module 0\n(line 10\n(plain)\n)\n)\n"
     -- point 19
@@ -154,8 +172,17 @@ cases =
     ∷ line10 "81 31" "(refused 35 7)\n"
     ∷ line10 "81 A4 54 41 4C" "(refused 35 7)\n"
     ∷ line10 "81 53 43 B0 45" "(module 0\n(line 10\n(for SC static)\n)\n)\n"
+    ∷ []
+
+simple-right : T (right simple)
+unfolding listings.opened spacedWords closedForm openForm endForm tierWord markWord slotWord jumpWord onWord blockWord bareWord simpleWord simpleArgs simpleText condWord condText handlerWord branchRows stmtRows lineRows listingRows textOf listingText listed lastNumber indexOf behind counts counted joinGo mapFound digits lineNumber characters withKind name afterComma several ends seek branch ifAction onAction nextAction runAction action passOver mapBody bodyOf sooner soonest foreign lacking offences shallow short withLine stmtsIn judged program linesFrom loaded readProgram hexDigit hexBytes file line10 told right simple
+simple-right = tt
+
+-- points 25 to 29: NEXT and ON
+lists : List Case
+lists =
     -- point 25
-    ∷ line10 "82" "(module 0\n(line 10\n(next plain *)\n)\n)\n"
+    line10 "82" "(module 0\n(line 10\n(next plain *)\n)\n)\n"
     ∷ line10 "82 31" "(module 0\n(line 10\n(next plain *)\n)\n)\n"
     ∷ line10 "82 2C 41" "(module 0\n(line 10\n(next plain *)\n)\n)\n"
     ∷ line10 "82 2C" "(module 0\n(line 10\n(next plain *)\n)\n)\n"
@@ -185,8 +212,17 @@ cases =
     -- point 29
     ∷ line10 "91 41 89 31 3B 2C" "(module 0\n(line 10\n(ongoto 1)\n)\n)\n"
     ∷ line10 "91 41 89 31 41 2C 32" "(module 0\n(line 10\n(ongoto 1)\n)\n)\n"
+    ∷ []
+
+lists-right : T (right lists)
+unfolding listings.opened spacedWords closedForm openForm endForm tierWord markWord slotWord jumpWord onWord blockWord bareWord simpleWord simpleArgs simpleText condWord condText handlerWord branchRows stmtRows lineRows listingRows textOf listingText listed lastNumber indexOf behind counts counted joinGo mapFound digits lineNumber characters withKind name afterComma several ends seek branch ifAction onAction nextAction runAction action passOver mapBody bodyOf sooner soonest foreign lacking offences shallow short withLine stmtsIn judged program linesFrom loaded readProgram hexDigit hexBytes file line10 told right lists
+lists-right = tt
+
+-- points 30 to 35: IF
+conditions : List Case
+conditions =
     -- point 30
-    ∷ line10 "8B 41 89 31 A7 32" "(module 0\n(line 10\n(if\n(to 1)\n)\n)\n)\n"
+    line10 "8B 41 89 31 A7 32" "(module 0\n(line 10\n(if\n(to 1)\n)\n)\n)\n"
     ∷ line10 "8B 41 CB A7 31" "(module 0\n(line 10\n(if\n(to 1)\n)\n)\n)\n"
     ∷ line10 "8B A7 31" "(module 0\n(line 10\n(if\n(to 1)\n)\n)\n)\n"
     ∷ line10 "8B 22 A7 3A 22 A7 31" "(module 0\n(line 10\n(if\n(to 1)\n)\n)\n)\n"
@@ -225,8 +261,17 @@ cases =
     ∷ line10 "41 A7 31 3A 41" "(module 0\n(line 10\n(plain)\n(plain)\n)\n)\n"
     ∷ line10 "A7 31" "(module 0\n(line 10\n(plain)\n)\n)\n"
     ∷ line10 "8B 41 A7 A7 31" "(module 0\n(line 10\n(if\n(stmts\n(plain)\n)\n)\n)\n)\n"
+    ∷ []
+
+conditions-right : T (right conditions)
+unfolding listings.opened spacedWords closedForm openForm endForm tierWord markWord slotWord jumpWord onWord blockWord bareWord simpleWord simpleArgs simpleText condWord condText handlerWord branchRows stmtRows lineRows listingRows textOf listingText listed lastNumber indexOf behind counts counted joinGo mapFound digits lineNumber characters withKind name afterComma several ends seek branch ifAction onAction nextAction runAction action passOver mapBody bodyOf sooner soonest foreign lacking offences shallow short withLine stmtsIn judged program linesFrom loaded readProgram hexDigit hexBytes file line10 told right conditions
+conditions-right = tt
+
+-- points 36 to 44: order and place
+ordered : List Case
+ordered =
     -- point 36
-    ∷ line10 "41 64" "(refused 34 7)\n"
+    line10 "41 64" "(refused 34 7)\n"
     ∷ line10 "22 64 22 64" "(refused 34 9)\n"
     ∷ line10 "83 64" "(module 0\n(line 10\n(plain)\n)\n)\n"
     ∷ line10 "83 64 3A 64" "(refused 34 9)\n"
@@ -253,6 +298,6 @@ cases =
     ∷ file "01 08 01 08 0A 00 00 01 08 09 00 64 00 00 00" "(refused 34 11)\n"
     ∷ []
 
-computed : T (right cases)
-unfolding listings.opened spacedWords closedForm openForm endForm tierWord markWord slotWord jumpWord onWord blockWord bareWord simpleWord simpleArgs simpleText condWord condText handlerWord branchRows stmtRows lineRows listingRows textOf listingText listed lastNumber indexOf behind counts counted joinGo mapFound digits lineNumber characters withKind name afterComma several ends seek branch ifAction onAction nextAction runAction action passOver mapBody bodyOf sooner soonest foreign lacking offences shallow short withLine stmtsIn judged program linesFrom loaded readProgram hexDigit hexBytes file line10 told right cases
-computed = tt
+ordered-right : T (right ordered)
+unfolding listings.opened spacedWords closedForm openForm endForm tierWord markWord slotWord jumpWord onWord blockWord bareWord simpleWord simpleArgs simpleText condWord condText handlerWord branchRows stmtRows lineRows listingRows textOf listingText listed lastNumber indexOf behind counts counted joinGo mapFound digits lineNumber characters withKind name afterComma several ends seek branch ifAction onAction nextAction runAction action passOver mapBody bodyOf sooner soonest foreign lacking offences shallow short withLine stmtsIn judged program linesFrom loaded readProgram hexDigit hexBytes file line10 told right ordered
+ordered-right = tt
