@@ -5,3 +5,4 @@ pub mod Comparing
 pub mod ComparingLaws
 pub mod ComparingStates
 pub mod GraphChecked
+pub mod Feeding

@@ -12,6 +12,7 @@ ghost use Rattle.comparing.specs.Judging.{start, met};
 ghost use Rattle.comparing.specs.JudgeStates.{readingOf};
 ghost use Rattle.comparing.specs.Comparing.{same, begins, rowsNumber, differing, fedByte, fed, rowsEnded, isStart, placeAt, ruled};
 ghost use Rattle.comparing.specs.ComparingStates.{standingOf, verdictOf};
+ghost use Rattle.comparing.specs.Feeding.{RowsDue, FedTo};
 
 // Of the graph due `at` bytes were met. All that was given is due so far; this row is not the one due; a row was not, and has ended.
 pub enum Comparing {
@@ -95,14 +96,84 @@ fn feed_same(at: usize, judge: Judge, due: &[u8], b: u8) -> Comparing
     differ(at, judge, b)
 }
 
-// One byte more.
-fn feed_byte(s: Comparing, due: &[u8], b: u8) -> Comparing
-    ensures { λ r. ⌜ standingOf r ≡ fedByte (now (due .entry)) (standingOf s) b ⌝ }
+// How far a piece was fed, and what was found till then.
+struct Fed {
+    state: Comparing,
+    next: usize,
+}
+
+// Where the last row ended, behind byte b, the last of i.
+fn row_behind(b: u8, i: usize, m: usize) -> usize
+    ensures { λ r. ⌜ r ≡ pick (eqb b 10) i m ⌝ }
+{
+    if b == 10 {
+        return i;
+    }
+    m
+}
+
+// How many bytes of a piece that begins a row are rows due. Such rows need no judge.
+fn rows_due(at: usize, due: &[u8], piece: &[u8]) -> usize
+    ensures { λ r. ⌜ RowsDue (now (due .entry)) at (now (piece .entry)) r ⌝ }
+{
+    if at >= due.len() {
+        return 0;
+    }
+    let mut m: usize = 0;
+    let mut i: usize = 0;
+    while i < piece.len() {
+        let b = piece[i];
+        if !is_due(due, at + i, b) {
+            return m;
+        }
+        i += 1;
+        m = row_behind(b, i, m);
+    }
+    m
+}
+
+// From byte i on, where all was as due: rows that are due at once, else one byte.
+fn feed_rows(at: usize, judge: Judge, due: &[u8], piece: &[u8], i: usize) -> Fed
+    requires { ⌜ i < length (now piece) ⌝ }
+    ensures { λ r. ⌜ FedTo (now (due .entry)) (same at (readingOf judge)) (now (piece .entry)) i (standingOf (r .state)) (r .next) ⌝ }
+{
+    if !is_start(judge) {
+        return Fed {
+            state: feed_same(at, judge, due, piece[i]),
+            next: i + 1,
+        };
+    }
+    let m = rows_due(at, due, &piece[i..]);
+    if m == 0 {
+        return Fed {
+            state: feed_same(at, judge, due, piece[i]),
+            next: i + 1,
+        };
+    }
+    Fed {
+        state: Comparing::Same {
+            at: at + m,
+            judge: Judge::Start,
+        },
+        next: i + m,
+    }
+}
+
+// From byte i on, at least one byte more; behind a row that was not due nothing counts.
+fn feed_more(s: Comparing, due: &[u8], piece: &[u8], i: usize) -> Fed
+    requires { ⌜ i < length (now piece) ⌝ }
+    ensures { λ r. ⌜ FedTo (now (due .entry)) (standingOf s) (now (piece .entry)) i (standingOf (r .state)) (r .next) ⌝ }
 {
     match s {
-        Comparing::Same { at, judge } => feed_same(at, judge, due, b),
-        Comparing::Differs { at, judge } => differ(at, judge, b),
-        Comparing::Ended { number, at } => Comparing::Ended { number, at },
+        Comparing::Same { at, judge } => feed_rows(at, judge, due, piece, i),
+        Comparing::Differs { at, judge } => Fed {
+            state: differ(at, judge, piece[i]),
+            next: i + 1,
+        },
+        Comparing::Ended { number, at } => Fed {
+            state: Comparing::Ended { number, at },
+            next: piece.len(),
+        },
     }
 }
 
@@ -113,8 +184,9 @@ pub fn feed(s: Comparing, due: &[u8], piece: &[u8]) -> Comparing
     let mut r = s;
     let mut i: usize = 0;
     while i < piece.len() {
-        r = feed_byte(r, due, piece[i]);
-        i += 1;
+        let f = feed_more(r, due, piece, i);
+        r = f.state;
+        i = f.next;
     }
     r
 }

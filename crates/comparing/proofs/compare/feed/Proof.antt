@@ -1,12 +1,13 @@
 -- `feed`: those of the first i bytes. Assumes nothing.
 use borrow.Author.Needs.{needs}
-use Prim.Native.Nat.{ℕ, _-_, _≤_}
-use mathlib.Core.Path.{_≡_, refl, sym, ap, _∙_}
+use Prim.Native.Nat.{_-_, _≤_}
+use mathlib.Core.Path.{_≡_, refl, ap, _∙_}
 use native.Mathlib.Omega.{arith}
-use lib.ListN.{length, take, getD}
+use lib.ListN.{length, take}
 use lib.Seq.{take-all}
-use Rattle.comparing.specs.Comparing.{Standing, fed, fedByte}
-use Rattle.comparing.specs.ComparingStates.{standingOf, fed-more}
+use Rattle.comparing.specs.Comparing.{fed}
+use Rattle.comparing.specs.ComparingStates.{standingOf}
+use Rattle.comparing.specs.Feeding.{fed-further}
 use Rattle.comparing.proofs.compare.feed.Statement.{statement}
 use Rattle.comparing.proofs.compare.feed.Tie as tie
 
@@ -20,28 +21,19 @@ loop-holds : tie.Need-loop-holds Inv-loop μ-loop
 unfolding fed
 loop-holds c = (omega arith, refl)
 
-shared-slice-read-feed-byte : tie.Need-shared-slice-read-feed-byte Inv-loop μ-loop
-shared-slice-read-feed-byte c = search needs
-
-feed-byte-requires : tie.Need-feed-byte-requires Inv-loop μ-loop
-feed-byte-requires c κs = search needs
-
-add-i : tie.Need-add-i Inv-loop μ-loop
-add-i c = omega arith
+feed-more-requires : tie.Need-feed-more-requires Inv-loop μ-loop
+feed-more-requires c κs = search needs
 
 loop-less : tie.Need-loop-less Inv-loop μ-loop
-loop-less c = omega arith
+loop-less c = omega (arith, c .feed-more .ensures .more, c .feed-more .ensures .inside)
 
 loop-again : tie.Need-loop-again Inv-loop μ-loop
 loop-again c =
     let at-start : tie.Start Inv-loop μ-loop = search in
     let at-loop : tie.At-loop Inv-loop μ-loop = search in
-    let at-in : tie.In-loop Inv-loop μ-loop = search in
     let a = at-start .args in
-    let i = at-loop .loop .i in (
-      omega (arith, at-in .loop-test .taken),
-      c .feed-byte .ensures ∙ ap (λ (x : Standing). fedByte (a .due .now) x (getD (a .piece .now) i 0)) (at-loop .loop .inv .1) ∙ fed-more (a .due .now) (standingOf (a .s)) (a .piece .now) i (at-in .loop-test .taken),
-    )
+    let v = at-loop .loop in
+    (c .feed-more .ensures .inside, fed-further (a .due .now) (standingOf (a .s)) (a .piece .now) (v .i) _ _ _ (v .inv .1) (c .feed-more .ensures))
 
 returns : tie.Need-returns Inv-loop μ-loop
 returns c =
@@ -51,14 +43,4 @@ returns c =
 
 pub feed-spec : {M : Type 1} → statement M
 feed-spec =
-    tie.close
-    (tie.spec
-    Inv-loop
-    μ-loop
-    loop-holds
-    shared-slice-read-feed-byte
-    feed-byte-requires
-    add-i
-    loop-less
-    loop-again
-    returns)
+    tie.close (tie.spec Inv-loop μ-loop loop-holds feed-more-requires loop-less loop-again returns)
