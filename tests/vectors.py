@@ -50,8 +50,8 @@ unfolding opened {right} table
 right-table = tt
 """
 STRINGS = {"vector": "Vector", "right": "right", "more": ""}
-BYTES = {"vector": "BytesVector", "right": "rightBytes", "more": ""}
-ASKS = {"vector": "AskVector", "right": "rightAsks", "more": ", word, frame"}
+BYTES = {"vector": "BytesVector", "right": "right_bytes", "more": ""}
+ASKS = {"vector": "AskVector", "right": "right_asks", "more": ", word, frame"}
 
 ROW = re.compile(r'    record \{ text = (.*); writes = "((?:[^"\\]|\\.)*)" \} ∷$')
 

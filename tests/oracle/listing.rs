@@ -131,7 +131,8 @@ struct Rows<'a> {
 
 /// Reads a valid listing; on any other text, the row where it gave up (0 for a limit).
 pub fn read(text: &[u8]) -> Result<Listing, usize> {
-    if text.len() <= 65_536 { read_long(text) } else { Err(0) }
+    let listing = read_long(text)?;
+    if text.len() <= 65_536 { Ok(listing) } else { Err(0) }
 }
 
 /// The same of a text of any length: a program file may mean a longer one.

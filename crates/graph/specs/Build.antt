@@ -50,7 +50,7 @@ abbrev pub InputNumber : ℕ → Type 0
 InputNumber n = (1 ≤ n) × (n ≤ 8)
 
 -- the numbers that a refused build can have, of an input that is refused by the numbers N; "21 line tables too short, 22 node tables too short, 23 either edge table
--- too short"
+-- too short or over 32,768 edges"
 pub data BuildNumber (N : ℕ → Type 0) : ℕ → Type 0 where
   of_input : {n : ℕ} → N n → BuildNumber N n
   of_lines : BuildNumber N 21

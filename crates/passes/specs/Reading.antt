@@ -5,9 +5,11 @@ use Rattle.std.proofs.lemmas.List.{replicate-append-replicate}
 use Rattle.listings.specs.Bytes.{pick}
 use Rattle.listings.specs.Listing.{Listing, total, count}
 use Rattle.listings.specs.Read.{Answer, listing, refusal}
+use Rattle.listings.specs.Cut.{meant}
 use Rattle.listings.specs.Records.{fitted, answer_of, table_of, counts_of, padded, line_recs, arg_row}
 use Rattle.listing_laws.specs.ReadingRecords.{numbers-count, lines_length}
 use Rattle.listing_laws.specs.RecordLaws.{recs_length}
+use Rattle.listing_laws.specs.CutLaws.{meant_within}
 use Rattle.reader.specs.Tables.{joined_length}
 use Rattle.reader.specs.ReadBack.{lines_wide}
 use Rattle.listings.specs.ListingText.{Within}
@@ -71,6 +73,9 @@ pub record Fits (q : Answer) (kl kn : ℕ) (L : Listing) : Type 0 where
 -- whatever was read is a listing within the limits
 abbrev pub ReadWithin : Answer → Type 0
 ReadWithin q = (L : Listing) → q ≡ listing L → Within L
+
+pub text_within : (text : List ℕ) → ReadWithin (meant text)
+text_within text = meant_within text
 
 pub read_fits : (q : Answer) → ReadWithin q → (kl kn : ℕ) (L : Listing) → read_by kl kn q ≡ listing L → Fits q kl kn L
 unfolding answer_of line_entries stmt_entries arg_entries

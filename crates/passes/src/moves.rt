@@ -15,6 +15,7 @@ pub enum FrameMove {
 }
 
 // REPEAT and LOOP open, UNTIL and ENDLOOP close, EXIT and EXITIF join.
+#[tactic(auto, unfolding(crate::specs::Frames::loop_move))]
 pub fn loop_move(word: u16) -> FrameMove
     ensures { move_of result ≡ loop_move word }
 {
@@ -34,6 +35,7 @@ pub fn loop_move(word: u16) -> FrameMove
 }
 
 // What a word does to the DO stack.
+#[tactic(auto, unfolding(crate::specs::Frames::do_move))]
 pub fn do_move(word: u16) -> FrameMove
     ensures { move_of result ≡ do_move word }
 {

@@ -25,7 +25,7 @@ use Rattle.graph.specs.Graph.{Role, call, returns, forgets, steps, no_node, Wire
 use Rattle.graph_laws.specs.GraphLaws.{node_count, entry_ids, continuation-ids, target-ids, lists_ok}
 use Rattle.graph_laws.specs.NodeBounds.{Small, NodeShort, all_get, pred_ids, below_all, entry_numbers, below-le, all_both, node_count_lem, small, nodes-short}
 use Rattle.graph.specs.Print.{spaced, joined, node_row, node_rows, entry_row, back_row, printed, printed_refusal}
-use Rattle.graph.specs.Build.{lengths, edge_count, Capacity, graph, refused, fitted, built_of_answer, build, written}
+use Rattle.graph.specs.Build.{lengths, edge_count, Capacity, graph, refused, fitted, built_of_answer, build, written, limits, flowlist}
 use Rattle.graph_laws.specs.Numbers.{read_refusal}
 use Rattle.passes.specs.LineEntries.{entries-length}
 use Rattle.passes.specs.EdgeTable.{joined_lists, start_of, start_next, start_end, lists_all}
@@ -233,3 +233,7 @@ input_length c false t = answer_length c (meant t) (meant_within t) (λ n p e. l
 
 pub written-length : (c : Capacity) (t : List ℕ) → length (written (build c t)) ≤ 1048576
 written-length c t = input_length c false t
+
+pub flowlist-length : (t : List ℕ) → length (flowlist t) ≤ 1048576
+unfolding flowlist
+flowlist-length t = written-length limits t

@@ -169,7 +169,7 @@ answer_good f = either Good (leb (length f) 65536) (go f) too_long
 
 -- ---- the laws
 
--- what a file means is a listing that BASIC V2 can write (and each of those that fits in a file is meant by one: `saved-meant` in Shapes)
+-- what a file means is a listing that BASIC V2 can write (and each of those whose `saved` has at most 65,536 bytes is meant by that: `saved-meant` in Shapes)
 pub program_shape : (f : List ℕ) (L : Listing) → read_program f ≡ listing L → V2 L
 unfolding Good
 program_shape f L e = subst Good e (answer_good f)

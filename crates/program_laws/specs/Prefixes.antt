@@ -228,7 +228,7 @@ loaded_enough (a ∷ b ∷ l) L e e' h w =
     let m : 2 + lines_part (suc (length l)) l ≡ suc (suc (lines_part (suc (length l)) l)) = omega arith in
     rw m (lines_enough (suc e) (suc e') (suc (length l)) e e' nolines 2 l L h (omega arith) (omega arith))
 
--- what is read is enough: with prefix-early, the shortest prefix that is accepted
+-- what is read is enough: with `prefix_early`, the shortest prefix that is accepted
 pub read_part_enough : (f : List ℕ) (L : Listing) → read_program f ≡ listing L → read_program (take (read_part f) f) ≡ listing L
 unfolding read_program
 read_part_enough f L h =

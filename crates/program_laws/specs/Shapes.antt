@@ -1,4 +1,4 @@
--- Each listing that BASIC V2 can write is meant by some file (document 02, L3), so a reader that refuses too much can't hide. Assumes nothing.
+-- Each listing that BASIC V2 can write, whose own text has at most 65,536 bytes, is meant by some file (document 02, L3), so a reader that refuses too much can't hide. Assumes nothing.
 use Rattle.std.specs.Prelude.{ℕ, zero, suc, ◌+◌, ◌*◌, ◌/◌, ◌%◌, ◌≤◌, ◌<◌, ◌≡◌, refl, List, [], ◌∷◌, ◌++◌, Bool, true, length}
 use Rattle.std.proofs.Common.{sym, ap, ◌∙◌, subst, append_assoc, arith, le-leb, lt-ltb, length-append}
 use Rattle.std.proofs.Math.Option.{Option, none, some}

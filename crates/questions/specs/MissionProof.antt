@@ -6,11 +6,13 @@ use Rattle.std.proofs.Math.Option.{some}
 use Rattle.std.proofs.Math.ListN.{get_elem?, take}
 use Rattle.listings.specs.Listing.{Listing, total, count}
 use Rattle.listings.specs.Read.{Answer}
+use Rattle.listings.specs.Cut.{meant}
 use Rattle.program_files.specs.Inputs.{meaning}
 use Rattle.listings.specs.ListingText.{Within}
 use Rattle.graph.specs.Nodes.{Node, nodes}
 use Rattle.graph.specs.Graph.{wire, return_targets}
 use Rattle.graph.specs.Questions.{Reply, answer, refused}
+use Rattle.graph.specs.Build.{InputNumber}
 use Rattle.graph.specs.Demand3.{Demand3}
 use Rattle.graph_laws.specs.GraphLaws.{node_count}
 use Rattle.graph_laws.specs.RunLaws.{demand3_of}
@@ -22,9 +24,9 @@ use Rattle.passes.specs.GraphHeld.{GraphHeld}
 use Rattle.passes.specs.GraphReads.{reads, returns_are}
 use Rattle.passes.specs.TableForms.{Sizes, Tables, Written}
 use Rattle.wiring.specs.GraphTables.{BuildWrote}
-use Rattle.wiring.specs.Refusals.{Gives, NumberOf, ReadAs, LongEnough}
+use Rattle.wiring.specs.Refusals.{Gives, ListingOf, NumberOf, ReadAs, LongEnough}
 use Rattle.wiring.specs.WrittenLaws.{graph_held, counts_held, nodes-total, held_entries, held_succ, held_pred, held_continuation}
-use Rattle.wiring.specs.BuildAnswers.{input_read, decided, refuses, refused_by, carries_out, graph_of, long_enough, number_of}
+use Rattle.wiring.specs.BuildAnswers.{input_read, text_read, decided, refuses, refused_by, carries_out, graph_of, long_enough, number_of}
 use Rattle.wiring.specs.declared.build.Built.{Built as BuiltAnswer}
 use Rattle.wiring.specs.declared.build.Built.TheVariants as built
 use Rattle.adjacency.specs.ListsAt.{list_reply, part_of}
@@ -106,3 +108,7 @@ mission_of Means Number q ok s T x wrote =
 -- of every text and every saved program
 pub mission : MissionMet
 mission program input = mission_of (Gives program input) (NumberOf program) (meaning program input) (input_read program input)
+
+-- of every text, in a text's own words
+pub text_mission : (text : List ℕ) (s : Sizes) (T : Tables) (x : BuiltAnswer) → BuildWrote (meant text) s T x → Mission (ListingOf text) InputNumber (meant text) s T x
+text_mission text = mission_of (ListingOf text) InputNumber (meant text) (text_read text)

@@ -8,8 +8,9 @@ use borrow.Author.Tests.{le-leb, lt-leb, ltb-true, ltb-false}
 use Rattle.listings.specs.Listing.{Listing, total, count}
 use Rattle.listings.specs.Read.{Answer, listing, refusal, read}
 use Rattle.listings.specs.Cut.{cut_listing, cut_answer, meant}
-use Rattle.listing_laws.specs.CutLaws.{cut_count, cut_total}
+use Rattle.listing_laws.specs.CutLaws.{cut_count, cut_total, meant-written}
 use Rattle.reader.specs.Answer.{listed_of, was_accepted, was_refused}
+use Rattle.reader.specs.Judge.{read_long}
 use Rattle.listings.specs.Records.{line_recs, line_numbers, rec_rows, arg_rows, handler_number, counts_of, padded, fitted, answer_of, table_of}
 use Rattle.listings.specs.ListingText.{Within}
 use Rattle.reader.specs.Filling.{Zeroed, Filled}
@@ -44,6 +45,22 @@ listed_cut text = go (read text)
     go : (a : Answer) → listed_of (cut_answer a) ≡ listed_of a
     go (listing W) = rw (cut_count W.lines, cut_total W.lines)
     go (refusal n p) = refl
+
+-- so what judging a text answers is told of what it means
+module _ (text : List ℕ) (v : Listed) (judged : v ≡ listed_of (read text)) where
+  is : v ≡ listed_of (meant text)
+  is = judged ∙ sym (listed_cut text)
+
+-- a text that is read, or means something, is short enough
+pub short-read : (text : List ℕ) (L : Listing) → read text ≡ listing L → length text ≤ 65536
+short-read text L e = go (ltb 65536 (length text)) refl
+  where
+    go : (b : Bool) → ltb 65536 (length text) ≡ b → length text ≤ 65536
+    go true q = absurd (let p = read_long text (ltb-true 65536 (length text) q) in let z : ◌≡◌ {A = ℕ} 0 1 = cc in omega arith)
+    go false q = ltb-false 65536 (length text) q
+
+pub short : (text : List ℕ) (L : Listing) → meant text ≡ listing L → length text ≤ 65536
+short text L e = let w = meant-written text L e in short-read text w.written w.reads
 
 -- ---- an accepted text, before its tables are tested
 

@@ -1,5 +1,6 @@
 // Reads an input, a listing's text or a saved program: judges the whole of it, then, where the tables can hold it, writes its records.
 ghost use Rattle.std.specs.Prelude.{◌≡◌, length};
+ghost use Rattle.listings.specs.Cut.{meant};
 ghost use Rattle.listings.specs.Records.{handler_number};
 ghost use Rattle.program_files.specs.Inputs.{meaning};
 ghost use Rattle.reader.specs.Answer.{listed_of};
@@ -141,4 +142,17 @@ pub fn read_input(
             stmts: ns,
         } => write_listing(program, input, counts, lines, stmts, args, handlers, nl, ns),
     }
+}
+
+// The same of a text.
+pub fn read_listing(
+    text: &[u8],
+    counts: &mut [u32; 6],
+    lines: &mut [u16],
+    stmts: &mut [u16],
+    args: &mut [u64],
+) -> Listed
+    ensures { RecordsWritten (meant text.now) (length lines.old) (length stmts.old) (length args.old) counts.new lines.new stmts.new args.new result }
+{
+    read_input(false, text, counts, lines, stmts, args)
 }

@@ -62,7 +62,7 @@ pub record LongEnough (s : Sizes) (L : Listing) : Type 0 where
 
 -- "the refusals of document 01", each with its number and place. 27 is not among them: no listing that was read lacks an inner statement.
 pub data Refusal (Means : Listing → Type 0) (q : Answer) (s : Sizes) : (number place : ℕ) → Type 0 where
-  -- 1 to 8, as the definition of the reader has them
+  -- 1 to 8 of a text, and 1, 33 to 35 and 4 to 8 of a saved program, as the definition of what is read has them
   input : (n p : ℕ) → q ≡ refusal n p → Refusal Means q s n p
   -- "Checked after the input": "21 line tables too short, 22 node tables too short, 23 either edge table too short or over 32,768 edges; in this order,
   -- place the count of lines, statements or edges"

@@ -1,4 +1,4 @@
--- `with_line`: test by test, as `with_line` has them. Assumes nothing.
+-- `with_line`: test by test, as the definition has them. Assumes nothing.
 use Rattle.std.proofs.Common.{◌≡◌, Bool, not, ℕ, arith, sym, ◌∙◌}
 use borrow.Author.Tests.{not-true, not-false}
 use Rattle.listings.specs.Listing.{Stmts, size}
