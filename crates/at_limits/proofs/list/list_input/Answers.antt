@@ -3,12 +3,12 @@ use borrow.Author.Rules.{rules}
 use Prim.Native.Nat.{ℕ}
 use mathlib.Core.Path.{sym}
 use lib.ListN.{length-replicate}
-use Rattle.printing.specs.Limits.{listed-limits}
+use Rattle.printing.specs.Limits.{input_limits}
 use Rattle.at_limits.proofs.list.list_input.Goals as goal
 
 pub returns : goal.returns
 returns c =
-    listed-limits c.args.program c.args.input.now _ _ _ _ _ _ _ _ _ _ _ _ _ _ _ _
+    input_limits c.args.program c.args.input.now _ _ _ _ _ _ _ _ _ _ _ _ _ _ _ _
     (sym (length-replicate {0} {A = ℕ} 1024 0))
     (sym (length-replicate {0} {A = ℕ} 49152 0))
     (sym (length-replicate {0} {A = ℕ} 262144 0))
