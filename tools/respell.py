@@ -7,7 +7,8 @@ usage: respell.py ROOT          turns crates/ below ROOT (definitions, proofs, c
 A row of respell.tsv is a scope, the old name and the new one. Scope '-' is everywhere; a row with crates, joined by commas, holds in their definitions and proofs,
 where no dot stands beside the name: of lemmas that had, in snake case already, the name that their function gets, and of one name that stood for two functions.
 A lemma that would have its function's name gets `_lem`, a local name that would meet another gets `_here`.
-Strings keep what they say, and so do functions of src/, names that the proof tool makes, and words of prose outside code spans.
+Strings keep what they say, and so do functions of src/, names that the proof tool makes, and words of prose outside code spans,
+but in comments of code for those with a capital inside, which only a name can be.
 It is run once: where no old name is left it stops, since a row with crates would turn what an earlier run made.
 """
 
