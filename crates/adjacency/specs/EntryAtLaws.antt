@@ -1,5 +1,5 @@
 -- Laws of the question for a line's entry, as code answers it. Assumes nothing.
-use Rattle.std.specs.Prelude.{ℕ, zero, suc, ◌+◌, ◌*◌, ◌-◌, ◌<◌, ◌≤◌, ◌≡◌, List, [], ◌∷◌, length, get_or}
+use Rattle.std.specs.Prelude.{ℕ, zero, suc, ◌+◌, ◌*◌, ◌<◌, ◌≤◌, ◌≡◌, List, [], ◌∷◌, length, get_or}
 use Rattle.std.proofs.Math.Path.{refl, sym, ap}
 use Rattle.std.proofs.Common.{◌∙◌, arith}
 use Rattle.std.proofs.Math.Option.{none, some}
@@ -8,8 +8,8 @@ use borrow.Author.Tests.{lt-ltb, le-ltb, le-leb, lt-leb, eq-eqb, ne_eqb}
 use Rattle.graph.specs.Nodes.{entry_in}
 use Rattle.tables.specs.Columns.{entry_node}
 use Rattle.tables.specs.EntryRows.{entries_in}
-use Rattle.adjacency.specs.EntryAt.{node_in, entry_at, entered_of}
-use Rattle.adjacency.specs.declared.entry.Entered.TheVariants as entered
+use Rattle.graph.specs.Questions.{answer, refused}
+use Rattle.adjacency.specs.EntryAt.{node_in, entry_at}
 
 -- ---- the search, from the front
 
@@ -50,31 +50,24 @@ none_found (suc n) (m ∷ d ∷ t) number (suc i) h f =
 -- ---- as the code answers
 
 module _ (counts entries : List ℕ) (number rows : ℕ) (c : rows ≡ get_or counts 5 0) where
-  pub rows-outside : length entries < rows * 2 → entered.Refused 25 0 ≡ entered_of (entry_at counts entries number)
-  unfolding entry_at entered_of
+  pub rows-outside : length entries < rows * 2 → refused 25 0 ≡ entry_at counts entries number
+  unfolding entry_at
   rows-outside h = rw (lt-leb (get_or counts 5 0 * 2) (length entries) (omega arith)) refl
 
   module _ (b : rows * 2 ≤ length entries) (e : ℕ) (f : entry_node e ≡ entry_in (entries_in rows entries) number) where
-    entry_by : entry_at counts entries number ≡ node_in (get_or counts 1 0) (entry_node e)
+    entry_by : (k : ℕ) → e ≡ k → entry_at counts entries number ≡ node_in (get_or counts 1 0) (entry_node k)
     unfolding entry_at
-    entry_by = rw (le-leb (get_or counts 5 0 * 2) (length entries) (omega arith), ← c, ← f) refl
+    entry_by k z = rw (← z, le-leb (get_or counts 5 0 * 2) (length entries) (omega arith), ← c, ← f) refl
 
-    node_before : (k : ℕ) → (k ≡ 0 → ⊥) → entry_node k ≡ some (k - 1)
-    node_before zero n = absurd (n refl)
-    node_before (suc k) n = ap some (omega arith)
+    pub entered_nowhere : e ≡ 0 → answer none ≡ entry_at counts entries number
+    unfolding node_in
+    entered_nowhere z = sym (entry_by 0 z)
 
-    pub entered_nowhere : e ≡ 0 → entered.Nowhere ≡ entered_of (entry_at counts entries number)
-    unfolding node_in entered_of
-    entered_nowhere z = sym (ap entered_of (entry_by ∙ ap (λ (k : ℕ). node_in (get_or counts 1 0) (entry_node k)) z))
+    module _ (i : ℕ) (z : e ≡ suc i) (nodes : ℕ) (n : nodes ≡ get_or counts 1 0) where
+      pub entry_outside : nodes ≤ i → refused 25 0 ≡ entry_at counts entries number
+      unfolding node_in
+      entry_outside h = rw (entry_by (suc i) z, ← n, le-ltb i nodes h) refl
 
-    module _ (z : e ≡ 0 → ⊥) (nodes : ℕ) (n : nodes ≡ get_or counts 1 0) where
-      entry_some : entry_at counts entries number ≡ node_in nodes (some (e - 1))
-      entry_some = entry_by ∙ ap (node_in (get_or counts 1 0)) (node_before e z) ∙ ap (λ (k : ℕ). node_in k (some (e - 1))) (sym n)
-
-      pub entry_outside : nodes ≤ e - 1 → entered.Refused 25 0 ≡ entered_of (entry_at counts entries number)
-      unfolding node_in entered_of
-      entry_outside h = rw (entry_some, le-ltb (e - 1) nodes h) refl
-
-      pub entered_node : e - 1 < nodes → entered.Node (e - 1) ≡ entered_of (entry_at counts entries number)
-      unfolding node_in entered_of
-      entered_node h = rw (entry_some, lt-ltb (e - 1) nodes h) refl
+      pub entered_node : i < nodes → answer (some i) ≡ entry_at counts entries number
+      unfolding node_in
+      entered_node h = rw (entry_by (suc i) z, ← n, lt-ltb i nodes h) refl

@@ -3,8 +3,6 @@ use Rattle.std.specs.Prelude.{ℕ, ◌+◌, ◌*◌, List, [], ltb, leb, length,
 use Rattle.listings.specs.Bytes.{pick}
 use Rattle.tables.specs.Columns.{succ_start, succ_count, pred_start, pred_count}
 use Rattle.graph.specs.Questions.{Reply, answer, refused}
-use Rattle.adjacency.specs.declared.successors.Asked.{Asked}
-use Rattle.adjacency.specs.declared.successors.Asked.TheVariants.{Part, Refused}
 
 -- "24 node id not below the node count (place: the id). 25 a used count or a record that the call reads points outside its table (place 0)":
 -- size: how many entries the edge table has; start, count: the node's record
@@ -17,11 +15,6 @@ successors_at counts lists size node = list_at counts lists size node (succ_star
 
 unfoldable pub predecessors_at : (counts lists : List ℕ) (size node : ℕ) → Reply (ℕ × ℕ)
 predecessors_at counts lists size node = list_at counts lists size node (pred_start lists node) (pred_count lists node)
-
--- document 01's number and place for each refusal
-unfoldable pub asked_of : Reply (ℕ × ℕ) → Asked
-asked_of (answer d) = Part d.0 d.1
-asked_of (refused n p) = Refused n p
 
 -- that part of the edge table, none where it was refused
 unfoldable pub part_of : Reply (ℕ × ℕ) → List ℕ → List ℕ

@@ -8,8 +8,7 @@ use Rattle.std.proofs.Math.Dec.{leb}
 use Rattle.listings.specs.Bytes.{pick}
 use Rattle.tables.specs.Columns.{succ_start, succ_count, pred_start, pred_count, succ_part, pred_part}
 use Rattle.graph.specs.Questions.{Reply, answer, refused}
-use Rattle.adjacency.specs.ListsAt.{list_at, successors_at, predecessors_at, asked_of, part_of}
-use Rattle.adjacency.specs.declared.successors.Asked.TheVariants.{Part, Refused}
+use Rattle.adjacency.specs.ListsAt.{list_at, successors_at, predecessors_at, part_of}
 
 -- ---- each case of the answer
 
@@ -46,23 +45,19 @@ module _ (counts lists : List ℕ) (size node start count : ℕ) where
 -- ---- as the code answers
 
 module _ (counts lists : List ℕ) (size node start count nodes : ℕ) (n : nodes ≡ get_or counts 1 0) where
-  pub asked_24 : nodes ≤ node → Refused 24 node ≡ asked_of (list_at counts lists size node start count)
-  unfolding asked_of
-  asked_24 h = sym (ap asked_of (no_node counts lists size node start count (omega arith)))
+  pub asked_24 : nodes ≤ node → refused 24 node ≡ list_at counts lists size node start count
+  asked_24 h = sym (no_node counts lists size node start count (omega arith))
 
   module _ (below : node < nodes) where
-    pub asked-count : length lists < nodes * 4 → Refused 25 0 ≡ asked_of (list_at counts lists size node start count)
-    unfolding asked_of
-    asked-count h = sym (ap asked_of (count-outside counts lists size node start count (omega arith) (omega arith)))
+    pub asked-count : length lists < nodes * 4 → refused 25 0 ≡ list_at counts lists size node start count
+    asked-count h = sym (count-outside counts lists size node start count (omega arith) (omega arith))
 
     module _ (rows : nodes * 4 ≤ length lists) (s k : ℕ) (es : s ≡ start) (ek : k ≡ count) where
-      pub asked_record : size < s + k → Refused 25 0 ≡ asked_of (list_at counts lists size node start count)
-      unfolding asked_of
-      asked_record h = sym (ap asked_of (record_outside counts lists size node start count (omega arith) (omega arith) (omega arith)))
+      pub asked_record : size < s + k → refused 25 0 ≡ list_at counts lists size node start count
+      asked_record h = sym (record_outside counts lists size node start count (omega arith) (omega arith) (omega arith))
 
-      pub asked_part : s + k ≤ size → Part s k ≡ asked_of (list_at counts lists size node start count)
-      unfolding asked_of
-      asked_part h = rw (es, ek) (sym (ap asked_of (list_found counts lists size node start count (omega arith) (omega arith) (omega arith))))
+      pub asked_part : s + k ≤ size → answer (s, k) ≡ list_at counts lists size node start count
+      asked_part h = rw (es, ek) (sym (list_found counts lists size node start count (omega arith) (omega arith) (omega arith)))
 
 -- ---- the columns of the two lists
 
@@ -76,25 +71,19 @@ predecessors_columns counts lists size node = refl
 
 -- ---- a part that is answered
 
-part_back : (r : Reply (ℕ × ℕ)) (a n : ℕ) → asked_of r ≡ Part a n → r ≡ answer (a, n)
-unfolding asked_of
-part_back (answer d) a n e = let x : d.0 ≡ a = cc in let y : d.1 ≡ n = cc in rw (x, y) refl
-part_back (refused k p) a n e = let z : ◌≡◌ {A = ℕ} 0 1 = cc in absurd (omega arith)
-
-pub asked-inside : (counts lists : List ℕ) (size node start count a n : ℕ) → asked_of (list_at counts lists size node start count) ≡ Part a n → a + n ≤ size
-asked-inside counts lists size node start count a n e = list_inside counts lists size node start count (a, n) (part_back (list_at counts lists size node start count) a n e)
+pub asked-inside : (counts lists : List ℕ) (size node start count a n : ℕ) → answer (a, n) ≡ list_at counts lists size node start count → a + n ≤ size
+asked-inside counts lists size node start count a n e = list_inside counts lists size node start count (a, n) (sym e)
 
 -- as it is lent, from a start to an end
-pub part_lent : (r : Reply (ℕ × ℕ)) (a n : ℕ) (table : List ℕ) → asked_of r ≡ Part a n → take (a + n - a) (drop a table) ≡ part_of r table
+pub part_lent : (r : Reply (ℕ × ℕ)) (a n : ℕ) (table : List ℕ) → answer (a, n) ≡ r → take (a + n - a) (drop a table) ≡ part_of r table
 unfolding part_of
 part_lent r a n table e =
     let q : a + n - a ≡ n = omega arith in
-    ap (λ (k : ℕ). take k (drop a table)) q ∙ ap (λ (x : Reply (ℕ × ℕ)). part_of x table) (sym (part_back r a n e))
+    ap (λ (k : ℕ). take k (drop a table)) q ∙ ap (λ (x : Reply (ℕ × ℕ)). part_of x table) e
 
-pub refused_empty : (r : Reply (ℕ × ℕ)) (k p : ℕ) (table : List ℕ) → asked_of r ≡ Refused k p → [] ≡ part_of r table
-unfolding asked_of part_of
-refused_empty (answer d) k p table e = let z : ◌≡◌ {A = ℕ} 0 1 = cc in absurd (omega arith)
-refused_empty (refused m q) k p table e = refl
+pub refused_empty : (r : Reply (ℕ × ℕ)) (k p : ℕ) (table : List ℕ) → refused k p ≡ r → [] ≡ part_of r table
+unfolding part_of
+refused_empty r k p table e = ap (λ (x : Reply (ℕ × ℕ)). part_of x table) e
 
 -- ---- the parts that the records of n nodes name
 

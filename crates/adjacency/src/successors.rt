@@ -1,66 +1,58 @@
 // A node's successors and predecessors, read off tables that any caller may have written.
-ghost use Rattle.std.specs.Prelude.{◌≡◌, ◌+◌, ◌*◌, ◌<◌, ◌≤◌, length, get_or};
-ghost use Rattle.adjacency.specs.ListsAt.{list_at, successors_at, predecessors_at, asked_of, part_of};
+ghost use Rattle.std.specs.Prelude.{◌≡◌, ◌+◌, ◌*◌, ◌≤◌, length, get_or};
+ghost use Rattle.tables.specs.Told.{told};
+ghost use Rattle.adjacency.specs.ListsAt.{list_at, successors_at, predecessors_at, part_of};
 
 use layout::columns::LIST_ENTRIES;
+use layout::refusals::{Reason, Refusal};
 use layout::widths::count_of;
 
-// Where a node's list stands in its edge table, or document 01's refusal.
-#[derive(Drop)]
-pub enum Asked {
-    Part { start: usize, len: usize },
-    Refused { number: u8, place: usize },
-}
-
-// A table's entry as an index.
-pub(crate) fn bounded_entry(x: u16) -> usize
-    ensures { (result ≡ x) × (result < 65536) }
-{
-    x as usize
-}
-
-// Of the list whose start stands in this column of the node's record, and whose count stands in the next.
-fn ask_list(counts: &[u32; 6], lists: &[u16], size: usize, node: usize, column: usize) -> Asked
+// Start and length of the list whose start stands in this column of the node's record, and whose length stands in the next.
+fn ask_list(
+    counts: &[u32; 6],
+    lists: &[u16],
+    size: usize,
+    node: usize,
+    column: usize,
+) -> Result<(usize, usize), Refusal>
     requires { column ≤ 2 }
-    ensures { result ≡ asked_of (list_at counts.now lists.now size node (get_or lists.now (node * 4 + column) 0) (get_or lists.now (node * 4 + (column + 1)) 0)) }
+    ensures { told result ≡ list_at counts.now lists.now size node (get_or lists.now (node * 4 + column) 0) (get_or lists.now (node * 4 + (column + 1)) 0) }
 {
     let nodes = count_of(counts[1]);
     if nodes <= node {
-        return Asked::Refused {
-            number: 24,
-            place: node,
-        };
+        return Err(Reason::NoNode.at(node));
     }
     if lists.len() < nodes * LIST_ENTRIES {
-        return Asked::Refused {
-            number: 25,
-            place: 0,
-        };
+        return Err(Reason::Outside.at(0));
     }
-    let start = bounded_entry(lists[node * LIST_ENTRIES + column]);
-    let count = bounded_entry(lists[node * LIST_ENTRIES + (column + 1)]);
+    let start = usize::from(lists[node * LIST_ENTRIES + column]);
+    let count = usize::from(lists[node * LIST_ENTRIES + (column + 1)]);
     if size < start + count {
-        return Asked::Refused {
-            number: 25,
-            place: 0,
-        };
+        return Err(Reason::Outside.at(0));
     }
-    Asked::Part {
-        start: start,
-        len: count,
-    }
+    Ok((start, count))
 }
 
-// Where a node's successors stand in the edge table, or the refusal.
-pub fn ask_successors(counts: &[u32; 6], lists: &[u16], succ: &[u16], node: usize) -> Asked
-    ensures { result ≡ asked_of (successors_at counts.now lists.now (length succ.now) node) }
+// Where a node's successors stand in the edge table, start and length, or the refusal.
+pub fn ask_successors(
+    counts: &[u32; 6],
+    lists: &[u16],
+    succ: &[u16],
+    node: usize,
+) -> Result<(usize, usize), Refusal>
+    ensures { told result ≡ successors_at counts.now lists.now (length succ.now) node }
 {
     ask_list(counts, lists, succ.len(), node, 0)
 }
 
 // The same of its predecessors, whose columns come after.
-pub fn ask_predecessors(counts: &[u32; 6], lists: &[u16], pred: &[u16], node: usize) -> Asked
-    ensures { result ≡ asked_of (predecessors_at counts.now lists.now (length pred.now) node) }
+pub fn ask_predecessors(
+    counts: &[u32; 6],
+    lists: &[u16],
+    pred: &[u16],
+    node: usize,
+) -> Result<(usize, usize), Refusal>
+    ensures { told result ≡ predecessors_at counts.now lists.now (length pred.now) node }
 {
     ask_list(counts, lists, pred.len(), node, 2)
 }
@@ -77,14 +69,8 @@ fn list_part<'a>(
     ensures { result.now ≡ part_of (list_at counts.now lists.now (length table.now) node (get_or lists.now (node * 4 + column) 0) (get_or lists.now (node * 4 + (column + 1)) 0)) table.now }
 {
     match ask_list(counts, lists, table.len(), node, column) {
-        Asked::Part { start, len } => {
-            let end = start + len;
-            &table[start..end]
-        }
-        Asked::Refused {
-            number: _,
-            place: _,
-        } => &table[0..0],
+        Ok((start, len)) => &table[start..start + len],
+        Err(_) => &[],
     }
 }
 

@@ -1,22 +1,22 @@
 -- The rows of answers, by what the tables say, whoever wrote them. Assumes nothing.
-use Rattle.std.specs.Prelude.{ℕ, List, [], ◌∷◌, Bool, true, false, ◌≡◌, refl, length, get_or, eqb}
-use Rattle.std.proofs.Math.Option.{Option, none, some}
-use Rattle.listings.specs.Bytes.{bytes, pick}
+use Rattle.std.specs.Prelude.{ℕ, List, [], ◌∷◌, Bool, true, false, ◌≡◌, refl, length, get_or, Result, Ok, Err}
+use Rattle.std.specs.Prelude as std
+use Rattle.std.proofs.Math.Option.{Option}
+use Rattle.listings.specs.Bytes.{bytes}
 use Rattle.listings.specs.Listing.{Name}
 use Rattle.listings.specs.WordTable.{words}
 use Rattle.graph.specs.Lists.{list}
 use Rattle.graph.specs.Print.{printed_refusal}
-use Rattle.graph.specs.Questions.{Reply, answer}
-use Rattle.adjacency.specs.ListsAt.{successors_at, predecessors_at, asked_of, part_of, list_reply}
-use Rattle.adjacency.specs.EntryAt.{entry_at, entered_of}
-use Rattle.statements.specs.StatementAt.{path_statement, node_statement, stated_of}
+use Rattle.graph.specs.Questions.{Reply}
+use Rattle.adjacency.specs.ListsAt.{successors_at, predecessors_at, part_of, list_reply}
+use Rattle.adjacency.specs.EntryAt.{entry_at, node_of}
+use Rattle.statements.specs.StatementAt.{path_statement, node_statement}
 use Rattle.frame_lists.specs.FrameAt.{frame_at}
-use Rattle.adjacency.specs.declared.successors.Asked.{Asked}
-use Rattle.adjacency.specs.declared.successors.Asked.TheVariants as asked
-use Rattle.adjacency.specs.declared.entry.Entered.{Entered}
-use Rattle.adjacency.specs.declared.entry.Entered.TheVariants as entered
-use Rattle.statements.specs.declared.statement.Stated.{Stated}
-use Rattle.statements.specs.declared.statement.Stated.TheVariants as stated
+use Rattle.layout.specs.declared.refusals.Refusal.{Refusal}
+use Rattle.layout.specs.Refusals.{number_of}
+use Rattle.tables.specs.Told.{told, told_by}
+use Rattle.answers.specs.declared.words.Form.{Form}
+use Rattle.answers.specs.declared.words.Form.TheVariants as form
 use Rattle.answers.specs.Flowask.{Question, of_successors, of_predecessors, of_statement, of_entry, of_path, of_frame, list_row, stmt_row, reply_row}
 
 -- ---- each question
@@ -51,54 +51,70 @@ answer_at c t a e f i u p (of_entry n) = entry_answer c e n
 answer_at c t a e f i u p (of_path j ns) = path_answer c t j ns
 answer_at c t a e f i u p (of_frame h n v flag) = frame_answer c t a f i u h n v flag
 
--- the question of one number, by the number of its opening word, and its answer
-unfoldable pub number_question : (word n : ℕ) → Question
-number_question w n = pick (eqb w 0) (of_successors n) (pick (eqb w 1) (of_predecessors n) (pick (eqb w 2) (of_statement n) (of_entry n)))
+-- the question of one number, by the opening word, and its answer; a path's and a frame's are not asked so
+abbrev pub number_question : Form → ℕ → Question
+number_question form.Successors n = of_successors n
+number_question form.Predecessors n = of_predecessors n
+number_question form.Statement n = of_statement n
+number_question form.Entry n = of_entry n
+number_question form.Path n = of_entry n
+number_question form.Frame n = of_entry n
 
-unfoldable pub number_answer : (counts stmts entries lists succ pred : List ℕ) → (word n : ℕ) → List ℕ
-number_answer c t e i u p w n =
-    pick (eqb w 0) (successors_answer c i u n) (pick (eqb w 1) (predecessors_answer c i p n) (pick (eqb w 2) (statement_answer c t n) (entry_answer c e n)))
+abbrev pub number_answer : (counts stmts entries lists succ pred : List ℕ) → Form → ℕ → List ℕ
+number_answer c t e i u p form.Successors n = successors_answer c i u n
+number_answer c t e i u p form.Predecessors n = predecessors_answer c i p n
+number_answer c t e i u p form.Statement n = statement_answer c t n
+number_answer c t e i u p form.Entry n = entry_answer c e n
+number_answer c t e i u p form.Path n = entry_answer c e n
+number_answer c t e i u p form.Frame n = entry_answer c e n
 
-pub number_answer_lem : (c t a e f i u p : List ℕ) (w n : ℕ) → number_answer c t e i u p w n ≡ answer_at c t a e f i u p (number_question w n)
-unfolding number_answer number_question answer_at
-number_answer_lem c t a e f i u p w n = go (eqb w 0) (eqb w 1) (eqb w 2)
-  where
-    go : (x y z : Bool) → pick x (successors_answer c i u n) (pick y (predecessors_answer c i p n) (pick z (statement_answer c t n) (entry_answer c e n)))
-        ≡ answer_at c t a e f i u p (pick x (of_successors n) (pick y (of_predecessors n) (pick z (of_statement n) (of_entry n))))
-    go true y z = refl
-    go false true z = refl
-    go false false true = refl
-    go false false false = refl
+pub number_answer_lem : (c t a e f i u p : List ℕ) (w : Form) (n : ℕ) → number_answer c t e i u p w n ≡ answer_at c t a e f i u p (number_question w n)
+unfolding answer_at
+number_answer_lem c t a e f i u p form.Successors n = refl
+number_answer_lem c t a e f i u p form.Predecessors n = refl
+number_answer_lem c t a e f i u p form.Statement n = refl
+number_answer_lem c t a e f i u p form.Entry n = refl
+number_answer_lem c t a e f i u p form.Path n = refl
+number_answer_lem c t a e f i u p form.Frame n = refl
+
+-- the entries' are all the others
+pub number_else : (c t e i u p : List ℕ) (w : Form) (n : ℕ) → (w ≡ form.Successors → ⊥) → (w ≡ form.Predecessors → ⊥) → (w ≡ form.Statement → ⊥) → entry_answer c e n ≡ number_answer c t e i u p w n
+number_else c t e i u p form.Successors n x y z = absurd (x refl)
+number_else c t e i u p form.Predecessors n x y z = absurd (y refl)
+number_else c t e i u p form.Statement n x y z = absurd (z refl)
+number_else c t e i u p form.Entry n x y z = refl
+number_else c t e i u p form.Path n x y z = refl
+number_else c t e i u p form.Frame n x y z = refl
 
 -- ---- the rows of the code's answers
 
 -- l: the part of the edge table
-abbrev pub asked_row : List ℕ → List ℕ → Asked → List ℕ
-asked_row w l (asked.Part a n) = list_row w l
-asked_row w l (asked.Refused n p) = printed_refusal n p
+abbrev pub asked_row : List ℕ → List ℕ → Result (ℕ × ℕ) Refusal → List ℕ
+asked_row w l (Ok d) = list_row w l
+asked_row w l (Err r) = printed_refusal (number_of r.reason) r.place
 
-abbrev pub stated_row : Stated → List ℕ
-stated_row (stated.Stmt i k) = stmt_row i (get_or words k [])
-stated_row (stated.Refused n p) = printed_refusal n p
+abbrev pub stated_row : Result (ℕ × ℕ) Refusal → List ℕ
+stated_row (Ok d) = stmt_row d.0 (get_or words d.1 [])
+stated_row (Err r) = printed_refusal (number_of r.reason) r.place
 
-abbrev pub entered_row : Entered → List ℕ
-entered_row (entered.Node i) = list_row (bytes "(entry") (i ∷ [])
-entered_row entered.Nowhere = list_row (bytes "(entry") []
-entered_row (entered.Refused n p) = printed_refusal n p
+abbrev pub entered_row : Result (std.Option ℕ) Refusal → List ℕ
+entered_row (Ok (std.Some i)) = list_row (bytes "(entry") (i ∷ [])
+entered_row (Ok std.None) = list_row (bytes "(entry") []
+entered_row (Err r) = printed_refusal (number_of r.reason) r.place
 
 -- they are those of the replies
-pub asked_row_lem : (w table : List ℕ) (q : Reply (ℕ × ℕ)) → asked_row w (part_of q table) (asked_of q) ≡ reply_row (list_row w) (list_reply q table)
-unfolding asked_of part_of reply_row list_reply
-asked_row_lem w table (answer d) = refl
-asked_row_lem w table (Reply.refused n p) = refl
+pub asked_row_lem : (w table : List ℕ) (q : Reply (ℕ × ℕ)) (a : Result (ℕ × ℕ) Refusal) → told a ≡ q → asked_row w (part_of q table) a ≡ reply_row (list_row w) (list_reply q table)
+unfolding part_of reply_row list_reply
+asked_row_lem w table q (Ok d) e = rw (← e) refl
+asked_row_lem w table q (Err r) e = rw (← e) refl
 
-pub stated_row_lem : (q : Reply (ℕ × ℕ)) → stated_row (stated_of q) ≡ reply_row numbered_row q
-unfolding stated_of reply_row numbered_row
-stated_row_lem (answer d) = refl
-stated_row_lem (Reply.refused n p) = refl
+pub stated_row_lem : (q : Reply (ℕ × ℕ)) (a : Result (ℕ × ℕ) Refusal) → told a ≡ q → stated_row a ≡ reply_row numbered_row q
+unfolding reply_row numbered_row
+stated_row_lem q (Ok d) e = rw (← e) refl
+stated_row_lem q (Err r) e = rw (← e) refl
 
-pub entered_row_lem : (q : Reply (Option ℕ)) → entered_row (entered_of q) ≡ reply_row (λ d. list_row (bytes "(entry") (list d)) q
-unfolding entered_of reply_row list
-entered_row_lem (answer none) = refl
-entered_row_lem (answer (some i)) = refl
-entered_row_lem (Reply.refused n p) = refl
+pub entered_row_lem : (q : Reply (Option ℕ)) (a : Result (std.Option ℕ) Refusal) → told_by node_of a ≡ q → entered_row a ≡ reply_row (λ d. list_row (bytes "(entry") (list d)) q
+unfolding reply_row list
+entered_row_lem q (Ok std.None) e = rw (← e) refl
+entered_row_lem q (Ok (std.Some i)) e = rw (← e) refl
+entered_row_lem q (Err r) e = rw (← e) refl

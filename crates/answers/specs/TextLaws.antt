@@ -13,7 +13,8 @@ use Rattle.listings.specs.Rows.{split, on_first}
 use Rattle.listing_laws.specs.WordText.{same_equal}
 use Rattle.listings.specs.Scan.{index_of, index_le, split-some, rest_all, piece_at, next_last, next_more}
 use Rattle.graph.specs.Print.{printed_refusal}
-use Rattle.formatting.specs.Printing.{Puts, puts_none, puts_both, puts_is}
+use Rattle.formatting.specs.Pages.{Wrote, wrote_none, wrote_both, wrote_is}
+use Rattle.formatting.specs.declared.page.Page.{Page}
 use Rattle.answers.specs.Flowask.{Question, row_answer, ending, answer_rows, parts}
 
 -- ---- a row with the byte 10 that ends it
@@ -174,14 +175,14 @@ module _ (f : Question → List ℕ) where
   rows_next k w [] h e = absurd (not-suc-le-zero h)
   rows_next k w (v ∷ vs) h e = rw e
 
-  -- the rows before p are answered, k of them
-  pub record Answering (text out₀ out : List ℕ) (r k p : ℕ) : Type 0 where
+  -- the rows before `at` are answered, k of them
+  pub record Answering (text : List ℕ) (p q : Page) (k at : ℕ) : Type 0 where
     pub done : List ℕ
-    pub puts : Puts out₀ 0 out r done
-    pub rest : done ++ answer_rows f k (split 10 (drop p text)) ≡ answer_rows f 0 (split 10 text)
+    pub wrote : Wrote p q done
+    pub rest : done ++ answer_rows f k (split 10 (drop at text)) ≡ answer_rows f 0 (split 10 text)
 
-  pub answering_start : (text out : List ℕ) → Answering text out out 0 0 0
-  answering_start text out = record { done = []; puts = puts_none out 0; rest = refl }
+  pub answering_start : (text : List ℕ) (p : Page) → Answering text p p 0 0
+  answering_start text p = record { done = []; wrote = wrote_none p; rest = refl }
 
 ending-none : (k : ℕ) (l : List ℕ) → length l ≡ 0 → ending k (split 10 l) ≡ []
 unfolding ending split
@@ -199,44 +200,42 @@ ending_more k (b ∷ l) h = go (eqb b 10) (split 10 l) (split-some 10 l)
     go false [] q = refl
     go false (w ∷ ws) q = refl
 
-module _ (f : Question → List ℕ) (text out₀ out out' : List ℕ) (r r' k p e : ℕ) (fits : p ≤ length text) (found : e ≡ index_of 10 (take (length text - p) (drop p text)))
-    (g : Answering f text out₀ out r k p) where
+module _ (f : Question → List ℕ) (text : List ℕ) (p q s : Page) (k at e : ℕ) (fits : at ≤ length text) (found : e ≡ index_of 10 (take (length text - at) (drop at text))) (g : Answering f text p q k at) where
   -- with what is put last
-  ends : (l : List ℕ) → answer_rows f k (split 10 (drop p text)) ≡ l → Puts out r out' r' l → Puts out₀ 0 out' r' (answer_rows f 0 (split 10 text))
-  ends l q a = puts_is (ap (λ (z : List ℕ). g.done ++ z) (sym q) ∙ g.rest) (puts_both out₀ out out' 0 r r' g.done l g.puts a)
+  ends : (l : List ℕ) → answer_rows f k (split 10 (drop at text)) ≡ l → Wrote q s l → Wrote p s (answer_rows f 0 (split 10 text))
+  ends l h a = wrote_is (ap (λ (z : List ℕ). g.done ++ z) (sym h) ∙ g.rest) (wrote_both g.wrote a)
 
-  pub answers_cut : p + e ≡ length text → Puts out r out' r' (printed_refusal 2 k) → Puts out₀ 0 out' r' (answer_rows f 0 (split 10 text))
-  answers_cut h a = ends (printed_refusal 2 k) (ap (answer_rows f k) (next_last 10 text p e fits found h) ∙ rows_last f k (piece_at text p e)) a
+  pub answers_cut : at + e ≡ length text → Wrote q s (printed_refusal 2 k) → Wrote p s (answer_rows f 0 (split 10 text))
+  answers_cut h a = ends (printed_refusal 2 k) (ap (answer_rows f k) (next_last 10 text at e fits found h) ∙ rows_last f k (piece_at text at e)) a
 
-  module _ (more : p + e ≡ length text → ⊥) (le : e ≤ length (take (length text - p) (drop p text))) where
-    row_then : split 10 (drop p text) ≡ piece_at text p e ∷ split 10 (drop (p + e + 1) text)
-    row_then = (next_more 10 text p e fits found more le).1
+  module _ (more : at + e ≡ length text → ⊥) (le : e ≤ length (take (length text - at) (drop at text))) where
+    row_then : split 10 (drop at text) ≡ piece_at text at e ∷ split 10 (drop (at + e + 1) text)
+    row_then = (next_more 10 text at e fits found more le).1
 
-    row_in : p + e < length text
-    row_in = (next_more 10 text p e fits found more le).0
+    row_in : at + e < length text
+    row_in = (next_more 10 text at e fits found more le).0
 
-    closes : same (piece_at text p e) (bytes ")") ≡ true → answer_rows f k (split 10 (drop p text)) ≡ ending (suc k) (split 10 (drop (p + e + 1) text))
-    closes s = ap (answer_rows f k) row_then ∙ rows_close f k (piece_at text p e) (split 10 (drop (p + e + 1) text)) (split-some 10 (drop (p + e + 1) text)) s
+    closes : same (piece_at text at e) (bytes ")") ≡ true → answer_rows f k (split 10 (drop at text)) ≡ ending (suc k) (split 10 (drop (at + e + 1) text))
+    closes h = ap (answer_rows f k) row_then ∙ rows_close f k (piece_at text at e) (split 10 (drop (at + e + 1) text)) (split-some 10 (drop (at + e + 1) text)) h
 
-    pub answers_end : same (piece_at text p e) (bytes ")") ≡ true → p + e + 1 ≡ length text → Puts out₀ 0 out r (answer_rows f 0 (split 10 text))
-    answers_end s h =
-        let q = closes s ∙ ending-none (suc k) (drop (p + e + 1) text) (length-drop (p + e + 1) text ∙ omega arith) in
-        puts_is (sym (append-nil g.done) ∙ ap (λ (z : List ℕ). g.done ++ z) (sym q) ∙ g.rest) g.puts
+    pub answers_end : same (piece_at text at e) (bytes ")") ≡ true → at + e + 1 ≡ length text → Wrote p q (answer_rows f 0 (split 10 text))
+    answers_end h z =
+        let d = closes h ∙ ending-none (suc k) (drop (at + e + 1) text) (length-drop (at + e + 1) text ∙ omega arith) in
+        wrote_is (sym (append-nil g.done) ∙ ap (λ (z : List ℕ). g.done ++ z) (sym d) ∙ g.rest) g.wrote
 
-    pub answers_over : same (piece_at text p e) (bytes ")") ≡ true → (p + e + 1 ≡ length text → ⊥) → Puts out r out' r' (printed_refusal 2 (k + 1))
-        → Puts out₀ 0 out' r' (answer_rows f 0 (split 10 text))
-    answers_over s h a =
-        let q = closes s ∙ ending_more (suc k) (drop (p + e + 1) text) (omega (arith, length-drop (p + e + 1) text, row_in)) in
-        ends (printed_refusal 2 (suc k)) q (puts_is (ap (printed_refusal 2) (add-one k)) a)
+    pub answers_over : same (piece_at text at e) (bytes ")") ≡ true → (at + e + 1 ≡ length text → ⊥) → Wrote q s (printed_refusal 2 (k + 1)) → Wrote p s (answer_rows f 0 (split 10 text))
+    answers_over h z a =
+        let d = closes h ∙ ending_more (suc k) (drop (at + e + 1) text) (omega (arith, length-drop (at + e + 1) text, row_in)) in
+        ends (printed_refusal 2 (suc k)) d (wrote_is (ap (printed_refusal 2) (add-one k)) a)
 
-    pub answers_next : same (piece_at text p e) (bytes ")") ≡ false → Puts out r out' r' (row_answer f k (piece_at text p e)) → Answering f text out₀ out' r' (k + 1) (p + e + 1)
-    answers_next s a =
-        let w = piece_at text p e in
-        let vs = split 10 (drop (p + e + 1) text) in
-        let q = ap (answer_rows f k) row_then ∙ rows_next f k w vs (split-some 10 (drop (p + e + 1) text)) s in
+    pub answers_next : same (piece_at text at e) (bytes ")") ≡ false → Wrote q s (row_answer f k (piece_at text at e)) → Answering f text p s (k + 1) (at + e + 1)
+    answers_next h a =
+        let w = piece_at text at e in
+        let vs = split 10 (drop (at + e + 1) text) in
+        let d = ap (answer_rows f k) row_then ∙ rows_next f k w vs (split-some 10 (drop (at + e + 1) text)) h in
         record {
           done = g.done ++ row_answer f k w;
-          puts = puts_both out₀ out out' 0 r r' g.done (row_answer f k w) g.puts a;
+          wrote = wrote_both g.wrote a;
           rest = ap (λ (j : ℕ). (g.done ++ row_answer f k w) ++ answer_rows f j vs) (add-one k) ∙ append_assoc g.done (row_answer f k w) (answer_rows f (suc k) vs)
-              ∙ ap (λ (z : List ℕ). g.done ++ z) (sym q) ∙ g.rest;
+              ∙ ap (λ (z : List ℕ). g.done ++ z) (sym d) ∙ g.rest;
         }

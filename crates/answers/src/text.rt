@@ -2,11 +2,13 @@
 ghost use Rattle.std.specs.Prelude.{◌≡◌, length};
 ghost use Rattle.listings.specs.Rows.{split};
 ghost use Rattle.formatting.specs.Printing.{Puts};
+ghost use Rattle.formatting.specs.Pages.{Wrote};
 ghost use Rattle.answers.specs.Flowask.{answer_rows, parts};
 ghost use Rattle.answers.specs.AnswersAt.{answer_at};
 
 use crate::answers::answer_row;
-use formatting::print_rows::put_refusal;
+use formatting::page::Page;
+use layout::refusals::Reason;
 use tokens::scan::{equal, find};
 
 // "What stands before the first row that is exactly `(questions` is the listing": how many bytes that are, all of them where there is no such row.
@@ -15,7 +17,7 @@ pub fn listing_length(text: &[u8]) -> usize
 {
     let mut at: usize = 0;
     loop {
-        let e = find(&text[at..], 10);
+        let e = find(&text[at..], b'\n');
         let to = at + e;
         if to == text.len() {
             return to;
@@ -28,6 +30,44 @@ pub fn listing_length(text: &[u8]) -> usize
 }
 
 // Rows of questions, as far as the `)` that closes them.
+fn put_rows(
+    page: &mut Page<'_>,
+    text: &[u8],
+    counts: &[u32; 6],
+    stmts: &[u16],
+    args: &[u64],
+    entries: &[u16],
+    falls: &[u16],
+    lists: &[u16],
+    succ: &[u16],
+    pred: &[u16],
+)
+    ensures { Wrote page.old page.new (answer_rows (answer_at counts.now stmts.now args.now entries.now falls.now lists.now succ.now pred.now) 0 (split 10 text.now)) }
+{
+    let mut k: usize = 0;
+    let mut at: usize = 0;
+    loop {
+        let e = find(&text[at..], b'\n');
+        let to = at + e;
+        if to == text.len() {
+            return page.put_refusal(Reason::NotAForm.at(k));
+        }
+        let row = &text[at..to];
+        if equal(row, b")") {
+            if to + 1 == text.len() {
+                return;
+            }
+            return page.put_refusal(Reason::NotAForm.at(k + 1));
+        }
+        answer_row(
+            page, k, row, counts, stmts, args, entries, falls, lists, succ, pred,
+        );
+        k += 1;
+        at = to + 1;
+    }
+}
+
+// The same into a lent part; answers where the next byte would go.
 pub fn answer_rows(
     out: &mut [u8],
     text: &[u8],
@@ -42,36 +82,9 @@ pub fn answer_rows(
 ) -> usize
     ensures { Puts out.old 0 out.new result (answer_rows (answer_at counts.now stmts.now args.now entries.now falls.now lists.now succ.now pred.now) 0 (split 10 text.now)) }
 {
-    let mut r: usize = 0;
-    let mut k: usize = 0;
-    let mut at: usize = 0;
-    loop {
-        let e = find(&text[at..], 10);
-        let to = at + e;
-        if to == text.len() {
-            return put_refusal(out, r, 2, k);
-        }
-        if equal(&text[at..to], b")") {
-            if to + 1 == text.len() {
-                return r;
-            }
-            return put_refusal(out, r, 2, k + 1);
-        }
-        r = answer_row(
-            out,
-            r,
-            k,
-            &text[at..to],
-            counts,
-            stmts,
-            args,
-            entries,
-            falls,
-            lists,
-            succ,
-            pred,
-        );
-        at = to + 1;
-        k += 1;
-    }
+    let mut page = Page::new(out);
+    put_rows(
+        &mut page, text, counts, stmts, args, entries, falls, lists, succ, pred,
+    );
+    page.len()
 }

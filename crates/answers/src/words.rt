@@ -2,188 +2,175 @@
 ghost use Rattle.std.specs.Prelude.{◌≡◌};
 ghost use Rattle.listings.specs.Rows.{lookup};
 ghost use Rattle.answers.specs.Flowask.{question_words};
-ghost use Rattle.answers.specs.QuestionWords.{form_at, FormOpened, RowOpened, FourWords, flag_of, frame_by, FrameRead};
+ghost use Rattle.answers.specs.QuestionWords.{form_by, FormOpened, RowOpened, FourWords, flag_of, frame_by, FrameRead};
 
+use layout::refusals::Reason;
 use tokens::arguments::{are_words, lower};
-use tokens::numbers::{ParsedNumber, number};
+use tokens::numbers::number;
 use tokens::scan::{equal, find};
 
-// The numbers of the opening words of questions.
-pub(crate) const SUCCESSORS: usize = 0;
+// The opening words of questions.
+#[derive(Clone, Copy, Debug, PartialEq, Eq)]
+pub(crate) enum Form {
+    Successors,
+    Predecessors,
+    Statement,
+    Entry,
+    Path,
+    Frame,
+}
 
-pub(crate) const PREDECESSORS: usize = 1;
-
-pub(crate) const STATEMENT: usize = 2;
-
-pub(crate) const ENTRY: usize = 3;
-
-pub(crate) const PATH: usize = 4;
-
-pub(crate) const FRAME: usize = 5;
-
-// No question, or the number of its opening word and where the words after that begin.
-#[derive(Drop)]
-pub(crate) enum Opened {
-    NoQuestion,
-    Words { word: usize, from: usize },
+// The opening word of a question, and where the words after it begin.
+#[derive(Clone, Copy, Debug, PartialEq, Eq)]
+pub(crate) struct Opened {
+    pub(crate) form: Form,
+    pub(crate) from: usize,
 }
 
 // Where the three spaces between four words are.
-#[derive(Drop)]
-pub(crate) enum Four {
-    NotFour,
-    Spaces { a: usize, b: usize, c: usize },
+#[derive(Clone, Copy, Debug, PartialEq, Eq)]
+struct Spaces {
+    a: usize,
+    b: usize,
+    c: usize,
 }
 
-// The words of a frame question, where the name stands from start to end, or document 01's number: 2 or 3.
-#[derive(Drop)]
-pub(crate) enum FrameWords {
-    Refused(u8),
-    Words {
-        header: u16,
-        node: u16,
-        start: usize,
-        end: usize,
-        flag: bool,
-    },
+// The words of a frame question, where the name stands from start to end.
+#[derive(Clone, Copy, Debug, PartialEq, Eq)]
+pub(crate) struct FrameWords {
+    pub(crate) header: u16,
+    pub(crate) node: u16,
+    pub(crate) start: usize,
+    pub(crate) end: usize,
+    pub(crate) flag: bool,
 }
 
-// The number of the opening word that w is, or 6.
-fn question_word(w: &[u8]) -> usize
-    ensures { lookup question_words w.now ≡ form_at result }
+// The opening word that w is. Of a `match` on bytes a proof knows the length alone, so each word is compared.
+fn question_word(w: &[u8]) -> Option<Form>
+    ensures { lookup question_words w.now ≡ form_by result }
 {
     if equal(b"successors", w) {
-        return SUCCESSORS;
+        return Some(Form::Successors);
     }
     if equal(b"predecessors", w) {
-        return PREDECESSORS;
+        return Some(Form::Predecessors);
     }
     if equal(b"statement", w) {
-        return STATEMENT;
+        return Some(Form::Statement);
     }
     if equal(b"entry", w) {
-        return ENTRY;
+        return Some(Form::Entry);
     }
     if equal(b"path", w) {
-        return PATH;
+        return Some(Form::Path);
     }
     if equal(b"frame", w) {
-        return FRAME;
+        return Some(Form::Frame);
     }
-    6
+    None
 }
 
 // What stands between the brackets. Every question has words after its opening one.
-fn open_form(s: &[u8]) -> Opened
+fn open_form(s: &[u8]) -> Option<Opened>
     ensures { FormOpened s.now result }
 {
     if !are_words(s) {
-        return Opened::NoQuestion;
+        return None;
     }
-    let e = find(s, 32);
+    let e = find(s, b' ');
     if e == s.len() {
-        return Opened::NoQuestion;
+        return None;
     }
-    Opened::Words {
-        word: question_word(&s[..e]),
-        from: e + 1,
-    }
+    let form = question_word(&s[..e])?;
+    Some(Opened { form, from: e + 1 })
 }
 
 // The brackets off.
-pub(crate) fn open_row(w: &[u8]) -> Opened
+pub(crate) fn open_row(w: &[u8]) -> Option<Opened>
     ensures { RowOpened w.now result }
 {
     let n = w.len();
-    if n == 0 {
-        return Opened::NoQuestion;
-    }
-    if w[0] != 40 {
-        return Opened::NoQuestion;
+    if n == 0 || w[0] != b'(' {
+        return None;
     }
     let last = n - 1;
-    if w[last] != 41 {
-        return Opened::NoQuestion;
+    if w[last] != b')' {
+        return None;
     }
-    match open_form(&w[1..last]) {
-        Opened::NoQuestion => Opened::NoQuestion,
-        Opened::Words { word, from } => Opened::Words {
-            word,
-            from: from + 1,
-        },
-    }
+    let o = open_form(&w[1..last])?;
+    Some(Opened {
+        form: o.form,
+        from: o.from + 1,
+    })
 }
 
 // Where the spaces stand in a row of four words.
-fn four_words(s: &[u8]) -> Four
+fn four_words(s: &[u8]) -> Option<Spaces>
     ensures { FourWords s.now result }
 {
-    let a = find(s, 32);
+    let a = find(s, b' ');
     if a == s.len() {
-        return Four::NotFour;
+        return None;
     }
     let i = a + 1;
-    let b = i + find(&s[i..], 32);
+    let b = i + find(&s[i..], b' ');
     if b == s.len() {
-        return Four::NotFour;
+        return None;
     }
     let v = b + 1;
-    let c = v + find(&s[v..], 32);
+    let c = v + find(&s[v..], b' ');
     if c == s.len() {
-        return Four::NotFour;
+        return None;
     }
     let f = c + 1;
-    if f + find(&s[f..], 32) != s.len() {
-        return Four::NotFour;
+    if f + find(&s[f..], b' ') != s.len() {
+        return None;
     }
-    Four::Spaces { a, b, c }
+    Some(Spaces { a, b, c })
 }
 
-// 0 or 1, or 2 where it is no flag.
-fn flag_of(w: &[u8]) -> u8
+// 0 or 1.
+fn flag_of(w: &[u8]) -> Option<bool>
     ensures { result ≡ flag_of w.now }
 {
     if equal(b"0", w) {
-        return 0;
+        return Some(false);
     }
     if equal(b"1", w) {
-        return 1;
+        return Some(true);
     }
-    2
+    None
 }
 
 // "within it, the lowest number".
-fn frame_by(h: ParsedNumber, i: ParsedNumber, start: usize, end: usize, flag: u8) -> FrameWords
+fn frame_by(
+    h: Result<u16, Reason>,
+    i: Result<u16, Reason>,
+    start: usize,
+    end: usize,
+    flag: Option<bool>,
+) -> Result<FrameWords, Reason>
     ensures { result ≡ frame_by h i start end flag }
 {
-    if flag == 2 {
-        return FrameWords::Refused(2);
-    }
-    match h {
-        ParsedNumber::Refused(a) => match i {
-            ParsedNumber::Refused(b) => FrameWords::Refused(lower(a, b)),
-            ParsedNumber::Value(_) => FrameWords::Refused(a),
-        },
-        ParsedNumber::Value(x) => match i {
-            ParsedNumber::Refused(b) => FrameWords::Refused(b),
-            ParsedNumber::Value(y) => FrameWords::Words {
-                header: x,
-                node: y,
-                start,
-                end,
-                flag: flag == 1,
-            },
-        },
-    }
+    let flag = flag.ok_or(Reason::NotAForm)?;
+    let node = lower(h, i)?;
+    let header = h?;
+    Ok(FrameWords {
+        header,
+        node,
+        start,
+        end,
+        flag,
+    })
 }
 
 // H N V F
-pub(crate) fn frame_words(s: &[u8]) -> FrameWords
+pub(crate) fn frame_words(s: &[u8]) -> Result<FrameWords, Reason>
     ensures { FrameRead s.now result }
 {
     match four_words(s) {
-        Four::NotFour => FrameWords::Refused(2),
-        Four::Spaces { a, b, c } => {
+        None => Err(Reason::NotAForm),
+        Some(Spaces { a, b, c }) => {
             let i = a + 1;
             let v = b + 1;
             let f = c + 1;

@@ -21,8 +21,8 @@ use Rattle.passes.specs.TableForms.{Sizes, Tables, tables_of, capacity}
 use Rattle.wiring.specs.GraphTables.{BuildWrote, Answered}
 use Rattle.formatting.specs.Printing.{Puts, puts_none, puts_is}
 use Rattle.wiring.specs.BuildAnswers.{text_read, accepted_built, refused_by}
-use Rattle.wiring.specs.declared.build.Built.{Built as BuiltAnswer}
-use Rattle.wiring.specs.declared.build.Built.TheVariants as built
+use Rattle.wiring.specs.BuiltAnswer.{BuiltAnswer}
+use Rattle.wiring.specs.BuiltAnswer as built
 use Rattle.graph.specs.Questions.{Reply, answer, ask_statement, ask_path, found_or, statement_of, node_from}
 use Rattle.questions.specs.Mission.{numbered, Questions}
 use Rattle.questions.specs.MissionProof.{mission}

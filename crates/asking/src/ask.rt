@@ -5,8 +5,8 @@ ghost use Rattle.answers.specs.TextLaws.{CutAt};
 ghost use Rattle.asking.specs.Asked.{QuestionsAnswered, TextAsked};
 
 use answers::text::{answer_rows, listing_length};
-use formatting::print_rows::put_refusal;
-use wiring::build::{Built, build};
+use formatting::page::print_refusal;
+use wiring::build::build;
 
 // The questions behind the first n bytes, if there are any.
 fn answer_questions(
@@ -78,8 +78,8 @@ pub fn ask_text(
         pred,
     );
     match built {
-        Built::Refused { number, place } => put_refusal(out, 0, number as usize, place),
-        Built::Graph => answer_questions(
+        Err(refusal) => print_refusal(out, refusal),
+        Ok(()) => answer_questions(
             out, text, n, counts, stmts, args, entries, falls, lists, succ, pred,
         ),
     }

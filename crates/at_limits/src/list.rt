@@ -1,4 +1,5 @@
 // An input to its graph or refusal, for programs: the tables are lent here, once for all of them.
+ghost use Rattle.wiring.specs.BuiltAnswer.{built_told};
 ghost use Rattle.printing.specs.Limits.{InputWhole, ListedWhole};
 
 use layout::limits::{
@@ -9,7 +10,7 @@ use printing::list::Printed;
 
 // With tables that suffice at all limits, and room for the longest graph.
 pub fn list_input(program: bool, input: &[u8], out: &mut [u8; 1048576]) -> Printed
-    ensures { InputWhole program input.now out.old out.new result.built result.len }
+    ensures { InputWhole program input.now out.old out.new (built_told result.built) result.len }
 {
     let mut counts = [0u32; 6];
     let mut lines = [0u16; MAX_LINES];
@@ -42,7 +43,7 @@ pub fn list_input(program: bool, input: &[u8], out: &mut [u8; 1048576]) -> Print
 
 // The same of a text.
 pub fn list_text(text: &[u8], out: &mut [u8; 1048576]) -> Printed
-    ensures { ListedWhole text.now out.old out.new result.built result.len }
+    ensures { ListedWhole text.now out.old out.new (built_told result.built) result.len }
 {
     list_input(false, text, out)
 }

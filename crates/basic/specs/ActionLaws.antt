@@ -1,5 +1,5 @@
 -- What a statement's first byte and the bytes behind it make of it, case by case. Assumes nothing.
-use Rattle.std.specs.Prelude.{ℕ, ◌<◌, ◌≡◌, refl, List, [], ◌∷◌, map, Bool, true, false, ◌&&◌, ◌||◌, ◌⊎◌, not, eqb, length}
+use Rattle.std.specs.Prelude.{ℕ, ◌<◌, ◌≡◌, refl, List, [], ◌∷◌, map, Bool, true, false, ◌&&◌, ◌||◌, ◌⊎◌, not, eqb, length, Result, Ok, Err}
 use Rattle.std.proofs.Common.{sym, ◌∙◌, ap, arith, inl, inr, eq-eqb}
 use Rattle.std.proofs.lemmas.List.{length-map}
 use Rattle.std.proofs.Math.Bool.{or-true}
@@ -13,14 +13,17 @@ use Rattle.listings.specs.ListingText.{jump_word, on_word, bare_word, simple_wor
 use Rattle.listings.specs.Records.{name_key, slot_key, args_of}
 use Rattle.program_files.specs.Program as definition
 use Rattle.program_files.specs.Program.{Placed, Found, found, lacks, map_found, line_number, name, several, ends, seek, branch, if_action, on_action, next_action, run_action, action, pass_over}
-use Rattle.basic.specs.Numbers.{found_by}
+use Rattle.basic.specs.Found.{found_by}
 use Rattle.basic.specs.Items.{item, items_from, values_in}
 use Rattle.basic.specs.Fuel.{rest_shorter, seek_shorter, several_more, number_shortens}
 use Rattle.basic.specs.ItemLaws.{map-map, map-same, several-map}
-use Rattle.basic.specs.Actions.{Coded, does, jumps, coded, one_in, args_in}
+use Rattle.basic.specs.Actions.{coded, one_in, args_in}
+use Rattle.basic.specs.declared.actions.Action.{Action}
+use Rattle.basic.specs.declared.actions.Action.TheVariants.{Does, Jumps}
 use Rattle.basic.specs.declared.cursors.Cursor.{Cursor}
-use Rattle.basic.specs.declared.numbers.Found as number
-use Rattle.basic.specs.declared.numbers.Found.TheVariants.{Value, Lacks}
+use Rattle.basic.specs.declared.found.Found as read
+use Rattle.basic.specs.declared.found.Lack.{Lack}
+use Rattle.basic.specs.declared.items.Item.TheVariants as item_kind
 
 -- ---- the end of a statement
 
@@ -62,57 +65,57 @@ module _ (x y : ℕ) (l : List Placed) (p b : ℕ) (m : List Placed) (is : l ≡
 
 -- ---- the number of each opening word, and how many arguments stand behind it
 
-coded_goto : (n : ℕ) → coded (definition.does (jump goto n)) ≡ does 7 1
+coded_goto : (n : ℕ) → coded (definition.does (jump goto n)) ≡ Does 7 1
 unfolding coded args_of simple_word jump_word on_word bare_word word_index words opening_words first same bytes
 coded_goto n = refl
 
-coded_gosub : (n : ℕ) → coded (definition.does (jump gosub n)) ≡ does 8 1
+coded_gosub : (n : ℕ) → coded (definition.does (jump gosub n)) ≡ Does 8 1
 unfolding coded args_of simple_word jump_word on_word bare_word word_index words opening_words first same bytes
 coded_gosub n = refl
 
-coded_runto : (n : ℕ) → coded (definition.does (jump runto n)) ≡ does 10 1
+coded_runto : (n : ℕ) → coded (definition.does (jump runto n)) ≡ Does 10 1
 unfolding coded args_of simple_word jump_word on_word bare_word word_index words opening_words first same bytes
 coded_runto n = refl
 
-coded_return : coded (definition.does (bare return)) ≡ does 9 0
+coded_return : coded (definition.does (bare return)) ≡ Does 9 0
 unfolding coded args_of simple_word jump_word on_word bare_word word_index words opening_words first same bytes
 coded_return = refl
 
-coded-run : coded (definition.does (bare run)) ≡ does 10 0
+coded-run : coded (definition.does (bare run)) ≡ Does 10 0
 unfolding coded args_of simple_word jump_word on_word bare_word word_index words opening_words first same bytes
 coded-run = refl
 
-coded_clr : coded (definition.does (bare clr)) ≡ does 24 0
+coded_clr : coded (definition.does (bare clr)) ≡ Does 24 0
 unfolding coded args_of simple_word jump_word on_word bare_word word_index words opening_words first same bytes
 coded_clr = refl
 
-coded_stop : coded (definition.does (bare stop)) ≡ does 25 0
+coded_stop : coded (definition.does (bare stop)) ≡ Does 25 0
 unfolding coded args_of simple_word jump_word on_word bare_word word_index words opening_words first same bytes
 coded_stop = refl
 
-coded_plain : coded (definition.does (bare BareWord.plain)) ≡ does 27 0
+coded_plain : coded (definition.does (bare BareWord.plain)) ≡ Does 27 0
 unfolding coded args_of simple_word jump_word on_word bare_word word_index words opening_words first same bytes
 coded_plain = refl
 
-coded_for : (v : Name) → coded (definition.does (for v static)) ≡ does 13 1
+coded_for : (v : Name) → coded (definition.does (for v static)) ≡ Does 13 1
 unfolding coded args_of simple_word jump_word on_word bare_word word_index words opening_words first same bytes
 coded_for v = refl
 
-coded_ongoto : (ns : List ℕ) → coded (definition.does (on ongoto ns)) ≡ does 11 (length ns)
+coded_ongoto : (ns : List ℕ) → coded (definition.does (on ongoto ns)) ≡ Does 11 (length ns)
 unfolding coded args_of simple_word jump_word on_word bare_word word_index words opening_words first same bytes
 coded_ongoto ns = refl
 
-coded_ongosub : (ns : List ℕ) → coded (definition.does (on ongosub ns)) ≡ does 12 (length ns)
+coded_ongosub : (ns : List ℕ) → coded (definition.does (on ongosub ns)) ≡ Does 12 (length ns)
 unfolding coded args_of simple_word jump_word on_word bare_word word_index words opening_words first same bytes
 coded_ongosub ns = refl
 
-coded_star : coded (definition.does (next Mark.plain (none ∷ []))) ≡ does 14 1
+coded_star : coded (definition.does (next Mark.plain (none ∷ []))) ≡ Does 14 1
 unfolding coded args_of simple_word jump_word on_word bare_word word_index words opening_words first same bytes
 coded_star = refl
 
-coded_names : (vs : List Name) → coded (definition.does (next Mark.plain (map some vs))) ≡ does 14 (length vs)
+coded_names : (vs : List Name) → coded (definition.does (next Mark.plain (map some vs))) ≡ Does 14 (length vs)
 unfolding coded args_of simple_word jump_word on_word bare_word word_index words opening_words first same bytes
-coded_names vs = ap (does 14) (length-map (map some vs) slot_key ∙ length-map vs some)
+coded_names vs = ap (Does 14) (length-map (map some vs) slot_key ∙ length-map vs some)
 
 -- ---- IF
 
@@ -126,7 +129,7 @@ unfolding if_action
 if_found_lem l b r e = ap (λ (x : Found ℕ). elim x [ lacks p ↦ lacks p | found b r ↦ branch b r ]) e
 
 module _ (b : ℕ) (l : List Placed) (p d : ℕ) (m : List Placed) (is : l ≡ (p, d) ∷ m) where
-  pub branch_number_lem : is_digit d ≡ true → map_found coded (branch b l) ≡ map_found jumps (line_number l)
+  pub branch_number_lem : is_digit d ≡ true → map_found coded (branch b l) ≡ map_found Jumps (line_number l)
   unfolding branch coded
   branch_number_lem h = rw (is, h) (map-map coded definition.jumps (line_number ((p, d) ∷ m)))
 
@@ -170,7 +173,7 @@ on_lacks k l p e = ap (λ (x : Found ℕ). elim x [ lacks p ↦ lacks p | found 
 
 -- the numbers behind GOTO or GOSUB
 pub on_found : (l : List Placed) (b : ℕ) (r : List Placed) → seek 137 141 l ≡ found b r
-    → on_action (length l) l ≡ map_found (λ ns. definition.does (on (pick (eqb b 137) ongoto ongosub) ns)) (items_from false r)
+    → on_action (length l) l ≡ map_found (λ ns. definition.does (on (pick (eqb b 137) ongoto ongosub) ns)) (items_from item_kind.Number r)
 unfolding on_action item
 on_found l b r e =
     let h : length r < length l = rest_shorter (length l) e (seek_shorter 137 141 l) in
@@ -178,27 +181,27 @@ on_found l b r e =
     ∙ ap (map_found (λ ns. definition.does (on (pick (eqb b 137) ongoto ongosub) ns))) (several_more line_number number_shortens (length l) (length r) r (omega arith) (omega arith))
 
 -- a statement with a list has as many arguments as there are items
-counted_items : {A : Type 0} (w : ℕ) (o : List A → Simple) → ((vs : List A) → coded (definition.does (o vs)) ≡ does w (length vs))
-    → (x : Found (List A)) → map_found coded (map_found (λ vs. definition.does (o vs)) x) ≡ map_found (λ k. does w k) (map_found length x)
+counted_items : {A : Type 0} (w : ℕ) (o : List A → Simple) → ((vs : List A) → coded (definition.does (o vs)) ≡ Does w (length vs))
+    → (x : Found (List A)) → map_found coded (map_found (λ vs. definition.does (o vs)) x) ≡ map_found (λ k. Does w k) (map_found length x)
 counted_items w o e x =
-    map-map coded (λ vs. definition.does (o vs)) x ∙ map-same (λ vs. coded (definition.does (o vs))) (λ vs. does w (length vs)) e x ∙ sym (map-map (λ k. does w k) length x)
+    map-map coded (λ vs. definition.does (o vs)) x ∙ map-same (λ vs. coded (definition.does (o vs))) (λ vs. Does w (length vs)) e x ∙ sym (map-map (λ k. Does w k) length x)
 
 pub on_goto : (l : List Placed) (b : ℕ) (r : List Placed) → seek 137 141 l ≡ found b r → b ≡ 137
-    → map_found coded (on_action (length l) l) ≡ map_found (λ k. does 11 k) (map_found length (items_from false r))
-on_goto l b r e g = ap (map_found coded) (on_found l b r e) ∙ rw g (counted_items 11 (on ongoto) coded_ongoto (items_from false r))
+    → map_found coded (on_action (length l) l) ≡ map_found (λ k. Does 11 k) (map_found length (items_from item_kind.Number r))
+on_goto l b r e g = ap (map_found coded) (on_found l b r e) ∙ rw g (counted_items 11 (on ongoto) coded_ongoto (items_from item_kind.Number r))
 
 pub on_gosub : (l : List Placed) (b : ℕ) (r : List Placed) → seek 137 141 l ≡ found b r → (b ≡ 137 → ⊥)
-    → map_found coded (on_action (length l) l) ≡ map_found (λ k. does 12 k) (map_found length (items_from false r))
-on_gosub l b r e g = ap (map_found coded) (on_found l b r e) ∙ rw (ne_eqb b 137 g) (counted_items 12 (on ongosub) coded_ongosub (items_from false r))
+    → map_found coded (on_action (length l) l) ≡ map_found (λ k. Does 12 k) (map_found length (items_from item_kind.Number r))
+on_gosub l b r e g = ap (map_found coded) (on_found l b r e) ∙ rw (ne_eqb b 137 g) (counted_items 12 (on ongosub) coded_ongosub (items_from item_kind.Number r))
 
 on_args_any : (f : List ℕ → Simple) → ((ns : List ℕ) → args_of (f ns) ≡ ns) → (x : Found (List ℕ)) → args_in (map_found (λ ns. definition.does (f ns)) x) ≡ values_in x
 unfolding args_in map_found
 on_args_any f e (found ns r) = e ns
 on_args_any f e (lacks p) = refl
 
-pub on_args : (l : List Placed) (b : ℕ) (r : List Placed) → seek 137 141 l ≡ found b r → args_in (on_action (length l) l) ≡ values_in (items_from false r)
+pub on_args : (l : List Placed) (b : ℕ) (r : List Placed) → seek 137 141 l ≡ found b r → args_in (on_action (length l) l) ≡ values_in (items_from item_kind.Number r)
 unfolding args_of
-on_args l b r e = ap args_in (on_found l b r e) ∙ on_args_any (on (pick (eqb b 137) ongoto ongosub)) (λ ns. refl) (items_from false r)
+on_args l b r e = ap args_in (on_found l b r e) ∙ on_args_any (on (pick (eqb b 137) ongoto ongosub)) (λ ns. refl) (items_from item_kind.Number r)
 
 pub on_no_args : (k : ℕ) (l : List Placed) (p : ℕ) → seek 137 141 l ≡ lacks p → args_in (on_action k l) ≡ []
 unfolding args_in
@@ -207,9 +210,9 @@ on_no_args k l p e = ap args_in (on_lacks k l p e)
 -- ---- NEXT
 
 -- keys are those of the names
-keys : (k : ℕ) (l : List Placed) → several (item true) k l ≡ map_found (map name_key) (several name k l)
+keys : (k : ℕ) (l : List Placed) → several (item item_kind.Name) k l ≡ map_found (map name_key) (several name k l)
 unfolding item
-keys k l = several-map name_key name (item true) (λ m. refl) k l
+keys k l = several-map name_key name (item item_kind.Name) (λ m. refl) k l
 
 module _ (l : List Placed) (p b : ℕ) (m : List Placed) (is : l ≡ (p, b) ∷ m) where
   next_is_names : is_capital b ≡ true → (k : ℕ) → next_action k l ≡ map_found (λ vs. definition.does (next Mark.plain (map some vs))) (several name k l)
@@ -220,17 +223,17 @@ module _ (l : List Placed) (p b : ℕ) (m : List Placed) (is : l ≡ (p, b) ∷ 
   unfolding next_action
   next_is_star h k = rw (is, h)
 
-  pub next_names : is_capital b ≡ true → map_found coded (next_action (length l) l) ≡ map_found (λ k. does 14 k) (map_found length (items_from true l))
+  pub next_names : is_capital b ≡ true → map_found coded (next_action (length l) l) ≡ map_found (λ k. Does 14 k) (map_found length (items_from item_kind.Name l))
   next_names h =
       ap (map_found coded) (next_is_names h (length l))
       ∙ counted_items 14 (λ vs. next Mark.plain (map some vs)) coded_names (several name (length l) l)
-      ∙ ap (map_found (λ k. does 14 k)) (map-same length (λ vs. length (map name_key vs)) (λ vs. sym (length-map vs name_key)) (several name (length l) l) ∙ sym (map-map length (map name_key) (several name (length l) l)) ∙ ap (map_found length) (sym (keys (length l) l)))
+      ∙ ap (map_found (λ k. Does 14 k)) (map-same length (λ vs. length (map name_key vs)) (λ vs. sym (length-map vs name_key)) (several name (length l) l) ∙ sym (map-map length (map name_key) (several name (length l) l)) ∙ ap (map_found length) (sym (keys (length l) l)))
 
-  pub next_star : is_capital b ≡ false → (k : ℕ) → map_found coded (next_action k l) ≡ found (does 14 1) l
+  pub next_star : is_capital b ≡ false → (k : ℕ) → map_found coded (next_action k l) ≡ found (Does 14 1) l
   unfolding map_found
-  next_star h k = ap (map_found coded) (next_is_star h k) ∙ ap (λ (z : Coded). found z l) coded_star
+  next_star h k = ap (map_found coded) (next_is_star h k) ∙ ap (λ (z : Action). found z l) coded_star
 
-  pub slots_names : is_capital b ≡ true → args_in (next_action (length l) l) ≡ values_in (items_from true l)
+  pub slots_names : is_capital b ≡ true → args_in (next_action (length l) l) ≡ values_in (items_from item_kind.Name l)
   unfolding args_in args_of slot_key map_found
   slots_names h = ap args_in (next_is_names h (length l)) ∙ go (several name (length l) l) ∙ ap values_in (sym (keys (length l) l))
     where
@@ -249,28 +252,28 @@ module _ (l : List Placed) (p b : ℕ) (m : List Placed) (is : l ≡ (p, b) ∷ 
 -- ---- one number or one name
 
 -- a statement with one number or name has one argument
-coded-one : {A : Type 0} (w : ℕ) (o : A → Simple) (g : A → ℕ) → ((a : A) → coded (definition.does (o a)) ≡ does w 1)
-    → (x : Found A) → map_found coded (map_found (λ a. definition.does (o a)) x) ≡ map_found (λ v. does w 1) (map_found g x)
-coded-one w o g e x = map-map coded (λ a. definition.does (o a)) x ∙ map-same (λ a. coded (definition.does (o a))) (λ a. does w 1) e x ∙ sym (map-map (λ v. does w 1) g x)
+coded-one : {A : Type 0} (w : ℕ) (o : A → Simple) (g : A → ℕ) → ((a : A) → coded (definition.does (o a)) ≡ Does w 1)
+    → (x : Found A) → map_found coded (map_found (λ a. definition.does (o a)) x) ≡ map_found (λ v. Does w 1) (map_found g x)
+coded-one w o g e x = map-map coded (λ a. definition.does (o a)) x ∙ map-same (λ a. coded (definition.does (o a))) (λ a. Does w 1) e x ∙ sym (map-map (λ v. Does w 1) g x)
 
 map-none : (x : Found ℕ) → map_found (λ n. n) x ≡ x
 unfolding map_found
 map-none (found n r) = refl
 map-none (lacks p) = refl
 
-coded_number : (w : ℕ) (o : ℕ → Simple) → ((n : ℕ) → coded (definition.does (o n)) ≡ does w 1) → (x : Found ℕ) → map_found coded (map_found (λ n. definition.does (o n)) x) ≡ map_found (λ v. does w 1) x
-coded_number w o e x = coded-one w o (λ n. n) e x ∙ ap (map_found (λ v. does w 1)) (map-none x)
+coded_number : (w : ℕ) (o : ℕ → Simple) → ((n : ℕ) → coded (definition.does (o n)) ≡ Does w 1) → (x : Found ℕ) → map_found coded (map_found (λ n. definition.does (o n)) x) ≡ map_found (λ v. Does w 1) x
+coded_number w o e x = coded-one w o (λ n. n) e x ∙ ap (map_found (λ v. Does w 1)) (map-none x)
 
 -- of what was found, the argument is the one that the code has
-pub one_args : {A : Type 0} (o : A → Simple) (g : A → ℕ) → ((a : A) → args_of (o a) ≡ g a ∷ []) → (T : Cursor → List Placed) (f : number.Found) (x : Found A)
+pub one_args : {A : Type 0} (o : A → Simple) (g : A → ℕ) → ((a : A) → args_of (o a) ≡ g a ∷ []) → (T : Cursor → List Placed) (f : Result (read.Found ℕ) Lack) (x : Found A)
     → found_by T f ≡ map_found g x → args_in (map_found (λ a. definition.does (o a)) x) ≡ one_in f
 unfolding args_in map_found
-one_args o g e T (Value v n) (found a r) h = let q : v ≡ g a = cc in e a ∙ ap (λ (k : ℕ). k ∷ []) (sym q)
-one_args o g e T (Value v n) (lacks p) h = cc
-one_args o g e T (Lacks p) (found a r) h = cc
-one_args o g e T (Lacks p) (lacks q) h = refl
+one_args o g e T (Ok f) (found a r) h = let q : f.value ≡ g a = cc in e a ∙ ap (λ (k : ℕ). k ∷ []) (sym q)
+one_args o g e T (Ok f) (lacks p) h = cc
+one_args o g e T (Err p) (found a r) h = cc
+one_args o g e T (Err p) (lacks q) h = refl
 
-number_args : (o : ℕ → Simple) → ((n : ℕ) → args_of (o n) ≡ n ∷ []) → (T : Cursor → List Placed) (f : number.Found) (x : Found ℕ)
+number_args : (o : ℕ → Simple) → ((n : ℕ) → args_of (o n) ≡ n ∷ []) → (T : Cursor → List Placed) (f : Result (read.Found ℕ) Lack) (x : Found ℕ)
     → found_by T f ≡ x → args_in (map_found (λ n. definition.does (o n)) x) ≡ one_in f
 number_args o e T f x h = one_args o (λ n. n) e T f x (h ∙ sym (map-none x))
 
@@ -285,14 +288,14 @@ module _ (l : List Placed) (p b : ℕ) (m : List Placed) (is : l ≡ (p, b) ∷ 
   unfolding run_action
   run_is_bare h = rw (is, h)
 
-  pub run_number : is_digit b ≡ true → map_found coded (run_action l) ≡ map_found (λ v. does 10 1) (line_number l)
+  pub run_number : is_digit b ≡ true → map_found coded (run_action l) ≡ map_found (λ v. Does 10 1) (line_number l)
   run_number h = ap (map_found coded) (run_is_number h) ∙ coded_number 10 (jump runto) coded_runto (line_number l)
 
-  pub run-bare : is_digit b ≡ false → map_found coded (run_action l) ≡ found (does 10 0) l
+  pub run-bare : is_digit b ≡ false → map_found coded (run_action l) ≡ found (Does 10 0) l
   unfolding map_found
-  run-bare h = ap (map_found coded) (run_is_bare h) ∙ ap (λ (z : Coded). found z l) coded-run
+  run-bare h = ap (map_found coded) (run_is_bare h) ∙ ap (λ (z : Action). found z l) coded-run
 
-  pub run_args : is_digit b ≡ true → (T : Cursor → List Placed) (f : number.Found) → found_by T f ≡ line_number l → args_in (run_action l) ≡ one_in f
+  pub run_args : is_digit b ≡ true → (T : Cursor → List Placed) (f : Result (read.Found ℕ) Lack) → found_by T f ≡ line_number l → args_in (run_action l) ≡ one_in f
   unfolding args_of
   run_args h T f e = ap args_in (run_is_number h) ∙ number_args (jump runto) (λ n. refl) T f (line_number l) e
 
@@ -303,23 +306,23 @@ module _ (l : List Placed) (p b : ℕ) (m : List Placed) (is : l ≡ (p, b) ∷ 
 -- ---- by the first byte
 
 module _ (k b : ℕ) (l : List Placed) where
-  bare_is : (o : Simple) (w : ℕ) → coded (definition.does o) ≡ does w 0 → action k b l ≡ found (definition.does o) l → map_found coded (action k b l) ≡ found (does w 0) l
+  bare_is : (o : Simple) (w : ℕ) → coded (definition.does o) ≡ Does w 0 → action k b l ≡ found (definition.does o) l → map_found coded (action k b l) ≡ found (Does w 0) l
   unfolding map_found
-  bare_is o w e h = ap (map_found coded) h ∙ ap (λ (z : Coded). found z l) e
+  bare_is o w e h = ap (map_found coded) h ∙ ap (λ (z : Action). found z l) e
 
-  pub action_end : b ≡ 128 → map_found coded (action k b l) ≡ found (does 25 0) l
+  pub action_end : b ≡ 128 → map_found coded (action k b l) ≡ found (Does 25 0) l
   unfolding action
   action_end e = bare_is (bare stop) 25 coded_stop (rw e)
 
-  pub action_stop : b ≡ 144 → map_found coded (action k b l) ≡ found (does 25 0) l
+  pub action_stop : b ≡ 144 → map_found coded (action k b l) ≡ found (Does 25 0) l
   unfolding action
   action_stop e = bare_is (bare stop) 25 coded_stop (rw e)
 
-  pub action_return : b ≡ 142 → map_found coded (action k b l) ≡ found (does 9 0) l
+  pub action_return : b ≡ 142 → map_found coded (action k b l) ≡ found (Does 9 0) l
   unfolding action
   action_return e = bare_is (bare return) 9 coded_return (rw e)
 
-  pub action_clr : b ≡ 156 → map_found coded (action k b l) ≡ found (does 24 0) l
+  pub action_clr : b ≡ 156 → map_found coded (action k b l) ≡ found (Does 24 0) l
   unfolding action
   action_clr e = bare_is (bare clr) 24 coded_clr (rw e)
 
@@ -327,10 +330,10 @@ module _ (k b : ℕ) (l : List Placed) where
   unfolding action
   for_is e = rw e
 
-  pub action_for : b ≡ 129 → map_found coded (action k b l) ≡ map_found (λ v. does 13 1) (map_found name_key (name l))
+  pub action_for : b ≡ 129 → map_found coded (action k b l) ≡ map_found (λ v. Does 13 1) (map_found name_key (name l))
   action_for e = ap (map_found coded) (for_is e) ∙ coded-one 13 (λ v. for v static) name_key coded_for (name l)
 
-  pub args_for : b ≡ 129 → (T : Cursor → List Placed) (f : number.Found) → found_by T f ≡ map_found name_key (name l) → args_in (action k b l) ≡ one_in f
+  pub args_for : b ≡ 129 → (T : Cursor → List Placed) (f : Result (read.Found ℕ) Lack) → found_by T f ≡ map_found name_key (name l) → args_in (action k b l) ≡ one_in f
   unfolding args_of
   args_for e T f h = ap args_in (for_is e) ∙ one_args (λ v. for v static) name_key (λ v. refl) T f (name l) h
 
@@ -342,10 +345,10 @@ module _ (k b : ℕ) (l : List Placed) where
   unfolding action
   goto_is e = rw e
 
-  pub action_goto : b ≡ 137 → map_found coded (action k b l) ≡ map_found (λ v. does 7 1) (line_number l)
+  pub action_goto : b ≡ 137 → map_found coded (action k b l) ≡ map_found (λ v. Does 7 1) (line_number l)
   action_goto e = ap (map_found coded) (goto_is e) ∙ coded_number 7 (jump goto) coded_goto (line_number l)
 
-  pub args_goto : b ≡ 137 → (T : Cursor → List Placed) (f : number.Found) → found_by T f ≡ line_number l → args_in (action k b l) ≡ one_in f
+  pub args_goto : b ≡ 137 → (T : Cursor → List Placed) (f : Result (read.Found ℕ) Lack) → found_by T f ≡ line_number l → args_in (action k b l) ≡ one_in f
   unfolding args_of
   args_goto e T f h = ap args_in (goto_is e) ∙ number_args (jump goto) (λ n. refl) T f (line_number l) h
 
@@ -353,10 +356,10 @@ module _ (k b : ℕ) (l : List Placed) where
   unfolding action
   gosub_is e = rw e
 
-  pub action_gosub : b ≡ 141 → map_found coded (action k b l) ≡ map_found (λ v. does 8 1) (line_number l)
+  pub action_gosub : b ≡ 141 → map_found coded (action k b l) ≡ map_found (λ v. Does 8 1) (line_number l)
   action_gosub e = ap (map_found coded) (gosub_is e) ∙ coded_number 8 (jump gosub) coded_gosub (line_number l)
 
-  pub args_gosub : b ≡ 141 → (T : Cursor → List Placed) (f : number.Found) → found_by T f ≡ line_number l → args_in (action k b l) ≡ one_in f
+  pub args_gosub : b ≡ 141 → (T : Cursor → List Placed) (f : Result (read.Found ℕ) Lack) → found_by T f ≡ line_number l → args_in (action k b l) ≡ one_in f
   unfolding args_of
   args_gosub e T f h = ap args_in (gosub_is e) ∙ number_args (jump gosub) (λ n. refl) T f (line_number l) h
 
@@ -373,7 +376,7 @@ module _ (k b : ℕ) (l : List Placed) where
   action_on e = rw e
 
   pub action_plain : (b ≡ 128 → ⊥) → (b ≡ 144 → ⊥) → (b ≡ 142 → ⊥) → (b ≡ 156 → ⊥) → (b ≡ 129 → ⊥) → (b ≡ 130 → ⊥) → (b ≡ 137 → ⊥) → (b ≡ 141 → ⊥) → (b ≡ 138 → ⊥) → (b ≡ 139 → ⊥) → (b ≡ 145 → ⊥)
-      → map_found coded (action k b l) ≡ found (does 27 0) l
+      → map_found coded (action k b l) ≡ found (Does 27 0) l
   unfolding action
   action_plain a1 a2 a3 a4 a5 a6 a7 a8 a9 a10 a11 =
       bare_is (bare BareWord.plain) 27 coded_plain

@@ -1,16 +1,16 @@
 -- What is asked of a line's statements once they are found. Assumes nothing.
-use Rattle.std.specs.Prelude.{ℕ, ◌≤◌, not}
+use Rattle.std.specs.Prelude.{ℕ, ◌≤◌, not, Result, Ok, Err}
 use Rattle.listings.specs.Listing.{size}
 use Rattle.program_files.specs.Program as definition
 use Rattle.program_files.specs.Program.{shallow, short}
 use Rattle.basic.specs.declared.bodies.Body.{Body}
-use Rattle.basic.specs.declared.bodies.Body.TheVariants.{Bad, Good}
+use Rattle.basic.specs.declared.found.Lack.{Lack}
 
-unfoldable pub summary : definition.Body → Body
-summary (definition.body s) = Good (size s) (not (shallow 0 s)) (not (short s))
-summary (definition.bad p) = Bad p
+unfoldable pub summary : definition.Body → Result Body Lack
+summary (definition.body s) = Ok (record { stmts = size s; deep = not (shallow 0 s); long = not (short s) })
+summary (definition.bad p) = Err (record { place = p })
 
 -- no more statements than n
-abbrev pub AtMost : ℕ → Body → Type 0
-AtMost n (Good m d l) = m ≤ n
-AtMost n (Bad p) = Unit {0}
+abbrev pub AtMost : ℕ → Result Body Lack → Type 0
+AtMost n (Ok b) = b.stmts ≤ n
+AtMost n (Err e) = Unit {0}

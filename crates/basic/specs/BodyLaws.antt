@@ -1,20 +1,20 @@
 -- The statements of a line, one after the other. Assumes nothing.
-use Rattle.std.specs.Prelude.{ℕ, zero, suc, ◌+◌, ◌≤◌, ◌<◌, ◌≡◌, refl, List, [], ◌∷◌, Bool, true, false, ◌&&◌, ◌||◌, not, eqb, leb, length}
+use Rattle.std.specs.Prelude.{ℕ, zero, suc, ◌+◌, ◌≤◌, ◌≡◌, refl, List, [], ◌∷◌, Bool, true, false, ◌&&◌, ◌||◌, not, eqb, leb, ltb, length, Result, Ok, Err}
 use Rattle.std.proofs.Common.{arith, sym, ap, ◌∙◌, add-one}
 use Rattle.std.proofs.Math.ListN.{length-map}
-use borrow.Author.Tests.{ne_eqb, eq-eqb, lt-leb, le-leb}
+use borrow.Author.Tests.{ne_eqb, eq-eqb, leb-true, leb-false, le-ltb, lt-ltb}
 use Rattle.listings.specs.Bytes.{pick}
 use Rattle.listings.specs.Listing.{Simple, jump, on, for, next, block, bare, if, to, stmts, absent, Stmts, ∅, ◌▸◌, branching, size}
 use Rattle.listings.specs.ListingText.{listed}
 use Rattle.listings.specs.Records.{slot_key, args_of}
 use Rattle.program_files.specs.Program as definition
 use Rattle.program_files.specs.Program.{Placed, Cover, behind, counts, counted, join_go, Found, found, lacks, map_found, digits, line_number, characters, with_kind, name, after_comma, several, does, jumps, holds, ends, seek, branch, if_action, on_action, next_action, run_action, action, pass_over, body, bad, map_body, body_of, shallow, short}
-use Rattle.basic.specs.Actions as coding
-use Rattle.basic.specs.Actions.{coded, action_by}
+use Rattle.basic.specs.Actions.{coded}
 use Rattle.basic.specs.Bodies.{summary}
 use Rattle.basic.specs.Fuel.{rest_shorter, action_shorter, action_more, pass_shorter}
+use Rattle.basic.specs.declared.actions.Action.TheVariants as coding
 use Rattle.basic.specs.declared.bodies.Body.{Body}
-use Rattle.basic.specs.declared.bodies.Body.TheVariants.{Bad, Good}
+use Rattle.basic.specs.declared.found.Lack.{Lack}
 
 -- a statement's rest is no longer than what stands behind its first byte
 action-rest : {o : definition.Action} (b : ℕ) (m x : List Placed) → action (length m) b m ≡ found o x → length x ≤ length m
@@ -22,10 +22,13 @@ action-rest b m x e = let h = rest_shorter (suc (length m)) e (action_shorter (l
 
 -- ---- what is asked of the statements, told as they come
 
+abbrev good : ℕ → Bool → Bool → Result Body Lack
+good n m o = Ok (record { stmts = n; deep = m; long = o })
+
 -- behind n statements, in d THENs; m: one stood too deep, o: one listed too much
-unfoldable pub told : (n d : ℕ) (m o : Bool) → definition.Body → Body
-told n d m o (body s) = Good (n + size s) (m || not (shallow d s)) (o || not (short s))
-told n d m o (bad p) = Bad p
+unfoldable pub told : (n d : ℕ) (m o : Bool) → definition.Body → Result Body Lack
+told n d m o (body s) = Ok (record { stmts = n + size s; deep = m || not (shallow d s); long = o || not (short s) })
+told n d m o (bad p) = Err (record { place = p })
 
 pub told-none : (b : definition.Body) → told 0 0 false false b ≡ summary b
 unfolding told summary
@@ -136,13 +139,13 @@ told-holds n d a u b (body s) e =
     let z : n + suc (0 + size s + 0) ≡ n + 1 + size s = omega arith in
     rw (z, right-true, right-true, add-one d, e, ← widen a (leb d 16) (shallow (suc d) s)) refl
 
-pub told-jumps : (n d w : ℕ) (a u b : Bool) → b ≡ (a || not (leb d 16)) → told n d a u (body (branching ∅ if (to w) ∅ absent ∅)) ≡ Good (n + 1) b u
+pub told-jumps : (n d w : ℕ) (a u b : Bool) → b ≡ (a || not (leb d 16)) → told n d a u (body (branching ∅ if (to w) ∅ absent ∅)) ≡ good (n + 1) b u
 unfolding told size shallow short
 told-jumps n d w a u b e =
     let z : n + suc (0 + 0 + 0) ≡ n + 1 = omega arith in
     rw (z, right-true, right-true, right-false, e) refl
 
-pub told-ends : (n d : ℕ) (a u : Bool) → told n d a u (body ∅) ≡ Good n a u
+pub told-ends : (n d : ℕ) (a u : Bool) → told n d a u (body ∅) ≡ good n a u
 unfolding told size shallow short
 told-ends n d a u =
     let z : n + 0 ≡ n = omega arith in
@@ -170,21 +173,21 @@ pub record Does (x : Found definition.Action) (n : ℕ) (l : List Placed) : Type
   pub is : x ≡ found (does stmt) l
   pub count : n ≡ length (args_of stmt)
 
-does_is : (x : Found definition.Action) (w n : ℕ) (l : List Placed) → found (coding.does w n) l ≡ map_found coded x → Does x n l
+does_is : (x : Found definition.Action) (w n : ℕ) (l : List Placed) → found (coding.Does w n) l ≡ map_found coded x → Does x n l
 unfolding map_found coded
 does_is (lacks q) w n l e = absurd cc
 does_is (found (does o) r) w n l e = let z : r ≡ l = cc in record { stmt = o; is = ap (λ (y : List Placed). found (does o) y) z; count = cc }
 does_is (found (jumps m) r) w n l e = absurd cc
 does_is (found holds r) w n l e = absurd cc
 
-jumps_is : (x : Found definition.Action) (n : ℕ) (l : List Placed) → found (coding.jumps n) l ≡ map_found coded x → x ≡ found (jumps n) l
+jumps_is : (x : Found definition.Action) (n : ℕ) (l : List Placed) → found (coding.Jumps n) l ≡ map_found coded x → x ≡ found (jumps n) l
 unfolding map_found coded
 jumps_is (lacks q) n l e = absurd cc
 jumps_is (found (does o) r) n l e = absurd cc
 jumps_is (found (jumps m) r) n l e = let y : m ≡ n = cc in let z : r ≡ l = cc in rw (y, z) refl
 jumps_is (found holds r) n l e = absurd cc
 
-holds_is : (x : Found definition.Action) (l : List Placed) → found coding.holds l ≡ map_found coded x → x ≡ found holds l
+holds_is : (x : Found definition.Action) (l : List Placed) → found coding.Holds l ≡ map_found coded x → x ≡ found holds l
 unfolding map_found coded
 holds_is (lacks q) l e = absurd cc
 holds_is (found (does o) r) l e = absurd cc
@@ -194,7 +197,7 @@ holds_is (found holds r) l e = let z : r ≡ l = cc in rw z refl
 -- ---- the loop
 
 -- what was told so far of the whole w, and what is left of the line
-pub record Reaches (w : Body) (n d : ℕ) (a u : Bool) (l : List Placed) : Type 0 where
+pub record Reaches (w : Result Body Lack) (n d : ℕ) (a u : Bool) (l : List Placed) : Type 0 where
   pub fuel : ℕ
   pub enough : length l ≤ fuel
   pub rest : told n d a u (body_of fuel ∅ l) ≡ w
@@ -202,20 +205,20 @@ pub record Reaches (w : Body) (n d : ℕ) (a u : Bool) (l : List Placed) : Type 
 pub reaches-start : (l : List Placed) → Reaches (summary (body_of (length l) ∅ l)) 0 0 false false l
 reaches-start l = record { fuel = length l; enough = omega arith; rest = told-none (body_of (length l) ∅ l) }
 
-record Behind (w : Body) (n d : ℕ) (a u : Bool) (p b : ℕ) (m : List Placed) : Type 0 where
+record Behind (w : Result Body Lack) (n d : ℕ) (a u : Bool) (p b : ℕ) (m : List Placed) : Type 0 where
   pub fuel : ℕ
   pub enough : length m ≤ fuel
   pub rest : told n d a u (body_of (suc fuel) ∅ ((p, b) ∷ m)) ≡ w
 
-behind_by : (w : Body) (n d : ℕ) (a u : Bool) (p b : ℕ) (m : List Placed) (k : ℕ) → suc (length m) ≤ k → told n d a u (body_of k ∅ ((p, b) ∷ m)) ≡ w → Behind w n d a u p b m
+behind_by : (w : Result Body Lack) (n d : ℕ) (a u : Bool) (p b : ℕ) (m : List Placed) (k : ℕ) → suc (length m) ≤ k → told n d a u (body_of k ∅ ((p, b) ∷ m)) ≡ w → Behind w n d a u p b m
 behind_by w n d a u p b m zero h e = absurd (omega arith)
 behind_by w n d a u p b m (suc k) h e = record { fuel = k; enough = omega arith; rest = e }
 
-module _ {w : Body} {n d : ℕ} {a u : Bool} {l : List Placed} (r : Reaches w n d a u l) (p b : ℕ) (m : List Placed) (e : l ≡ (p, b) ∷ m) where
+module _ {w : Result Body Lack} {n d : ℕ} {a u : Bool} {l : List Placed} (r : Reaches w n d a u l) (p b : ℕ) (m : List Placed) (e : l ≡ (p, b) ∷ m) where
   behind-one : Behind w n d a u p b m
   behind-one = behind_by w n d a u p b m r.fuel (let h = r.enough in omega (arith, ap length e)) (sym (ap (λ (z : List Placed). told n d a u (body_of r.fuel ∅ z)) e) ∙ r.rest)
 
-  pub reaches_end : b ≡ 0 → Good n a u ≡ w
+  pub reaches_end : b ≡ 0 → good n a u ≡ w
   unfolding body_of
   reaches_end h = let q = behind-one in sym (told-ends n d a u) ∙ (rw (eq-eqb b 0 h) at q.rest)
 
@@ -235,12 +238,12 @@ module _ {w : Body} {n d : ℕ} {a u : Bool} {l : List Placed} (r : Reaches w n 
     unfolding body_of
     by_action k h x f P y = rw (ne_eqb b 0 no-end, ne_eqb b 58 no_colon, action_more k (length m) b m h (omega arith), f) at y
 
-    pub reaches_bad : (q : ℕ) → lacks q ≡ map_found coded (action (length m) b m) → Bad q ≡ w
+    pub reaches_bad : (q : ℕ) → lacks q ≡ map_found coded (action (length m) b m) → Err (record { place = q }) ≡ w
     unfolding told
     reaches_bad q h = let z = behind-one in by_action z.fuel z.enough (lacks q) (lacks_is _ q h) (λ (y : definition.Body). told n d a u y ≡ w) z.rest
 
     module _ (a2 : Bool) (deep : a2 ≡ (a || not (leb d 16))) where
-      pub reaches_does : (v c : ℕ) (x : List Placed) (u2 : Bool) → found (coding.does v c) x ≡ map_found coded (action (length m) b m) → u2 ≡ (u || not (leb c 64))
+      pub reaches_does : (v c : ℕ) (x : List Placed) (u2 : Bool) → found (coding.Does v c) x ≡ map_found coded (action (length m) b m) → u2 ≡ (u || not (leb c 64))
           → Reaches w (n + 1) d a2 u2 (pass_over x)
       reaches_does v c x u2 h long =
           let z = behind-one in
@@ -256,13 +259,13 @@ module _ {w : Body} {n d : ℕ} {a u : Bool} {l : List Placed} (r : Reaches w n 
             rest = sym (told_does z.fuel n d a u a2 u2 g.stmt (pass_over x) deep f) ∙ t;
           }
 
-      pub reaches-jumps : (v : ℕ) (x : List Placed) → found (coding.jumps v) x ≡ map_found coded (action (length m) b m) → Good (n + 1) a2 u ≡ w
+      pub reaches-jumps : (v : ℕ) (x : List Placed) → found (coding.Jumps v) x ≡ map_found coded (action (length m) b m) → good (n + 1) a2 u ≡ w
       reaches-jumps v x h =
           let z = behind-one in
           let t = by_action z.fuel z.enough (found (jumps v) x) (jumps_is (action (length m) b m) v x h) (λ (y : definition.Body). told n d a u y ≡ w) z.rest in
           sym (told-jumps n d v a u a2 deep) ∙ t
 
-      pub reaches-holds : (x : List Placed) → found coding.holds x ≡ map_found coded (action (length m) b m) → Reaches w (n + 1) (d + 1) a2 u x
+      pub reaches-holds : (x : List Placed) → found coding.Holds x ≡ map_found coded (action (length m) b m) → Reaches w (n + 1) (d + 1) a2 u x
       reaches-holds x h =
           let z = behind-one in
           let g = holds_is (action (length m) b m) x h in
@@ -272,23 +275,20 @@ module _ {w : Body} {n d : ℕ} {a u : Bool} {l : List Placed} (r : Reaches w n 
           record { fuel = z.fuel; enough = omega arith; rest = sym (told-holds n d a u a2 (body_of z.fuel ∅ x) deep) ∙ t }
 
 -- what is left behind a statement
-pub left_does : (b v c : ℕ) (x m : List Placed) → found (coding.does v c) x ≡ map_found coded (action (length m) b m) → length (pass_over x) ≤ length m
+pub left_does : (b v c : ℕ) (x m : List Placed) → found (coding.Does v c) x ≡ map_found coded (action (length m) b m) → length (pass_over x) ≤ length m
 left_does b v c x m h =
     let g = does_is (action (length m) b m) v c x h in
     let j : length x ≤ length m = action-rest b m x g.is in
     let i = pass_shorter x in
     omega arith
 
-pub left-holds : (b : ℕ) (x m : List Placed) → found coding.holds x ≡ map_found coded (action (length m) b m) → length x ≤ length m
+pub left-holds : (b : ℕ) (x m : List Placed) → found coding.Holds x ≡ map_found coded (action (length m) b m) → length x ≤ length m
 left-holds b x m h = action-rest b m x (holds_is (action (length m) b m) x h)
 
--- a test, and what it leaves of a flag
-pub flagged : (a b : Bool) (n m : ℕ) → m < n → b ≡ true → b ≡ (a || not (leb n m))
-flagged a b n m h e = rw (lt-leb n m h) (e ∙ sym (right-flag a))
+-- a flag, with a test
+pub flagged : (a : Bool) (n m : ℕ) → (a || ltb m n) ≡ (a || not (leb n m))
+flagged a n m = go (leb n m) refl
   where
-    right-flag : (x : Bool) → (x || true) ≡ true
-    right-flag true = refl
-    right-flag false = refl
-
-pub unflagged : (a b : Bool) (n m : ℕ) → n ≤ m → b ≡ a → b ≡ (a || not (leb n m))
-unflagged a b n m h e = rw (le-leb n m h) (e ∙ sym (right-false a))
+    go : (t : Bool) → leb n m ≡ t → (a || ltb m n) ≡ (a || not (leb n m))
+    go true e = rw (e, le-ltb m n (leb-true n m e))
+    go false e = rw (e, lt-ltb m n (leb-false n m e))

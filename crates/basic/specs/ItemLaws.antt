@@ -11,6 +11,8 @@ use Rattle.program_files.specs.Program.{Placed, Found, found, lacks, map_found, 
 use Rattle.basic.specs.Cursors.{ahead, IsNext}
 use Rattle.basic.specs.declared.cursors.Cursor.{Cursor}
 use Rattle.basic.specs.declared.cursors.Token.{Token}
+use Rattle.basic.specs.declared.items.Item.{Item}
+use Rattle.basic.specs.declared.items.Item.TheVariants.{Number, Name}
 use Rattle.basic.specs.Tokens.{next_is}
 use Rattle.basic.specs.Items.{item, items_from, values_in, put_front, Counts}
 use Rattle.basic.specs.Fuel.{rest_shorter, map_shorter, Shortens, number_shortens, name_shortens, several_more}
@@ -53,18 +55,18 @@ several-map {A} {B} g f h e (suc k) l =
 
 -- ---- item by item
 
-pub item_shortens : (b : Bool) → Shortens (item b)
+pub item_shortens : (b : Item) → Shortens (item b)
 unfolding item map_found
-item_shortens true = record { shorter = λ l. map_shorter name_key (length l) (name l) (name_shortens.shorter l); at_end = ap (map_found name_key) name_shortens.at_end }
-item_shortens false = record { shorter = λ l. number_shortens.shorter l; at_end = number_shortens.at_end }
+item_shortens Name = record { shorter = λ l. map_shorter name_key (length l) (name l) (name_shortens.shorter l); at_end = ap (map_found name_key) name_shortens.at_end }
+item_shortens Number = record { shorter = λ l. number_shortens.shorter l; at_end = number_shortens.at_end }
 
-items_step : (b : Bool) (d : Placed) (l : List Placed) (x : Found ℕ) → item b (d ∷ l) ≡ x
+items_step : (b : Item) (d : Placed) (l : List Placed) (x : Found ℕ) → item b (d ∷ l) ≡ x
     → items_from b (d ∷ l) ≡ elim x [ lacks p ↦ lacks p | found a r ↦ after_comma a (several (item b) (length l)) r ]
 unfolding several
 items_step b d l x e = ap (λ (y : Found ℕ). elim y [ lacks p ↦ lacks p | found a r ↦ after_comma a (several (item b) (length l)) r ]) e
 
 -- no list where no item is
-pub items_lacking : (b : Bool) (l : List Placed) (p : ℕ) → item b l ≡ lacks p → items_from b l ≡ lacks p
+pub items_lacking : (b : Item) (l : List Placed) (p : ℕ) → item b l ≡ lacks p → items_from b l ≡ lacks p
 unfolding several
 items_lacking b [] p e =
     let q : ◌≡◌ {A = Found ℕ} (lacks 0) (lacks p) = sym (item_shortens b).at_end ∙ e in
@@ -72,7 +74,7 @@ items_lacking b [] p e =
     ap lacks z
 items_lacking b (d ∷ l) p e = items_step b d l (lacks p) e
 
-module _ (b : Bool) (l : List Placed) (v : ℕ) (r : List Placed) (is : item b l ≡ found v r) (d : Placed) (m : List Placed) (rest : r ≡ d ∷ m) where
+module _ (b : Item) (l : List Placed) (v : ℕ) (r : List Placed) (is : item b l ≡ found v r) (d : Placed) (m : List Placed) (rest : r ≡ d ∷ m) where
   -- the last
   pub items_last : (d.1 ≡ 44 → ⊥) → items_from b l ≡ found (v ∷ []) r
   unfolding after_comma
@@ -159,6 +161,14 @@ module _ (vs old part : List ℕ) (i : ℕ) (written : part ≡ put_front (take 
   pub written-all : i ≡ length vs → part ≡ put_front vs old
   written-all e = written ∙ ap (λ (n : ℕ). put_front (take n vs) old) e ∙ ap (λ (l : List ℕ). put_front l old) (take-length vs)
 
+-- all that it has room for
+pub put_room : (vs t : List ℕ) (i : ℕ) → length t ≤ i → put_front (take i vs) t ≡ put_front vs t
+unfolding put_front
+put_room vs [] i h = put_nowhere (take i vs) ∙ sym (put_nowhere vs)
+put_room vs (x ∷ t) zero h = absurd (omega arith)
+put_room [] (x ∷ t) (suc i) h = refl
+put_room (v ∷ vs) (x ∷ t) (suc i) h = ap (λ (l : List ℕ). v ∷ l) (put_room vs t i (omega arith))
+
 -- one value
 pub put_one_front : (v : ℕ) (t : List ℕ) → 0 < length t → set t 0 v ≡ put_front (v ∷ []) t
 put_one_front v t h = ap (λ (l : List ℕ). set l 0 v) (sym (put_none t)) ∙ put_next (v ∷ []) t 0 (omega arith) h
@@ -207,7 +217,7 @@ module _ (vs : List ℕ) (i : ℕ) (inside : i < length vs) (x : Found (List ℕ
   listed_more (lacks p) e = absurd (rw e at h)
 
 -- one item of those, behind which t stands: it is the next of vs, and those that follow it are listed behind t
-pub step_next : (vs : List ℕ) (i : ℕ) → i < length vs → (b : Bool) (T : Cursor → List Placed) (c : Cursor) (v : ℕ) (n : Cursor) → item b (T c) ≡ found v (T n)
+pub step_next : (vs : List ℕ) (i : ℕ) → i < length vs → (b : Item) (T : Cursor → List Placed) (c : Cursor) (v : ℕ) (n : Cursor) → item b (T c) ≡ found v (T n)
     → (t : Token) → IsNext T n t → IsListed (drop i vs) (items_from b (T c))
     → (v ≡ get_or vs i 0) × (i + 1 < length vs → IsListed (drop (i + 1) vs) (items_from b (T t.next)))
 step_next vs i inside b T c v n is t next h = go (eqb t.byte 44) refl

@@ -1,5 +1,6 @@
 pub mod Covers
 pub mod Cursors
+pub mod Found
 pub mod Numbers
 pub mod Names
 pub mod Items

@@ -1,23 +1,26 @@
 -- A line behind others: what its numbers, its statements and its offences decide. Assumes nothing.
-use Rattle.std.specs.Prelude.{ℕ, suc, ◌+◌, ◌*◌, ◌-◌, ◌≤◌, ◌<◌, ◌≡◌, refl, List, [], ◌∷◌, ◌++◌, Bool, true, false, ◌&&◌, ◌||◌, eqb, ltb, leb, length, get_or, take, drop}
+use Rattle.std.specs.Prelude.{ℕ, suc, ◌+◌, ◌*◌, ◌-◌, ◌≤◌, ◌<◌, ◌≡◌, refl, List, [], ◌∷◌, ◌++◌, Bool, true, false, ◌&&◌, ◌||◌, eqb, ltb, leb, length, get_or, take, drop, Some, None, Result, Ok, Err}
+use Rattle.std.specs.Prelude as std
 use Rattle.std.proofs.Common.{arith, sym, ap, ◌∙◌, subst, add-one, drop-cons, drop-drop}
 use Rattle.std.proofs.Math.Option.{Option, none, some}
-use borrow.Author.Tests.{lt-ltb, le-ltb, le-leb, lt-leb, eq-eqb, ne_eqb, eqb-true}
+use borrow.Author.Tests.{lt-ltb, le-ltb, le-leb, lt-leb, eq-eqb, eqb-true}
 use Rattle.listings.specs.Bytes.{pick}
 use Rattle.listings.specs.Listing.{Stmts, ∅, Lines, line, total, count, size}
 use Rattle.listings.specs.ListingText.{last_number}
 use Rattle.listings.specs.Read.{Outcome, Answer, check, ascends, taken, refused, refusal}
 use Rattle.listings.specs.Scan.{index_of, rest_all}
 use Rattle.program_files.specs.Program.{Offence, Body, body, bad, join_go, body_of, shallow, short, lacking, sooner, soonest, offences, with_line, stmts_in, judged, lines_from}
-use Rattle.basic.specs.Lines.{after_number, word_at, bytes_at, stmts_at, zero_at, offence_of, IsLeast, WithTold, Kept, LineTold}
+use Rattle.basic.specs.Lines.{after_number, word_at, bytes_at, stmts_at, zero_at, offence_of, offence_in, IsLeast, WithTold, Kept, LineTold}
 use Rattle.basic.specs.Bodies.{summary}
 use Rattle.basic.specs.Fuel.{body_more}
 use Rattle.basic.specs.Cursors.{join-length}
 use Rattle.basic.specs.declared.bodies.Body as judged_body
-use Rattle.basic.specs.declared.lines.Offence as offence
-use Rattle.basic.specs.declared.lines.Judgement.{Judgement}
+use Rattle.basic.specs.declared.found.Lack.{Lack}
+use Rattle.basic.specs.declared.lines.Taken.{Taken}
 use Rattle.basic.specs.declared.lines.Counted.{Counted}
-use Rattle.basic.specs.declared.lines.Judgement.TheVariants.{Refused, Taken}
+use Rattle.layout.specs.Refusals.{number_of, refusal_at}
+use Rattle.layout.specs.declared.refusals.Reason.TheVariants as reason
+use Rattle.layout.specs.declared.refusals.Refusal.{Refusal}
 
 -- ---- behind other lines
 
@@ -32,12 +35,12 @@ ascends_yes none n h = refl
 ascends_yes (some m) n h = lt-ltb m n (omega arith)
 
 module _ (s : Counted) (n : ℕ) (st : Stmts) where
-  pub told_4 : n < s.last → WithTold s n st (Refused 4 s.lines)
+  pub told_4 : n < s.last → WithTold s n st (Err (refusal_at reason.LineOrder s.lines))
   unfolding with_line check
   told_4 h ls a = let e = a.last in (rw (ascends-not (last_number ls) n (omega arith)) refl, a.lines)
 
   module _ (up : s.last ≤ n) where
-    pub told_5 : 1024 ≤ s.lines → WithTold s n st (Refused 5 s.lines)
+    pub told_5 : 1024 ≤ s.lines → WithTold s n st (Err (refusal_at reason.TooManyLines s.lines))
     unfolding with_line check
     told_5 h ls a =
         let e = a.last in
@@ -45,7 +48,7 @@ module _ (s : Counted) (n : ℕ) (st : Stmts) where
         (rw (ascends_yes (last_number ls) n (omega arith), le-ltb (count ls) 1024 (omega arith)) refl, f)
 
     module _ (few : s.lines < 1024) where
-      pub told_6 : 4096 < s.stmts + size st → WithTold s n st (Refused 6 s.lines)
+      pub told_6 : 4096 < s.stmts + size st → WithTold s n st (Err (refusal_at reason.TooManyStatements s.lines))
       unfolding with_line check
       told_6 h ls a =
           let e = a.last in
@@ -54,7 +57,7 @@ module _ (s : Counted) (n : ℕ) (st : Stmts) where
           (rw (ascends_yes (last_number ls) n (omega arith), lt-ltb (count ls) 1024 (omega arith), lt-leb (total ls + size st) 4096 (omega arith)) refl, f)
 
       module _ (little : s.stmts + size st ≤ 4096) where
-        pub told_7 : shallow 0 st ≡ false → WithTold s n st (Refused 7 s.lines)
+        pub told_7 : shallow 0 st ≡ false → WithTold s n st (Err (refusal_at reason.TooDeep s.lines))
         unfolding with_line check
         told_7 h ls a =
             let e = a.last in
@@ -63,7 +66,7 @@ module _ (s : Counted) (n : ℕ) (st : Stmts) where
             (rw (ascends_yes (last_number ls) n (omega arith), lt-ltb (count ls) 1024 (omega arith), le-leb (total ls + size st) 4096 (omega arith), h) refl, f)
 
         module _ (flat : shallow 0 st ≡ true) where
-          pub told_8 : short st ≡ false → WithTold s n st (Refused 8 s.lines)
+          pub told_8 : short st ≡ false → WithTold s n st (Err (refusal_at reason.TooWide s.lines))
           unfolding with_line check
           told_8 h ls a =
               let e = a.last in
@@ -71,7 +74,7 @@ module _ (s : Counted) (n : ℕ) (st : Stmts) where
               let g = a.stmts in
               (rw (ascends_yes (last_number ls) n (omega arith), lt-ltb (count ls) 1024 (omega arith), le-leb (total ls + size st) 4096 (omega arith), flat, h) refl, f)
 
-          pub told-taken : (next : ℕ) → short st ≡ true → WithTold s n st (Taken (record { last = n + 1; lines = s.lines + 1; stmts = s.stmts + size st }) next)
+          pub told-taken : (next : ℕ) → short st ≡ true → WithTold s n st (Ok (record { counted = record { last = n + 1; lines = s.lines + 1; stmts = s.stmts + size st }; next = next }))
           unfolding with_line check last_number count total
           told-taken next h ls a =
               let e = a.last in
@@ -198,41 +201,44 @@ clean_good f p n b e =
 -- ---- the code's answer for a line
 
 -- the statements' fuel: the bytes that count, or those with GO and TO joined
-pub stmts_told : (f : List ℕ) (p : ℕ) (d : judged_body.Body) → d ≡ summary (body_of (length (join_go (bytes_at f p))) ∅ (join_go (bytes_at f p))) → d ≡ summary (stmts_at f p)
+pub stmts_told : (f : List ℕ) (p : ℕ) (d : Result judged_body.Body Lack) → d ≡ summary (body_of (length (join_go (bytes_at f p))) ∅ (join_go (bytes_at f p))) → d ≡ summary (stmts_at f p)
 stmts_told f p d h =
     let l = join_go (bytes_at f p) in
     h ∙ ap summary (body_more (length l) (length (bytes_at f p)) ∅ l (omega arith) (join-length (bytes_at f p)))
 
-module _ (f : List ℕ) (p n : ℕ) (inside : p + 3 < length f) (link : word_at f p ≡ 0 → ⊥) (number : n ≡ word_at f (p + 2)) (d : judged_body.Body) (told : d ≡ summary (stmts_at f p))
-    (o : offence.Offence) (decides : IsLeast f p n d o) where
-  is_least : offence_of o ≡ least f p
+module _ (f : List ℕ) (p n : ℕ) (inside : p + 3 < length f) (link : word_at f p ≡ 0 → ⊥) (number : n ≡ word_at f (p + 2)) (d : Result judged_body.Body Lack) (told : d ≡ summary (stmts_at f p))
+    (o : std.Option Refusal) (decides : IsLeast f p n d o) where
+  is_least : offence_in o ≡ least f p
   is_least = rw (← number) (decides (stmts_at f p) told)
 
-  pub told_offends : (o.number ≡ 0 → ⊥) → (ls : Lines) (k : ℕ) → lines_from (suc k) (length f) ls p (drop p f) ≡ refusal o.number o.place
-  told_offends h ls k =
-      let z : offence_of o ≡ some (o.place, o.number) = rw (ne_eqb o.number 0 h) refl in
-      line_offends f p inside link k ls (o.place, o.number) (sym is_least ∙ z)
+  pub told_offends : (r : Refusal) → o ≡ Some r → (ls : Lines) (k : ℕ) → lines_from (suc k) (length f) ls p (drop p f) ≡ refusal (number_of r.reason) r.place
+  told_offends r h ls k = line_offends f p inside link k ls (offence_of r) (sym is_least ∙ ap offence_in h)
 
-  module _ (h : o.number ≡ 0) where
+  module _ (h : o ≡ None) where
     clean : least f p ≡ none
-    clean = let z : offence_of o ≡ none = rw (eq-eqb o.number 0 h) refl in sym is_least ∙ z
+    clean = sym is_least ∙ ap offence_in h
 
     good : (st : Stmts) × (stmts_at f p ≡ body st)
     unfolding clean
     good = clean_good f p (word_at f (p + 2)) (stmts_at f p) clean
 
-    pub told_with : (s : Counted) (r : Judgement) → ((st : Stmts) → d ≡ summary (body st) → WithTold s n st r) → Kept (p + 5 + zero_at f p) r → LineTold f p s r
-    told_with s (Refused m q) w kept = λ ls a k.
+    -- its statements lack nothing
+    pub told_good : (e : Lack) → d ≡ Err e → ⊥
+    unfolding summary
+    told_good e g = let s = told ∙ ap summary good.1 in cc
+
+    pub told_with : (r : Result Taken Refusal) (s : Counted) → ((st : Stmts) → d ≡ summary (body st) → WithTold s n st r) → Kept (p + 5 + zero_at f p) r → LineTold f p s r
+    told_with (Err r) s w kept = λ ls a k.
         let t = w good.0 (told ∙ ap summary good.1) ls a in
-        line_refused f p inside link k ls good.0 clean good.1 m (subst (λ (x : ℕ). with_line ls x good.0 ≡ refused m) number t.0) ∙ ap (refusal m) (sym t.1)
-    told_with s (Taken t x) w kept = λ ls a.
+        line_refused f p inside link k ls good.0 clean good.1 (number_of r.reason) (subst (λ (x : ℕ). with_line ls x good.0 ≡ refused (number_of r.reason)) number t.0) ∙ ap (refusal (number_of r.reason)) (sym t.1)
+    told_with (Ok t) s w kept = λ ls a.
         let u = w good.0 (told ∙ ap summary good.1) ls a in
         let ms = line ls n good.0 in
         let z = kept.1 in
         (ms, u.1, λ k. rw z (line_taken f p inside link k ls good.0 clean good.1 ms (subst (λ (x : ℕ). with_line ls x good.0 ≡ taken ms) number u.0)))
 
 -- where the next line's link stands
-pub kept_at : (f : List ℕ) (p z : ℕ) (r : Judgement) → z ≡ index_of 0 (take (length f - (p + 4)) (drop (p + 4) f)) → Kept (p + 4 + z + 1) r → Kept (p + 5 + zero_at f p) r
+pub kept_at : (f : List ℕ) (p z : ℕ) (r : Result Taken Refusal) → z ≡ index_of 0 (take (length f - (p + 4)) (drop (p + 4) f)) → Kept (p + 4 + z + 1) r → Kept (p + 5 + zero_at f p) r
 kept_at f p z r e h =
     let g : z ≡ zero_at f p = e ∙ ap (index_of 0) (rest_all f (p + 4)) in
     let i : p + 4 + z + 1 ≡ p + 5 + zero_at f p = omega arith in

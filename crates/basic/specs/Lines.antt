@@ -1,5 +1,6 @@
 -- A line behind others, as the code judges it and as the definition does. Assumes nothing.
-use Rattle.std.specs.Prelude.{◌≡◌, ℕ, suc, ◌+◌, ◌*◌, ◌≤◌, Bool, not, List, [], ◌∷◌, ◌++◌, eqb, ltb, length, get_or, drop}
+use Rattle.std.specs.Prelude.{◌≡◌, ℕ, suc, ◌+◌, ◌*◌, ◌≤◌, Bool, not, List, [], ◌∷◌, ◌++◌, eqb, ltb, length, get_or, drop, Some, None, Result, Ok, Err}
+use Rattle.std.specs.Prelude as std
 use Rattle.std.proofs.Math.Option.{Option, none, some}
 use Rattle.listings.specs.Bytes.{pick}
 use Rattle.listings.specs.Listing.{Stmts, ∅, Lines, line, total, count}
@@ -11,21 +12,26 @@ use Rattle.program_files.specs.Program.{Placed, uncovered, counted, join_go, bod
 use Rattle.basic.specs.Bodies.{summary}
 use Rattle.basic.specs.declared.bodies.Body.{Body}
 use Rattle.basic.specs.declared.lines.Counted.{Counted}
-use Rattle.basic.specs.declared.lines.Offence.{Offence}
-use Rattle.basic.specs.declared.lines.Judgement.{Judgement}
-use Rattle.basic.specs.declared.lines.Judgement.TheVariants.{Refused, Taken}
+use Rattle.basic.specs.declared.found.Lack.{Lack}
+use Rattle.basic.specs.declared.lines.Taken.{Taken}
+use Rattle.layout.specs.Refusals.{number_of}
+use Rattle.layout.specs.declared.refusals.Refusal.{Refusal}
 
 -- "both low byte first"
 abbrev pub word_at : List ℕ → ℕ → ℕ
 word_at f p = get_or f p 0 + 256 * get_or f (p + 1) 0
 
--- the place of the first 64 hexadecimal among the bytes that count, or e
-unfoldable pub first_foreign : ℕ → List Placed → ℕ
-first_foreign e [] = e
-first_foreign e (d ∷ l) = pick (eqb d.1 100) d.0 (first_foreign e l)
+-- the place of the first 64 hexadecimal among the bytes that count
+unfoldable pub first_foreign : List Placed → std.Option ℕ
+first_foreign [] = None
+first_foreign (d ∷ l) = pick (eqb d.1 100) (Some d.0) (first_foreign l)
 
-abbrev pub offence_of : Offence → Option definition.Offence
-offence_of o = pick (eqb o.number 0) none (some (o.place, o.number))
+abbrev pub offence_of : Refusal → definition.Offence
+offence_of r = (r.place, number_of r.reason)
+
+abbrev pub offence_in : std.Option Refusal → Option definition.Offence
+offence_in None = none
+offence_in (Some r) = some (offence_of r)
 
 -- one more than the last number, or 0
 abbrev pub after_number : Option ℕ → ℕ
@@ -53,33 +59,34 @@ zero_at f p = index_of 0 (drop (p + 4) f)
 abbrev pub IsCut : List ℕ → ℕ → Bool → Type 0
 IsCut f p c = c ≡ not (ltb (zero_at f p) (length (drop (p + 4) f)))
 
--- the first 64 at f, if f is before the file's end e
-abbrev pub with_foreign : (e f : ℕ) → Option definition.Offence → Option definition.Offence
-with_foreign e f o = pick (ltb f e) (sooner (f, 34) o) o
+-- with the first 64, if there is one
+abbrev pub with_foreign : std.Option ℕ → Option definition.Offence → Option definition.Offence
+with_foreign None o = o
+with_foreign (Some p) o = sooner (p, 34) o
 
 -- the offences of a line, but for its number's
 abbrev pub inner_offences : List ℕ → ℕ → definition.Body → List definition.Offence
 inner_offences f p b = foreign (bytes_at f p) ++ (lacking b ++ pick (ltb (zero_at f p) (length (drop (p + 4) f))) [] ((length f, 33) ∷ []))
 
-abbrev pub IsInnerLeast : List ℕ → ℕ → Body → Offence → Type 0
-IsInnerLeast f p d o = (b : definition.Body) → d ≡ summary b → offence_of o ≡ soonest (inner_offences f p b)
+abbrev pub IsInnerLeast : List ℕ → ℕ → Result Body Lack → std.Option Refusal → Type 0
+IsInnerLeast f p d o = (b : definition.Body) → d ≡ summary b → offence_in o ≡ soonest (inner_offences f p b)
 
 -- the least offence of a line with the number n, whatever its statements are
-abbrev pub IsLeast : List ℕ → ℕ → ℕ → Body → Offence → Type 0
-IsLeast f p n d o = (b : definition.Body) → d ≡ summary b → offence_of o ≡ soonest (offences (length f) (p + 2) n (drop (p + 4) f) (bytes_at f p) b)
+abbrev pub IsLeast : List ℕ → ℕ → ℕ → Result Body Lack → std.Option Refusal → Type 0
+IsLeast f p n d o = (b : definition.Body) → d ≡ summary b → offence_in o ≡ soonest (offences (length f) (p + 2) n (drop (p + 4) f) (bytes_at f p) b)
 
 -- a line with the number n and good statements, behind any lines that are counted so
-abbrev pub WithTold : Counted → ℕ → Stmts → Judgement → Type 0
-WithTold s n st (Refused m q) = (ls : Lines) → IsAfter ls s → (with_line ls n st ≡ refused m) × (q ≡ count ls)
-WithTold s n st (Taken t next) = (ls : Lines) → IsAfter ls s → (with_line ls n st ≡ taken (line ls n st)) × IsAfter (line ls n st) t
+abbrev pub WithTold : Counted → ℕ → Stmts → Result Taken Refusal → Type 0
+WithTold s n st (Err r) = (ls : Lines) → IsAfter ls s → (with_line ls n st ≡ refused (number_of r.reason)) × (r.place ≡ count ls)
+WithTold s n st (Ok t) = (ls : Lines) → IsAfter ls s → (with_line ls n st ≡ taken (line ls n st)) × IsAfter (line ls n st) t.counted
 
 -- the statements stay few, and the next link stands at p
-abbrev pub Kept : ℕ → Judgement → Type 0
-Kept p (Refused m q) = Unit {0}
-Kept p (Taken t next) = (t.stmts ≤ 4096) × (next ≡ p)
+abbrev pub Kept : ℕ → Result Taken Refusal → Type 0
+Kept p (Err r) = Unit {0}
+Kept p (Ok t) = (t.counted.stmts ≤ 4096) × (t.next ≡ p)
 
 -- reading from this line's link on is refused so, or goes on behind it
-abbrev pub LineTold : List ℕ → ℕ → Counted → Judgement → Type 0
-LineTold f p s (Refused n q) = (ls : Lines) → IsAfter ls s → (k : ℕ) → lines_from (suc k) (length f) ls p (drop p f) ≡ refusal n q
-LineTold f p s (Taken t next) =
-    (ls : Lines) → IsAfter ls s → (ms : Lines) × IsAfter ms t × ((k : ℕ) → lines_from (suc k) (length f) ls p (drop p f) ≡ lines_from k (length f) ms next (drop next f))
+abbrev pub LineTold : List ℕ → ℕ → Counted → Result Taken Refusal → Type 0
+LineTold f p s (Err r) = (ls : Lines) → IsAfter ls s → (k : ℕ) → lines_from (suc k) (length f) ls p (drop p f) ≡ refusal (number_of r.reason) r.place
+LineTold f p s (Ok t) =
+    (ls : Lines) → IsAfter ls s → (ms : Lines) × IsAfter ms t.counted × ((k : ℕ) → lines_from (suc k) (length f) ls p (drop p f) ≡ lines_from k (length f) ms t.next (drop t.next f))

@@ -1,4 +1,4 @@
--- A number or a name's key that was found, as the code and as the definition have it. Assumes nothing.
+-- A line number, read digit by digit. Assumes nothing.
 use Rattle.std.specs.Prelude.{◌≡◌, refl, ℕ, suc, ◌+◌, ◌*◌, ◌-◌, ◌<◌, ◌≤◌, List, [], ◌∷◌, Bool, true, false, ◌&&◌, leb, length}
 use Rattle.std.proofs.Common.{sym, ap, ◌∙◌, arith}
 use borrow.Author.Tests.{leb-true, leb-false, le-leb, lt-leb}
@@ -6,14 +6,6 @@ use Rattle.listings.specs.Bytes.{pick}
 use Rattle.listings.specs.Rows.{is_digit}
 use Rattle.program_files.specs.Program as definition
 use Rattle.program_files.specs.Program.{Placed, digits, line_number}
-use Rattle.basic.specs.declared.cursors.Cursor.{Cursor}
-use Rattle.basic.specs.declared.numbers.Found.{Found}
-use Rattle.basic.specs.declared.numbers.Found.TheVariants.{Value, Lacks}
-
--- T: what stands behind a cursor
-abbrev pub found_by : (Cursor → List Placed) → Found → definition.Found ℕ
-found_by T (Value v n) = definition.found v (T n)
-found_by T (Lacks p) = definition.lacks p
 
 -- a number, or the first that is too large
 abbrev pub capped : ℕ → ℕ

@@ -1,6 +1,6 @@
 -- The least offence of a line, part by part. Assumes nothing.
-use Rattle.std.specs.Prelude.{ℕ, suc, ◌+◌, ◌≤◌, ◌<◌, ◌≡◌, refl, List, [], ◌∷◌, ◌++◌, Bool, true, false, ◌&&◌, ◌||◌, eqb, ltb, leb, length, drop}
-use Rattle.std.proofs.Common.{arith, sym, ap, ◌∙◌, inl, inr, length-drop}
+use Rattle.std.specs.Prelude.{ℕ, suc, ◌+◌, ◌≤◌, ◌<◌, ◌≡◌, refl, List, [], ◌∷◌, ◌++◌, Bool, true, false, ◌&&◌, ◌||◌, eqb, ltb, leb, drop, Some, None, Result, Ok, Err}
+use Rattle.std.proofs.Common.{arith, sym, ap, ◌∙◌, inl, inr}
 use Rattle.std.proofs.Math.Option.{Option, none, some}
 use borrow.Author.Tests.{lt-ltb, le-ltb, le-leb, lt-leb, eq-eqb, ne_eqb, ltb-true, eqb-true}
 use Rattle.listings.specs.Bytes.{pick}
@@ -10,7 +10,7 @@ use Rattle.program_files.specs.Program.{Placed, Offence, Cover, uncovered, behin
 use Rattle.basic.specs.Lines.{first_foreign, with_foreign, bytes_at}
 use Rattle.basic.specs.Bodies.{summary}
 use Rattle.basic.specs.declared.bodies.Body.{Body}
-use Rattle.basic.specs.declared.bodies.Body.TheVariants.{Bad, Good}
+use Rattle.basic.specs.declared.found.Lack.{Lack}
 
 -- ---- two on different bytes
 
@@ -54,76 +54,65 @@ unfolding counted foreign
 absorbed c q p [] x h = refl
 absorbed c q p (b ∷ l) x h = absorbed_next q p b (counted (behind c b) (suc p) l) x h (absorbed (behind c b) q (suc p) l x (omega arith)) (eqb b 0) (counts c b)
 
-module _ (e p b : ℕ) (r : List Placed) (x : List Offence) (h : p < e) (rest : soonest (foreign r ++ x) ≡ with_foreign e (first_foreign e r) (soonest x))
+module _ (p b : ℕ) (r : List Placed) (x : List Offence) (rest : soonest (foreign r ++ x) ≡ with_foreign (first_foreign r) (soonest x))
     (later : sooner (p, 34) (soonest (foreign r ++ x)) ≡ sooner (p, 34) (soonest x)) where
-  foreign_here : (u : Bool) → soonest (pick u ((p, 34) ∷ foreign r) (foreign r) ++ x) ≡ with_foreign e (pick u p (first_foreign e r)) (soonest x)
+  foreign_here : (u : Bool) → soonest (pick u ((p, 34) ∷ foreign r) (foreign r) ++ x) ≡ with_foreign (pick u (Some p) (first_foreign r)) (soonest x)
   unfolding soonest
-  foreign_here true = rw (lt-ltb p e h) later
+  foreign_here true = later
   foreign_here false = rest
 
   foreign_next : (s t : Bool)
-      → soonest (foreign (pick s ((p, 0) ∷ []) (pick t ((p, b) ∷ r) r)) ++ x) ≡ with_foreign e (first_foreign e (pick s ((p, 0) ∷ []) (pick t ((p, b) ∷ r) r))) (soonest x)
+      → soonest (foreign (pick s ((p, 0) ∷ []) (pick t ((p, b) ∷ r) r)) ++ x) ≡ with_foreign (first_foreign (pick s ((p, 0) ∷ []) (pick t ((p, b) ∷ r) r))) (soonest x)
   unfolding foreign first_foreign
-  foreign_next true t = rw (le-ltb e e (omega arith)) refl
+  foreign_next true t = refl
   foreign_next false true = foreign_here (eqb b 100)
   foreign_next false false = rest
 
-pub foreign-first : (e : ℕ) (c : Cover) (p : ℕ) (l : List ℕ) (x : List Offence) → p + length l ≤ e
-    → soonest (foreign (counted c p l) ++ x) ≡ with_foreign e (first_foreign e (counted c p l)) (soonest x)
+pub foreign-first : (c : Cover) (p : ℕ) (l : List ℕ) (x : List Offence)
+    → soonest (foreign (counted c p l) ++ x) ≡ with_foreign (first_foreign (counted c p l)) (soonest x)
 unfolding counted foreign first_foreign
-foreign-first e c p [] x h = rw (le-ltb e e (omega arith)) refl
-foreign-first e c p (b ∷ l) x h =
+foreign-first c p [] x = refl
+foreign-first c p (b ∷ l) x =
     let r = counted (behind c b) (suc p) l in
-    foreign_next e p b r x (omega arith) (foreign-first e (behind c b) (suc p) l x (omega arith)) (absorbed (behind c b) p (suc p) l x (omega arith)) (eqb b 0) (counts c b)
+    foreign_next p b r x (foreign-first (behind c b) (suc p) l x) (absorbed (behind c b) p (suc p) l x (omega arith)) (eqb b 0) (counts c b)
 
 -- ---- the loop over a line's bytes
 
-module _ (e p b : ℕ) (m : List Placed) where
-  pub foreign_end : first_foreign e ((p, 0) ∷ []) ≡ e
+module _ (p b : ℕ) (m : List Placed) where
+  pub foreign_end : first_foreign ((p, 0) ∷ []) ≡ None
   unfolding first_foreign
   foreign_end = refl
 
-  pub foreign_at : b ≡ 100 → first_foreign e ((p, b) ∷ m) ≡ p
+  pub foreign_at : b ≡ 100 → first_foreign ((p, b) ∷ m) ≡ Some p
   unfolding first_foreign
   foreign_at h = rw (eq-eqb b 100 h) refl
 
-  pub foreign_on : (b ≡ 100 → ⊥) → first_foreign e ((p, b) ∷ m) ≡ first_foreign e m
+  pub foreign_on : (b ≡ 100 → ⊥) → first_foreign ((p, b) ∷ m) ≡ first_foreign m
   unfolding first_foreign
   foreign_on h = rw (ne_eqb b 100 h) refl
 
--- ---- the code's choice of two
+-- ---- the choice of two
 
--- an offence as the code has it, its number 0 for none
-abbrev numbered : (p n : ℕ) → Option Offence
-numbered p n = pick (eqb n 0) none (some (p, n))
-
-module _ (p n q m : ℕ) (h : 0 < n) where
-  here : numbered p n ≡ some (p, n)
-  here = rw (ne_eqb n 0 (λ e. omega arith)) refl
-
-  pub least_alone : m ≡ 0 → numbered p n ≡ sooner (p, n) (numbered q m)
+module _ (p n q m : ℕ) where
+  pub least_alone : some (p, n) ≡ sooner (p, n) none
   unfolding sooner
-  least_alone e = here ∙ (rw (eq-eqb m 0 e) refl)
+  least_alone = refl
 
-  module _ (other : m ≡ 0 → ⊥) where
-    there : numbered q m ≡ some (q, m)
-    there = rw (ne_eqb m 0 other) refl
+  pub least-before : p < q → some (p, n) ≡ sooner (p, n) (some (q, m))
+  unfolding sooner
+  least-before e = rw (lt-ltb p q e) refl
 
-    pub least-before : p < q → numbered p n ≡ sooner (p, n) (numbered q m)
-    unfolding sooner
-    least-before e = rw (here, there, lt-ltb p q e) refl
+  pub least-behind : q < p → some (q, m) ≡ sooner (p, n) (some (q, m))
+  unfolding sooner
+  least-behind e = rw (le-ltb p q (omega arith), ne_eqb p q (λ z. omega arith)) refl
 
-    pub least-behind : q < p → numbered q m ≡ sooner (p, n) (numbered q m)
-    unfolding sooner
-    least-behind e = rw (there, le-ltb p q (omega arith), ne_eqb p q (λ z. omega arith)) refl
+  pub least_lower : p ≡ q → m < n → some (q, m) ≡ sooner (p, n) (some (q, m))
+  unfolding sooner
+  least_lower e f = rw (le-ltb p q (omega arith), eq-eqb p q e, lt-leb n m f) refl
 
-    pub least_lower : p ≡ q → m < n → numbered q m ≡ sooner (p, n) (numbered q m)
-    unfolding sooner
-    least_lower e f = rw (there, le-ltb p q (omega arith), eq-eqb p q e, lt-leb n m f) refl
-
-    pub least-first : p ≡ q → n ≤ m → numbered p n ≡ sooner (p, n) (numbered q m)
-    unfolding sooner
-    least-first e f = rw (here, there, le-ltb p q (omega arith), eq-eqb p q e, le-leb n m f) refl
+  pub least-first : p ≡ q → n ≤ m → some (p, n) ≡ sooner (p, n) (some (q, m))
+  unfolding sooner
+  least-first e f = rw (le-ltb p q (omega arith), eq-eqb p q e, le-leb n m f) refl
 
 -- ---- the parts of a line's offences
 
@@ -135,9 +124,8 @@ pub part_whole : (e : ℕ) (t : Bool) → t ≡ true → none ≡ soonest (pick 
 unfolding soonest
 part_whole e t h = rw h refl
 
-pub part_foreign : (f : List ℕ) (p : ℕ) (x : List Offence) → p + 3 < length f
-    → soonest (foreign (bytes_at f p) ++ x) ≡ with_foreign (length f) (first_foreign (length f) (bytes_at f p)) (soonest x)
-part_foreign f p x h = let g = length-drop (p + 4) f in foreign-first (length f) uncovered (p + 4) (drop (p + 4) f) x (omega arith)
+pub part_foreign : (f : List ℕ) (p : ℕ) (x : List Offence) → soonest (foreign (bytes_at f p) ++ x) ≡ with_foreign (first_foreign (bytes_at f p)) (soonest x)
+part_foreign f p x = foreign-first uncovered (p + 4) (drop (p + 4) f) x
 
 pub part_number : (q n : ℕ) (x : List Offence) → soonest (pick (leb n 63999) [] ((q, 35) ∷ []) ++ x) ≡ pick (leb n 63999) (soonest x) (sooner (q, 35) (soonest x))
 unfolding soonest
@@ -149,12 +137,12 @@ part_number q n x = go (leb n 63999)
 
 -- ---- the statements of a line, by what is told of them
 
-pub bad_is : (b : definition.Body) (d : Body) (p : ℕ) → d ≡ Bad p → d ≡ summary b → b ≡ bad p
+pub bad_is : (b : definition.Body) (d : Result Body Lack) (e : Lack) → d ≡ Err e → d ≡ summary b → b ≡ bad e.place
 unfolding summary
-bad_is (bad q) d p e f = let z : q ≡ p = cc in ap bad z
-bad_is (body s) d p e f = absurd cc
+bad_is (bad q) d e f g = let z : q ≡ e.place = cc in ap bad z
+bad_is (body s) d e f g = absurd cc
 
-pub good_is : (b : definition.Body) (d : Body) (n : ℕ) (m o : Bool) → d ≡ Good n m o → d ≡ summary b → lacking b ≡ []
+pub good_is : (b : definition.Body) (d : Result Body Lack) (o : Body) → d ≡ Ok o → d ≡ summary b → lacking b ≡ []
 unfolding summary lacking
-good_is (bad q) d n m o e f = absurd cc
-good_is (body s) d n m o e f = refl
+good_is (bad q) d o f g = absurd cc
+good_is (body s) d o f g = refl

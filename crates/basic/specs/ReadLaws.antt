@@ -1,5 +1,5 @@
 -- The lines of a file, one after the other. Assumes nothing.
-use Rattle.std.specs.Prelude.{ℕ, zero, suc, ◌+◌, ◌*◌, ◌≤◌, ◌<◌, ◌≡◌, refl, List, [], ◌∷◌, length, get_or, drop}
+use Rattle.std.specs.Prelude.{ℕ, zero, suc, ◌+◌, ◌*◌, ◌≤◌, ◌<◌, ◌≡◌, refl, List, [], ◌∷◌, length, get_or, drop, Ok, Err}
 use Rattle.std.proofs.Common.{arith, sym, ap, ◌∙◌, length-drop, get_or-drop}
 use borrow.Author.Tests.{le-leb, lt-leb}
 use Rattle.listings.specs.Listing.{Lines, nolines, total, count}
@@ -7,12 +7,14 @@ use Rattle.listings.specs.ListingText.{last_number}
 use Rattle.listings.specs.Read.{refusal}
 use Rattle.listings.specs.Scan.{index_le}
 use Rattle.program_files.specs.Program.{program, lines_from, loaded, read_program}
+use Rattle.basic.specs.Judge as judged
 use Rattle.basic.specs.Judge.{judged_of}
 use Rattle.basic.specs.LineLaws.{linked, unlinked}
 use Rattle.basic.specs.Lines.{word_at, zero_at, IsAfter, LineTold}
-use Rattle.basic.specs.declared.judge.Judged.TheVariants as judged
 use Rattle.basic.specs.declared.lines.Counted.{Counted}
-use Rattle.basic.specs.declared.lines.Judgement.TheVariants.{Refused, Taken}
+use Rattle.basic.specs.declared.lines.Taken.{Taken}
+use Rattle.layout.specs.Refusals.{number_of}
+use Rattle.layout.specs.declared.refusals.Refusal.{Refusal}
 
 -- ---- the length of the file
 
@@ -89,13 +91,13 @@ word_front f p =
     rw (get_or-drop p f 0 0, get_or-drop p f 1 0, z) refl
 
 module _ {f : List ℕ} {s : Counted} {p : ℕ} (r : Follows f s p) where
-  pub follows_early : length f < p + 2 → judged.Refused 33 (length f) ≡ judged_of (read_program f)
+  pub follows_early : length f < p + 2 → judged.refused 33 (length f) ≡ judged_of (read_program f)
   unfolding judged_of
   follows_early h =
       let g = length-drop p f in
       ap judged_of (sym (lines_short r.fuel (length f) r.lines p (drop p f) (omega arith)) ∙ r.rest)
 
-  pub follows_end : p + 2 ≤ length f → word_at f p ≡ 0 → judged.Accepted s.lines s.stmts ≡ judged_of (read_program f)
+  pub follows_end : p + 2 ≤ length f → word_at f p ≡ 0 → judged.accepted s.lines s.stmts ≡ judged_of (read_program f)
   unfolding judged_of program
   follows_end h w =
       let g = length-drop p f in
@@ -104,7 +106,7 @@ module _ {f : List ℕ} {s : Counted} {p : ℕ} (r : Follows f s p) where
       rw (a.lines, a.stmts) x
 
   module _ (link : word_at f p ≡ 0 → ⊥) (h : p + 2 ≤ length f) where
-    pub follows_cut : length f < p + 4 → judged.Refused 33 (length f) ≡ judged_of (read_program f)
+    pub follows_cut : length f < p + 4 → judged.refused 33 (length f) ≡ judged_of (read_program f)
     unfolding judged_of
     follows_cut i =
         let g = length-drop p f in
@@ -123,17 +125,17 @@ module _ {f : List ℕ} {s : Counted} {p : ℕ} (r : Follows f s p) where
   one : p < length f → Line
   one h = let g = length-drop p f in line_by r.fuel (omega arith) r.enough r.rest
 
-  pub follows_refused : p < length f → (n q : ℕ) → LineTold f p s (Refused n q) → judged.Refused n q ≡ judged_of (read_program f)
+  pub follows_refused : p < length f → (e : Refusal) → LineTold f p s (Err e) → judged.refused (number_of e.reason) e.place ≡ judged_of (read_program f)
   unfolding judged_of
-  follows_refused h n q t = let x = one h in ap judged_of (sym (t r.lines r.after x.fuel) ∙ x.rest)
+  follows_refused h e t = let x = one h in ap judged_of (sym (t r.lines r.after x.fuel) ∙ x.rest)
 
-  pub follows_taken : p < length f → (t : Counted) (next : ℕ) → p < next → LineTold f p s (Taken t next) → Follows f t next
-  follows_taken h t next i w =
+  pub follows_taken : p < length f → (t : Taken) → p < t.next → LineTold f p s (Ok t) → Follows f t.counted t.next
+  follows_taken h t i w =
       let x = one h in
       let y = w r.lines r.after in
       let e = x.enough in
       let a = length-drop p f in
-      let b = length-drop next f in
+      let b = length-drop t.next f in
       record { lines = y.0; after = y.1; fuel = x.fuel; enough = omega arith; rest = sym (y.2 x.fuel) ∙ x.rest }
 
 -- the next link stands behind this one, and no further than one place behind the file's end

@@ -1,5 +1,5 @@
 -- Laws of the rows that a file gives: which come first and what follows, and that more fuel than there are bytes changes nothing. Assumes nothing.
-use Rattle.std.specs.Prelude.{◌≡◌, refl, ℕ, zero, suc, ◌+◌, ◌*◌, ◌≤◌, ◌<◌, Bool, true, false, ◌&&◌, List, [], ◌∷◌, ◌++◌, eqb, length, get_or, drop}
+use Rattle.std.specs.Prelude.{◌≡◌, refl, ℕ, zero, suc, ◌+◌, ◌*◌, ◌≤◌, ◌<◌, Bool, true, false, ◌&&◌, List, [], ◌∷◌, ◌++◌, eqb, length, get_or, drop, Some}
 use Rattle.std.proofs.Common.{sym, ap, ◌∙◌, subst, append_assoc, add-one, arith, ne_eqb, eqb-true, get_or-drop, length-drop, drop-drop, drop-cons}
 use Rattle.std.proofs.Math.Decide.{dec_le}
 use Rattle.listings.specs.Bytes.{pick}
@@ -13,7 +13,7 @@ use Rattle.program_files.specs.Program.{Placed, uncovered, counted, join_go, Fou
 use Rattle.basic.specs.Covers.{cover_of}
 use Rattle.basic.specs.Cursors.{tokens_at, ahead, IsNext, next_more, join-length}
 use Rattle.basic.specs.Lines.{word_at}
-use Rattle.basic.specs.Actions as code
+use Rattle.basic.specs.declared.actions.Action.TheVariants as code
 use Rattle.basic.specs.Actions.{coded, fuel, args_in}
 use Rattle.basic.specs.Fuel.{Shorter, action_shorter, action_more, pass_shorter}
 use Rattle.basic.specs.Rests.{Rest, whole, past, rest-zero, action-rest, pass_rest, zero_at, tokens_zero, Ordered, ordered_lower, ordered_head, rest_ordered, tokens_ordered, action_plain}
@@ -23,7 +23,6 @@ use Rattle.basic.specs.declared.cursors.Token.{Token}
 use Rattle.basic.specs.declared.cover.Cover.TheVariants as Cover
 use Rattle.basic.specs.declared.sources.Stage.TheVariants as stage
 use Rattle.basic.specs.declared.sources.Source.{Source}
-use Rattle.basic.specs.declared.sources.FileRow.{FileRow}
 use Rattle.basic.specs.declared.sources.FileRow.TheVariants as row
 use Rattle.basic.specs.declared.sources.Sourced.{Sourced}
 
@@ -101,21 +100,21 @@ pub record IsDoes (x : Found Action) (w n : ℕ) (r : List Placed) : Type 0 wher
   pub word : w ≡ word_index (simple_word simple)
   pub count : n ≡ length (args_of simple)
 
-pub coded_does : (x : Found Action) (w n : ℕ) (r : List Placed) → found (code.does w n) r ≡ map_found coded x → IsDoes x w n r
+pub coded_does : (x : Found Action) (w n : ℕ) (r : List Placed) → found (code.Does w n) r ≡ map_found coded x → IsDoes x w n r
 unfolding map_found coded
 coded_does (lacks p) w n r h = absurd (cc)
 coded_does (found (does o) q) w n r h = record { simple = o; is = cc; word = cc; count = cc }
 coded_does (found (jumps m) q) w n r h = absurd (cc)
 coded_does (found holds q) w n r h = absurd (cc)
 
-pub coded-jumps : (x : Found Action) (n : ℕ) (r : List Placed) → found (code.jumps n) r ≡ map_found coded x → x ≡ found (jumps n) r
+pub coded-jumps : (x : Found Action) (n : ℕ) (r : List Placed) → found (code.Jumps n) r ≡ map_found coded x → x ≡ found (jumps n) r
 unfolding map_found coded
 coded-jumps (lacks p) n r h = absurd (cc)
 coded-jumps (found (does o) q) n r h = absurd (cc)
 coded-jumps (found (jumps m) q) n r h = cc
 coded-jumps (found holds q) n r h = absurd (cc)
 
-pub coded-holds : (x : Found Action) (r : List Placed) → found code.holds r ≡ map_found coded x → x ≡ found holds r
+pub coded-holds : (x : Found Action) (r : List Placed) → found code.Holds r ≡ map_found coded x → x ≡ found holds r
 unfolding map_found coded
 coded-holds (lacks p) r h = absurd (cc)
 coded-holds (found (does o) q) r h = absurd (cc)
@@ -228,8 +227,8 @@ lines_line f p n h g e =
     rw (e, four f p h) (one_line f p (suc (suc (suc (length (drop (p + 4) f))))) (get_or f p 0) (get_or f (p + 1) 0) (get_or f (p + 2) 0) (get_or f (p + 2 + 1) 0) g (omega arith))
 
 -- where there is none
-pub lines_unlinked : (f : List ℕ) (p w : ℕ) → (p + 1 < length f → w ≡ word_at f p) → w ≡ 0 → lines_at f p ≡ end_row ∷ []
-lines_unlinked f p w h e = elim (dec_le (length f) (p + 1)) [ yes q ↦ lines_short f p (omega arith) | no q ↦ lines_end f p (sym (h (omega arith)) ∙ e) ]
+pub lines_unlinked : (f : List ℕ) (p : ℕ) → (p + 4 ≤ length f → word_at f p ≡ 0) → lines_at f p ≡ end_row ∷ []
+lines_unlinked f p h = elim (dec_le (p + 4) (length f)) [ yes q ↦ lines_end f p (h q) | no q ↦ lines_short f p (omega arith) ]
 
 pub behind-none : (f : List ℕ) (c : Cursor) → length f ≤ c.at → lines_at f c.at ≡ lines_behind f c
 behind-none f c h = lines_short f c.at (omega arith) ∙ sym (lines_short f (c.at + index_of 0 (drop c.at f) + 1) (omega arith))
@@ -249,9 +248,9 @@ pub due_statements : (f : List ℕ) (s : Source) → s.stage ≡ stage.Statement
 unfolding contents_from
 due_statements f s e = rw e refl
 
-pub due_to : (f : List ℕ) (s : Source) → s.stage ≡ stage.To → contents_from f s ≡ to_row (parsed s.number) ∷ ends_then s.ends (lines_behind f s.at)
+pub due_to : (f : List ℕ) (s : Source) (n : ℕ) → s.stage ≡ stage.To n → contents_from f s ≡ to_row (parsed n) ∷ ends_then s.ends (lines_behind f s.at)
 unfolding contents_from
-due_to f s e = rw e refl
+due_to f s n e = rw e refl
 
 pub due_stmts : (f : List ℕ) (s : Source) → s.stage ≡ stage.Stmts → contents_from f s ≡ stmts_row ∷ statements_at f s.at s.ends
 unfolding contents_from
@@ -274,10 +273,10 @@ unfolding contents_from
 module_first f s t e g =
     record { content = module_row false; says = refl; behind = due_module f s e ∙ ap (λ (l : List Content). module_row false ∷ l) (sym (ap (contents_from f) g)) }
 
-pub to_first : (f : List ℕ) (s t : Source) → s.stage ≡ stage.To → t ≡ record s { stage = stage.Ends } → FirstOf f (contents_from f s) (record { row = row.To s.number; next = t })
+pub to_first : (f : List ℕ) (s t : Source) (n : ℕ) → s.stage ≡ stage.To n → t ≡ record s { stage = stage.Ends } → FirstOf f (contents_from f s) (record { row = row.To n; next = t })
 unfolding contents_from
-to_first f s t e g =
-    record { content = to_row (parsed s.number); says = refl; behind = due_to f s e ∙ ap (λ (l : List Content). to_row (parsed s.number) ∷ l) (sym (ap (contents_from f) g)) }
+to_first f s t n e g =
+    record { content = to_row (parsed n); says = refl; behind = due_to f s n e ∙ ap (λ (l : List Content). to_row (parsed n) ∷ l) (sym (ap (contents_from f) g)) }
 
 pub stmts_first : (f : List ℕ) (s t : Source) → s.stage ≡ stage.Stmts → t ≡ record s { stage = stage.Statements } → FirstOf f (contents_from f s) (record { row = row.Stmts; next = t })
 unfolding contents_from
@@ -293,17 +292,17 @@ left-length k b l r a e = let h : length r < suc (length l) = rw e at (action_sh
 left_ordered : (k b : ℕ) (l r : List Placed) (a : Action) (p n : ℕ) → action k b l ≡ found a r → Ordered p n l → Ordered p n r
 left_ordered k b l r a p n e o = let h : Rest r l = rw e at (action-rest k b l) in rest_ordered h o
 
-pub does_ordered : (f : List ℕ) (b : ℕ) (at c e : Cursor) (w k p n : ℕ) → found (code.does w k) (tokens_at f c) ≡ map_found coded (action (fuel f at) b (tokens_at f at))
+pub does_ordered : (f : List ℕ) (b : ℕ) (at c e : Cursor) (w k p n : ℕ) → found (code.Does w k) (tokens_at f c) ≡ map_found coded (action (fuel f at) b (tokens_at f at))
     → tokens_at f e ≡ pass_over (tokens_at f c) → Ordered p n (tokens_at f at) → Ordered p n (tokens_at f e)
 does_ordered f b at c e w k p n h g o =
     let d = coded_does (action (fuel f at) b (tokens_at f at)) w k (tokens_at f c) h in
     rw g (rest_ordered (pass_rest (tokens_at f c)) (left_ordered (fuel f at) b (tokens_at f at) (tokens_at f c) (does d.simple) p n d.is o))
 
-pub jumps_ordered : (f : List ℕ) (b : ℕ) (at c : Cursor) (m p n : ℕ) → found (code.jumps m) (tokens_at f c) ≡ map_found coded (action (fuel f at) b (tokens_at f at))
+pub jumps_ordered : (f : List ℕ) (b : ℕ) (at c : Cursor) (m p n : ℕ) → found (code.Jumps m) (tokens_at f c) ≡ map_found coded (action (fuel f at) b (tokens_at f at))
     → Ordered p n (tokens_at f at) → Ordered p n (tokens_at f c)
 jumps_ordered f b at c m p n h o = left_ordered (fuel f at) b (tokens_at f at) (tokens_at f c) (jumps m) p n (coded-jumps (action (fuel f at) b (tokens_at f at)) m (tokens_at f c) h) o
 
-pub holds_ordered : (f : List ℕ) (b : ℕ) (at c : Cursor) (p n : ℕ) → found code.holds (tokens_at f c) ≡ map_found coded (action (fuel f at) b (tokens_at f at))
+pub holds_ordered : (f : List ℕ) (b : ℕ) (at c : Cursor) (p n : ℕ) → found code.Holds (tokens_at f c) ≡ map_found coded (action (fuel f at) b (tokens_at f at))
     → Ordered p n (tokens_at f at) → Ordered p n (tokens_at f c)
 holds_ordered f b at c p n h o = left_ordered (fuel f at) b (tokens_at f at) (tokens_at f c) holds p n (coded-holds (action (fuel f at) b (tokens_at f at)) (tokens_at f c) h) o
 
@@ -315,8 +314,8 @@ module _ (f : List ℕ) (b : ℕ) (at : Cursor) (s : Source) (line : zero_at (to
       let q : action_rows f b at s ≡ ends_then s.ends (lines_behind f s.at) = rw e refl in
       first_rw f (action_rows f b at s) (ends_then s.ends (lines_behind f s.at)) r q g
 
-  pub does_first : (c e : Cursor) (w n : ℕ) (t : Source) → found (code.does w n) (tokens_at f c) ≡ map_found coded (action (fuel f at) b (tokens_at f at)) → tokens_at f e ≡ pass_over (tokens_at f c)
-      → IsDue f stage.Statements e (s.ends + 0) 0 t → FirstOf f (action_rows f b at s) (record { row = row.Simple w n b at; next = t })
+  pub does_first : (c e : Cursor) (w n : ℕ) (t : Source) → found (code.Does w n) (tokens_at f c) ≡ map_found coded (action (fuel f at) b (tokens_at f at)) → tokens_at f e ≡ pass_over (tokens_at f c)
+      → IsDue f stage.Statements e (s.ends + 0) t → FirstOf f (action_rows f b at s) (record { row = row.Simple w n b at; next = t })
   unfolding rows_by args_in
   does_first c e w n t h g u =
       let k = fuel f at in
@@ -334,8 +333,8 @@ module _ (f : List ℕ) (b : ℕ) (at : Cursor) (s : Source) (line : zero_at (to
         behind = ap (λ (x : Found Action). rows_by k x ++ ends_then s.ends (lines_behind f s.at)) d.is ∙ ap (λ (l : List Content). simple_row (parsed (d.simple, listed d.simple)) ∷ l) (sym y);
       }
 
-  pub jumps-first : (c : Cursor) (n : ℕ) (t : Source) → found (code.jumps n) (tokens_at f c) ≡ map_found coded (action (fuel f at) b (tokens_at f at))
-      → IsDue f stage.To c (s.ends + 1) n t → FirstOf f (action_rows f b at s) (record { row = row.If; next = t })
+  pub jumps-first : (c : Cursor) (n : ℕ) (t : Source) → found (code.Jumps n) (tokens_at f c) ≡ map_found coded (action (fuel f at) b (tokens_at f at))
+      → IsDue f (stage.To n) c (s.ends + 1) t → FirstOf f (action_rows f b at s) (record { row = row.If; next = t })
   unfolding rows_by
   jumps-first c n t h u =
       let k = fuel f at in
@@ -343,15 +342,15 @@ module _ (f : List ℕ) (b : ℕ) (at : Cursor) (s : Source) (line : zero_at (to
       let x : action k b (tokens_at f at) ≡ found (jumps n) r = coded-jumps (action k b (tokens_at f at)) n r h in
       let z : zero_at (tokens_at f t.at) ≡ zero_at (tokens_at f s.at) = ap zero_at u.same ∙ (left-zero k b (tokens_at f at) r (jumps n) x ∙ line) in
       let y : contents_from f t ≡ to_row (parsed n) ∷ end_row ∷ ends_then s.ends (lines_behind f s.at) =
-      due_to f t u.stage ∙ (rw (u.number, u.ends, behind-same f s.at t.at z, ends_more s.ends (lines_behind f s.at)) refl) in
+      due_to f t n u.stage ∙ (rw (u.ends, behind-same f s.at t.at z, ends_more s.ends (lines_behind f s.at)) refl) in
       record {
         content = cond_row if;
         says = refl;
         behind = ap (λ (x : Found Action). rows_by k x ++ ends_then s.ends (lines_behind f s.at)) x ∙ ap (λ (l : List Content). cond_row if ∷ l) (sym y);
       }
 
-  pub holds-first : (c : Cursor) (t : Source) → found code.holds (tokens_at f c) ≡ map_found coded (action (fuel f at) b (tokens_at f at))
-      → IsDue f stage.Stmts c (s.ends + 2) 0 t → FirstOf f (action_rows f b at s) (record { row = row.If; next = t })
+  pub holds-first : (c : Cursor) (t : Source) → found code.Holds (tokens_at f c) ≡ map_found coded (action (fuel f at) b (tokens_at f at))
+      → IsDue f stage.Stmts c (s.ends + 2) t → FirstOf f (action_rows f b at s) (record { row = row.If; next = t })
   unfolding rows_by
   holds-first c t h u =
       let k = fuel f at in
@@ -418,18 +417,5 @@ module _ (f : List ℕ) (s : Source) (c : Cursor) (t : Token) (h : Passed f s c)
 
 -- ---- a row that was found is the first
 
-pub first_yields : (f : List ℕ) (s : Source) (r : Sourced) → FirstOf f (contents_from f s) r → Yields f s r r.row
-first_yields f s r h = go r.row refl
-  where
-    go : (x : FileRow) → r.row ≡ x → Yields f s r x
-    go row.Nothing e = absurd (rw e at h.says)
-    go row.Module e = h
-    go (row.Line n) e = h
-    go (row.Simple w n b c) e = h
-    go row.If e = h
-    go (row.To n) e = h
-    go row.Stmts e = h
-    go row.End e = h
-
-pub due_yields : (f : List ℕ) (s : Source) (ds : List Content) (r : Sourced) → contents_from f s ≡ ds → FirstOf f ds r → Yields f s r r.row
-due_yields f s ds r e h = first_yields f s r (first_rw f (contents_from f s) ds r e h)
+pub due_yields : (f : List ℕ) (s : Source) (ds : List Content) (r : Sourced) → contents_from f s ≡ ds → FirstOf f ds r → Yields f s (Some r)
+due_yields f s ds r e h = first_rw f (contents_from f s) ds r e h

@@ -1,6 +1,6 @@
 -- The contents of the rows that a file gives from a place on. Assumes nothing.
 -- Of a file that is not accepted these are some rows, which nobody asks for: where something lacks, the line ends; where the file ends, so does the module.
-use Rattle.std.specs.Prelude.{◌≡◌, ℕ, zero, suc, ◌+◌, ◌*◌, false, ◌&&◌, List, [], ◌∷◌, ◌++◌, eqb, length, drop}
+use Rattle.std.specs.Prelude.{◌≡◌, ℕ, zero, suc, ◌+◌, ◌*◌, false, ◌&&◌, List, [], ◌∷◌, ◌++◌, eqb, length, drop, Option, Some, None}
 use Rattle.listings.specs.Bytes.{pick}
 use Rattle.listings.specs.Listing.{Simple, if}
 use Rattle.listings.specs.ListingText.{simple_word, listed}
@@ -77,7 +77,7 @@ contents_from f s = elim s.stage [
   | stage.Module ↦ module_row false ∷ lines_at f s.at.at
   | stage.Line ↦ lines_at f s.at.at
   | stage.Statements ↦ statements_at f s.at s.ends
-  | stage.To ↦ to_row (parsed s.number) ∷ ends_then s.ends (lines_behind f s.at)
+  | stage.To n ↦ to_row (parsed n) ∷ ends_then s.ends (lines_behind f s.at)
   | stage.Stmts ↦ stmts_row ∷ statements_at f s.at s.ends
   | stage.Ends ↦ ends_then s.ends (lines_behind f s.at)
   | stage.Ended ↦ []
@@ -94,7 +94,6 @@ pub record SimpleIs (f : List ℕ) (d : Content) (w n b : ℕ) (c : Cursor) : Ty
 
 -- what the row says
 abbrev pub RowIs : List ℕ → Content → FileRow → Type 0
-RowIs f d row.Nothing = ⊥
 RowIs f d row.Module = d ≡ module_row false
 RowIs f d (row.Line n) = d ≡ line_row (parsed n)
 RowIs f d (row.Simple w n b c) = SimpleIs f d w n b c
@@ -113,22 +112,15 @@ pub record FirstOf (f : List ℕ) (ds : List Content) (r : Sourced) : Type 0 whe
 abbrev pub First : List ℕ → Source → Sourced → Type 0
 First f s r = FirstOf f (contents_from f s) r
 
-abbrev pub Yields : List ℕ → Source → Sourced → FileRow → Type 0
-Yields f s r row.Nothing = contents_from f s ≡ []
-Yields f s r row.Module = First f s r
-Yields f s r (row.Line n) = First f s r
-Yields f s r (row.Simple w n b c) = First f s r
-Yields f s r row.If = First f s r
-Yields f s r (row.To n) = First f s r
-Yields f s r row.Stmts = First f s r
-Yields f s r row.End = First f s r
+abbrev pub Yields : List ℕ → Source → Option Sourced → Type 0
+Yields f s None = contents_from f s ≡ []
+Yields f s (Some r) = First f s r
 
--- r: that stage is due at a cursor's tokens, with so many rows `)` and that number
-pub record IsDue (f : List ℕ) (g : Stage) (c : Cursor) (n m : ℕ) (r : Source) : Type 0 where
+-- r: that stage is due at a cursor's tokens, with so many rows `)`
+pub record IsDue (f : List ℕ) (g : Stage) (c : Cursor) (n : ℕ) (r : Source) : Type 0 where
   pub stage : r.stage ≡ g
   pub same : tokens_at f r.at ≡ tokens_at f c
   pub ends : r.ends ≡ n
-  pub number : r.number ≡ m
 
 -- before the first row
 abbrev pub StartsRows : List ℕ → Source → Type 0

@@ -8,23 +8,19 @@ ghost use Rattle.basic.specs.Bodies.{summary, AtMost};
 
 use super::actions::{Action, action_at, pass_over};
 use super::cursors::{Cursor, token_at};
+use super::found::Lack;
 use layout::limits::{MAX_ARGS, MAX_DEPTH};
 
 // deep: a statement at depth 17. long: a 65th number or slot.
 #[derive(Clone, Copy)]
-pub(crate) enum Body {
-    Bad {
-        place: usize,
-    },
-    Good {
-        stmts: usize,
-        deep: bool,
-        long: bool,
-    },
+pub(crate) struct Body {
+    pub(crate) stmts: usize,
+    pub(crate) deep: bool,
+    pub(crate) long: bool,
 }
 
 // The statements from c on.
-pub(crate) fn judge_body(file: &[u8], c: Cursor) -> Body
+pub(crate) fn judge_body(file: &[u8], c: Cursor) -> Result<Body, Lack>
     ensures told { result ≡ summary (body_of (fuel file.now c) ∅ (tokens_at file.now c)) }
     ensures few { AtMost (length file.now) result }
 {
@@ -36,36 +32,24 @@ pub(crate) fn judge_body(file: &[u8], c: Cursor) -> Body
     loop {
         let t = token_at(file, at);
         if t.byte == 0 {
-            return Body::Good { stmts, deep, long };
+            return Ok(Body { stmts, deep, long });
         }
         if t.byte == 58 {
             at = t.next;
             continue;
         }
-        if MAX_DEPTH < depth {
-            deep = true;
-        }
+        deep |= MAX_DEPTH < depth;
         stmts += 1;
-        match action_at(file, t.byte, t.next) {
-            Action::Lacks { place } => {
-                return Body::Bad { place };
+        let action = action_at(file, t.byte, t.next)?;
+        match action.value {
+            Action::Does { word: _, count } => {
+                long |= MAX_ARGS < count;
+                at = pass_over(file, action.next);
             }
-            Action::Does {
-                word: _,
-                count,
-                rest,
-            } => {
-                if MAX_ARGS < count {
-                    long = true;
-                }
-                at = pass_over(file, rest);
-            }
-            Action::Jumps { number: _, rest: _ } => {
-                return Body::Good { stmts, deep, long };
-            }
-            Action::Holds { rest } => {
+            Action::Jumps(_) => return Ok(Body { stmts, deep, long }),
+            Action::Holds => {
                 depth += 1;
-                at = rest;
+                at = action.next;
             }
         }
     }

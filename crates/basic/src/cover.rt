@@ -13,59 +13,21 @@ pub enum Cover {
     QuotedItem,
 }
 
-// What covers the byte behind b.
+// What covers the byte behind b: a quote, REM or DATA covers what follows, and DATA runs to its colon.
 #[tactic(auto, unfolding(program_files::specs::Program::behind, crate::specs::Covers::cover_of))]
 pub(crate) fn behind(c: Cover, b: u8) -> Cover
     ensures { cover_of result ≡ behind (cover_of c) b }
 {
-    match c {
-        Cover::Uncovered => behind_uncovered(b),
-        Cover::Quoted => {
-            if b == 34 {
-                return Cover::Uncovered;
-            }
-            Cover::Quoted
-        }
-        Cover::Remark => Cover::Remark,
-        Cover::Items => behind_items(b),
-        Cover::QuotedItem => {
-            if b == 34 {
-                return Cover::Items;
-            }
-            Cover::QuotedItem
-        }
+    match (c, b) {
+        (Cover::Uncovered, 34) => Cover::Quoted,
+        (Cover::Uncovered, 143) => Cover::Remark,
+        (Cover::Uncovered, 131) => Cover::Items,
+        (Cover::Quoted, 34) => Cover::Uncovered,
+        (Cover::Items, 34) => Cover::QuotedItem,
+        (Cover::Items, 58) => Cover::Uncovered,
+        (Cover::QuotedItem, 34) => Cover::Items,
+        _ => c,
     }
-}
-
-// A quote, REM or DATA covers what follows.
-#[tactic(auto, unfolding(program_files::specs::Program::behind, crate::specs::Covers::cover_of))]
-fn behind_uncovered(b: u8) -> Cover
-    ensures { cover_of result ≡ behind (cover_of Cover.Uncovered) b }
-{
-    if b == 34 {
-        return Cover::Quoted;
-    }
-    if b == 143 {
-        return Cover::Remark;
-    }
-    if b == 131 {
-        return Cover::Items;
-    }
-    Cover::Uncovered
-}
-
-// DATA runs to its colon.
-#[tactic(auto, unfolding(program_files::specs::Program::behind, crate::specs::Covers::cover_of))]
-fn behind_items(b: u8) -> Cover
-    ensures { cover_of result ≡ behind (cover_of Cover.Items) b }
-{
-    if b == 34 {
-        return Cover::QuotedItem;
-    }
-    if b == 58 {
-        return Cover::Uncovered;
-    }
-    Cover::Items
 }
 
 // Whether a byte under this cover counts.
@@ -75,9 +37,7 @@ pub(crate) fn is_counted(c: Cover, b: u8) -> bool
 {
     match c {
         Cover::Uncovered => b != 32,
-        Cover::Quoted => false,
-        Cover::Remark => false,
         Cover::Items => b == 58,
-        Cover::QuotedItem => false,
+        Cover::Quoted | Cover::Remark | Cover::QuotedItem => false,
     }
 }

@@ -18,7 +18,7 @@ pub struct Token {
     pub next: Cursor,
 }
 
-// The next byte that counts.
+// The next byte that counts. A `for` over the places was tried: with it a file is read a tenth slower.
 pub(crate) fn counted_at(file: &[u8], c: Cursor) -> Token
     ensures { IsNext (raw_at file.now) c result }
 {
@@ -66,8 +66,8 @@ pub(crate) fn token_at(file: &[u8], c: Cursor) -> Token
         return t;
     }
     Token {
-        place: t.place,
         byte: 137,
         next: u.next,
+        ..t
     }
 }

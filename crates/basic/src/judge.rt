@@ -1,38 +1,26 @@
 // A whole file, accepted or refused.
-ghost use Rattle.std.specs.Prelude.{◌≡◌, length};
+ghost use Rattle.std.specs.Prelude.{◌≡◌};
 ghost use Rattle.program_files.specs.Program.{read_program};
-ghost use Rattle.basic.specs.Judge.{judged_of};
+ghost use Rattle.basic.specs.Judge.{judged_of, told_of};
 
-use super::lines::{Counted, Judgement, judge_line, word_at};
+use super::lines::{Counted, judge_line, word_at};
 use layout::limits::MAX_BYTES;
+use layout::refusals::{Reason, Refusal};
 
-// How many lines and statements the listing has that the file means, or the papers' number and place.
-#[derive(Clone, Copy)]
-pub enum Judged {
-    Accepted { lines: usize, stmts: usize },
-    Refused { number: u8, place: usize },
+// How many lines and statements the listing has that an accepted file means.
+#[derive(Clone, Copy, Debug, PartialEq, Eq)]
+pub struct Counts {
+    pub lines: usize,
+    pub stmts: usize,
 }
 
-// "33, the file ends early": the place is the file's length.
-fn ends_early(file: &[u8]) -> Judged
-    ensures { result ≡ Judged.Refused 33 (length file.now) }
-{
-    Judged::Refused {
-        number: 33,
-        place: file.len(),
-    }
-}
-
-// "lines are judged in order"
-pub fn judge_program(file: &[u8]) -> Judged
-    ensures { result ≡ judged_of (read_program file.now) }
+// "lines are judged in order". "33, the file ends early": the place is the file's length.
+pub fn judge_program(file: &[u8]) -> Result<Counts, Refusal>
+    ensures { told_of result ≡ judged_of (read_program file.now) }
 {
     let len = file.len();
     if MAX_BYTES < len {
-        return Judged::Refused {
-            number: 1,
-            place: 0,
-        };
+        return Err(Reason::TextTooLong.at(0));
     }
     let mut at: usize = 2;
     let mut s = Counted {
@@ -42,25 +30,19 @@ pub fn judge_program(file: &[u8]) -> Judged
     };
     loop {
         if len < at + 2 {
-            return ends_early(file);
+            return Err(Reason::EndsEarly.at(len));
         }
         if word_at(file, at) == 0 {
-            return Judged::Accepted {
+            return Ok(Counts {
                 lines: s.lines,
                 stmts: s.stmts,
-            };
+            });
         }
         if len < at + 4 {
-            return ends_early(file);
+            return Err(Reason::EndsEarly.at(len));
         }
-        match judge_line(file, at, s) {
-            Judgement::Refused { number, place } => {
-                return Judged::Refused { number, place };
-            }
-            Judgement::Taken { counted, next } => {
-                s = counted;
-                at = next;
-            }
-        }
+        let line = judge_line(file, at, s)?;
+        s = line.counted;
+        at = line.next;
     }
 }

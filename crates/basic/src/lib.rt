@@ -5,6 +5,7 @@ pub mod actions;
 mod bodies;
 pub mod cover;
 pub mod cursors;
+pub mod found;
 mod items;
 pub mod judge;
 mod lines;

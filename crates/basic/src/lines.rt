@@ -3,14 +3,16 @@ ghost use Rattle.std.specs.Prelude.{◌≡◌, ◌<◌, ◌≤◌, ◌+◌, leng
 ghost use Rattle.listings.specs.Listing.{Stmts};
 ghost use Rattle.program_files.specs.Program.{sooner};
 ghost use Rattle.program_files.specs.Program as definition;
-ghost use Rattle.basic.specs.Bodies.{AtMost, summary};
+ghost use Rattle.basic.specs.Bodies.{summary};
 ghost use Rattle.basic.specs.Cursors.{raw_at};
-ghost use Rattle.basic.specs.Lines.{LineTold, WithTold, Kept, IsCut, IsInnerLeast, IsLeast, word_at, bytes_at, with_foreign, zero_at, first_foreign, offence_of};
+ghost use Rattle.basic.specs.Lines.{LineTold, WithTold, Kept, IsCut, IsInnerLeast, IsLeast, word_at, bytes_at, with_foreign, zero_at, first_foreign, offence_of, offence_in};
 
 use super::bodies::{Body, judge_body};
 use super::cover::Cover;
 use super::cursors::{Cursor, counted_at};
+use super::found::Lack;
 use layout::limits::{MAX_LINES, MAX_STMTS};
+use layout::refusals::{Reason, Refusal};
 use tokens::scan::find;
 
 // Behind some lines: one more than the last number, or 0; how many lines and statements.
@@ -21,18 +23,11 @@ pub(crate) struct Counted {
     pub(crate) stmts: usize,
 }
 
-// The line is one more, and the next link stands at `next`; or its refusal.
+// The line is one more, and the next link stands at `next`.
 #[derive(Clone, Copy)]
-pub(crate) enum Judgement {
-    Refused { number: u8, place: usize },
-    Taken { counted: Counted, next: usize },
-}
-
-// A place, and the number that it is refused by; 0 for none.
-#[derive(Clone, Copy)]
-struct Offence {
-    place: usize,
-    number: u8,
+pub(crate) struct Taken {
+    pub(crate) counted: Counted,
+    pub(crate) next: usize,
 }
 
 // The word of two bytes at a place, the low byte first.
@@ -40,98 +35,95 @@ pub(crate) fn word_at(file: &[u8], at: usize) -> u32
     requires { at + 1 < length file.now }
     ensures { result ≡ word_at file.now at }
 {
-    file[at] as u32 + 256 * file[at + 1] as u32
+    u32::from(file[at]) + 256 * u32::from(file[at + 1])
 }
 
-// The place of the first 64 that counts from c on, or the file's length.
-fn foreign_at(file: &[u8], c: Cursor) -> usize
-    ensures { result ≡ first_foreign (length file.now) (raw_at file.now c) }
+// The place of the first 64 that counts from c on.
+fn foreign_at(file: &[u8], c: Cursor) -> Option<usize>
+    ensures { result ≡ first_foreign (raw_at file.now c) }
 {
     let mut at = c;
     loop {
         let t = counted_at(file, at);
-        if t.byte == 0 {
-            return file.len();
+        match t.byte {
+            0 => return None,
+            100 => return Some(t.place),
+            _ => at = t.next,
         }
-        if t.byte == 100 {
-            return t.place;
-        }
-        at = t.next;
     }
 }
 
 // "The first offending byte decides", and of two on one byte the lower number.
-fn sooner(place: usize, number: u8, b: Offence) -> Offence
-    requires { 0 < number }
-    ensures { offence_of result ≡ sooner (place, number) (offence_of b) }
+fn sooner(a: Refusal, b: Option<Refusal>) -> Option<Refusal>
+    ensures { offence_in result ≡ sooner (offence_of a) (offence_in b) }
 {
-    if b.number == 0 {
-        return Offence { place, number };
+    let Some(b) = b else {
+        return Some(a);
+    };
+    if b.place < a.place {
+        return Some(b);
     }
-    if b.place < place {
-        return b;
+    if a.place < b.place {
+        return Some(a);
     }
-    if place < b.place {
-        return Offence { place, number };
+    if b.reason.number() < a.reason.number() {
+        return Some(b);
     }
-    if b.number < number {
-        return b;
-    }
-    Offence { place, number }
+    Some(a)
 }
 
 // An offence, or the first 64 of the line whose link stands at `at`.
-fn or_foreign(file: &[u8], at: usize, o: Offence) -> Offence
+fn or_foreign(file: &[u8], at: usize, o: Option<Refusal>) -> Option<Refusal>
     requires { at + 3 < length file.now }
-    ensures { offence_of result ≡ with_foreign (length file.now) (first_foreign (length file.now) (bytes_at file.now at)) (offence_of o) }
+    ensures { offence_in result ≡ with_foreign (first_foreign (bytes_at file.now at)) (offence_in o) }
 {
-    let f = foreign_at(
-        file,
-        Cursor {
-            at: at + 4,
-            cover: Cover::Uncovered,
-        },
-    );
-    if f < file.len() {
-        return sooner(f, 34, o);
+    let from = Cursor {
+        at: at + 4,
+        cover: Cover::Uncovered,
+    };
+    match foreign_at(file, from) {
+        Some(place) => sooner(Reason::ForeignByte.at(place), o),
+        None => o,
     }
-    o
 }
 
 // The least offence of the line whose link stands at `at`, but for its number's. body: its statements; cut: the file ends before its zero.
-fn inner_offence(file: &[u8], at: usize, body: Body, cut: bool) -> Offence
+fn inner_offence(file: &[u8], at: usize, body: Result<Body, Lack>, cut: bool) -> Option<Refusal>
     requires inside { at + 3 < length file.now }
     requires ends { IsCut file.now at cut }
     ensures { IsInnerLeast file.now at body result }
 {
-    let mut o = Offence {
-        place: 0,
-        number: 0,
-    };
+    let mut o = None;
     if cut {
-        o = sooner(file.len(), 33, o);
+        o = Some(Reason::EndsEarly.at(file.len()));
     }
-    if let Body::Bad { place } = body {
-        o = sooner(place, 35, o);
+    if let Err(lack) = body {
+        o = sooner(Reason::Lacking.at(lack.place), o);
     }
     or_foreign(file, at, o)
 }
 
 // The least offence of that line, whose number is n.
-fn offence_at(file: &[u8], at: usize, n: u32, body: Body, cut: bool) -> Offence
+fn offence_at(
+    file: &[u8],
+    at: usize,
+    n: u32,
+    body: Result<Body, Lack>,
+    cut: bool,
+) -> Option<Refusal>
     requires inside { at + 3 < length file.now }
     requires ends { IsCut file.now at cut }
     ensures { IsLeast file.now at n body result }
 {
     let o = inner_offence(file, at, body, cut);
     if 63999 < n {
-        return sooner(at + 2, 35, o);
+        return sooner(Reason::Lacking.at(at + 2), o);
     }
     o
 }
 
 // The line whose link, not 0, stands at `at`, behind others. Its place in a refusal by 4 to 8 is its index.
-pub(crate) fn judge_line(file: &[u8], at: usize, s: Counted) -> Judgement
+pub(crate) fn judge_line(file: &[u8], at: usize, s: Counted) -> Result<Taken, Refusal>
     requires inside { at + 3 < length file.now }
     requires little { s.stmts ≤ 4096 }
     requires linked { word_at file.now at ≡ 0 → ⊥ }
@@ -149,61 +141,41 @@ pub(crate) fn judge_line(file: &[u8], at: usize, s: Counted) -> Judgement
         },
     );
     let zero = find(&file[from..], 0);
-    let o = offence_at(file, at, n, body, from + zero == file.len());
-    if o.number != 0 {
-        return Judgement::Refused {
-            number: o.number,
-            place: o.place,
-        };
+    if let Some(offence) = offence_at(file, at, n, body, from + zero == file.len()) {
+        return Err(offence);
     }
-    with_line(n, body, from + zero + 1, s)
+    with_line(n, body?, from + zero + 1, s)
 }
 
 // "within a line 4 to 8 come after 33 to 35, lowest first"
-fn with_line(n: u32, body: Body, next: usize, s: Counted) -> Judgement
+fn with_line(n: u32, body: Body, next: usize, s: Counted) -> Result<Taken, Refusal>
     requires number { n ≤ 65535 }
-    requires few { AtMost 65536 body }
+    requires few { body.stmts ≤ 65536 }
     requires little { s.stmts ≤ 4096 }
-    ensures told { (st : Stmts) → body ≡ summary (definition.body st) → WithTold s n st result }
+    ensures told { (st : Stmts) → Ok body ≡ summary (definition.body st) → WithTold s n st result }
     ensures kept { Kept next result }
 {
-    let Body::Good { stmts, deep, long } = body else {
-        return Judgement::Refused {
-            number: 35,
-            place: 0,
-        };
-    };
     if n < s.last {
-        return refused(4, s);
+        return Err(Reason::LineOrder.at(s.lines));
     }
     if MAX_LINES <= s.lines {
-        return refused(5, s);
+        return Err(Reason::TooManyLines.at(s.lines));
     }
-    if MAX_STMTS < s.stmts + stmts {
-        return refused(6, s);
+    if MAX_STMTS < s.stmts + body.stmts {
+        return Err(Reason::TooManyStatements.at(s.lines));
     }
-    if deep {
-        return refused(7, s);
+    if body.deep {
+        return Err(Reason::TooDeep.at(s.lines));
     }
-    if long {
-        return refused(8, s);
+    if body.long {
+        return Err(Reason::TooWide.at(s.lines));
     }
-    Judgement::Taken {
+    Ok(Taken {
         counted: Counted {
             last: n + 1,
             lines: s.lines + 1,
-            stmts: s.stmts + stmts,
+            stmts: s.stmts + body.stmts,
         },
         next,
-    }
-}
-
-// A refusal of a whole line has its index for a place.
-fn refused(number: u8, s: Counted) -> Judgement
-    ensures { result ≡ Judgement.Refused number s.lines }
-{
-    Judgement::Refused {
-        number,
-        place: s.lines,
-    }
+    })
 }

@@ -4,10 +4,10 @@ ghost use Rattle.listings.specs.Records.{name_key};
 ghost use Rattle.listings.specs.Rows.{is_capital, is_digit};
 ghost use Rattle.program_files.specs.Program.{map_found, name};
 ghost use Rattle.basic.specs.Cursors.{tokens_at};
-ghost use Rattle.basic.specs.Numbers.{found_by};
+ghost use Rattle.basic.specs.Found.{found_by};
 
 use super::cursors::{Cursor, token_at};
-use super::numbers::Found;
+use super::found::{Found, Lack};
 use tokens::numbers::is_digit;
 
 // Below this weight a character is one of the two that the cut keeps.
@@ -25,10 +25,7 @@ pub(crate) fn is_capital(b: u8) -> bool
 fn is_character(b: u8) -> bool
     ensures { result ≡ (is_capital b || is_digit b) }
 {
-    if is_capital(b) {
-        return true;
-    }
-    is_digit(b)
+    is_capital(b) || is_digit(b)
 }
 
 // `%` or `$`.
@@ -39,33 +36,30 @@ fn is_kind(b: u8) -> bool
 }
 
 // The key of the name at c: of its first two characters and its kind.
-pub(crate) fn key_at(file: &[u8], c: Cursor) -> Found
+pub(crate) fn key_at(file: &[u8], c: Cursor) -> Result<Found<u64>, Lack>
     ensures { found_by (tokens_at file.now) result ≡ map_found name_key (name (tokens_at file.now c)) }
 {
     let mut t = token_at(file, c);
     if !is_capital(t.byte) {
-        return Found::Lacks { place: t.place };
+        return Err(Lack { place: t.place });
     }
     // The weight of the next byte that the cut keeps, and whether the second character is still to come.
     let mut weight: u64 = 1;
     let mut key: u64 = 0;
-    let mut at = c;
+    let mut next = c;
     while is_character(t.byte) {
         if weight < KEPT {
-            key += weight * (t.byte as u64 - 32);
+            key += weight * u64::from(t.byte - 32);
             weight *= 64;
         }
-        at = t.next;
-        t = token_at(file, at);
+        next = t.next;
+        t = token_at(file, next);
     }
     if is_kind(t.byte) {
-        return Found::Value {
-            value: key + weight * (t.byte as u64 - 32),
+        return Ok(Found {
+            value: key + weight * u64::from(t.byte - 32),
             next: t.next,
-        };
+        });
     }
-    Found::Value {
-        value: key,
-        next: at,
-    }
+    Ok(Found { value: key, next })
 }

@@ -2,7 +2,6 @@
 ghost use Rattle.std.specs.Prelude.{◌≡◌, ◌≤◌, ◌<◌, ◌+◌, ◌*◌, ℕ, suc, List, [], ◌∷◌, length};
 ghost use Rattle.listings.specs.Rows.{end_row};
 ghost use Rattle.basic.specs.Cursors.{tokens_at};
-ghost use Rattle.basic.specs.Lines.{word_at};
 ghost use Rattle.basic.specs.Rows.{Yields, StartsRows, FirstOf, IsDue, ends_then, lines_at, lines_behind, statements_at, action_rows};
 ghost use Rattle.basic.specs.Rests.{zero_at, Ordered};
 
@@ -12,19 +11,6 @@ use super::cursors::{Cursor, token_at};
 use super::lines::word_at;
 use super::sources::{FileRow, Source, Sourced, Stage};
 use tokens::scan::find;
-
-// The link or number word at a place, 0 where the file ends before it.
-fn word_or_none(file: &[u8], at: usize) -> u32
-    ensures { (at + 1 < length file.now → result ≡ word_at file.now at) × (length file.now ≤ at + 1 → result ≡ 0) }
-{
-    if file.len() <= 1 {
-        return 0;
-    }
-    if file.len() - 1 <= at {
-        return 0;
-    }
-    word_at(file, at)
-}
 
 // Before the first row of a file.
 pub fn first_row() -> Source
@@ -37,7 +23,6 @@ pub fn first_row() -> Source
             cover: Cover::Uncovered,
         },
         ends: 1,
-        number: 0,
     }
 }
 
@@ -49,7 +34,6 @@ fn staged(s: Source, stage: Stage) -> Source
         stage,
         at: s.at,
         ends: s.ends,
-        number: s.number,
     }
 }
 
@@ -66,7 +50,6 @@ fn module_end() -> Sourced
                 cover: Cover::Uncovered,
             },
             ends: 0,
-            number: 0,
         },
     }
 }
@@ -75,10 +58,8 @@ fn module_end() -> Sourced
 fn line_row_at(file: &[u8], at: usize) -> Sourced
     ensures { FirstOf file.now (lines_at file.now at) result }
 {
-    if word_or_none(file, at) == 0 {
-        return module_end();
-    }
-    if file.len() - at < 4 {
+    let left = file.len().saturating_sub(at);
+    if left < 4 || word_at(file, at) == 0 {
         return module_end();
     }
     Sourced {
@@ -90,7 +71,6 @@ fn line_row_at(file: &[u8], at: usize) -> Sourced
                 cover: Cover::Uncovered,
             },
             ends: 1,
-            number: 0,
         },
     }
 }
@@ -109,11 +89,9 @@ fn link_behind(file: &[u8], c: Cursor) -> usize
 fn end_row_at(file: &[u8], s: Source) -> Sourced
     ensures { FirstOf file.now (ends_then s.ends (lines_behind file.now s.at)) result }
 {
-    if s.ends == 0 {
-        return line_row_at(file, link_behind(file, s.at));
-    }
-    if s.ends == 1 {
-        return Sourced {
+    match s.ends {
+        0 => line_row_at(file, link_behind(file, s.at)),
+        1 => Sourced {
             row: FileRow::End,
             next: Source {
                 stage: Stage::Line,
@@ -122,17 +100,15 @@ fn end_row_at(file: &[u8], s: Source) -> Sourced
                     cover: Cover::Uncovered,
                 },
                 ends: 0,
-                number: 0,
             },
-        };
-    }
-    Sourced {
-        row: FileRow::End,
-        next: Source {
-            stage: Stage::Ends,
-            at: s.at,
-            ends: s.ends - 1,
-            number: 0,
+        },
+        _ => Sourced {
+            row: FileRow::End,
+            next: Source {
+                stage: Stage::Ends,
+                at: s.at,
+                ends: s.ends - 1,
+            },
         },
     }
 }
@@ -144,13 +120,11 @@ fn statement_row_at(file: &[u8], s: Source) -> Sourced
     let mut at = s.at;
     loop {
         let t = token_at(file, at);
-        if t.byte == 0 {
-            return end_row_at(file, s);
+        match t.byte {
+            0 => return end_row_at(file, s),
+            58 => at = t.next,
+            byte => return action_row(file, byte, t.next, s),
         }
-        if t.byte != 58 {
-            return action_row(file, t.byte, t.next, s);
-        }
-        at = t.next;
     }
 }
 
@@ -161,34 +135,36 @@ fn action_row(file: &[u8], b: u8, at: Cursor, s: Source) -> Sourced
     requires later { Ordered (suc s.at.at) (length file.now) (tokens_at file.now at) }
     ensures { FirstOf file.now (action_rows file.now b at s) result }
 {
-    match action_at(file, b, at) {
-        Action::Lacks { place: _ } => end_row_at(file, s),
-        Action::Does { word, count, rest } => Sourced {
+    let Ok(action) = action_at(file, b, at) else {
+        return end_row_at(file, s);
+    };
+    match action.value {
+        Action::Does { word, count } => Sourced {
             row: FileRow::Simple {
                 word,
                 count,
                 byte: b,
                 at,
             },
-            next: due(file, Stage::Statements, pass_over(file, rest), s, 0, 0),
+            next: due(file, Stage::Statements, pass_over(file, action.next), s, 0),
         },
-        Action::Jumps { number, rest } => Sourced {
+        Action::Jumps(number) => Sourced {
             row: FileRow::If,
-            next: due(file, Stage::To, rest, s, 1, number),
+            next: due(file, Stage::To(number), action.next, s, 1),
         },
-        Action::Holds { rest } => Sourced {
+        Action::Holds => Sourced {
             row: FileRow::If,
-            next: due(file, Stage::Stmts, rest, s, 2, 0),
+            next: due(file, Stage::Stmts, action.next, s, 2),
         },
     }
 }
 
 // What is due behind a statement's row, with so many more rows `)`. It begins where the next byte counts: that place is known to be a later one.
-fn due(file: &[u8], stage: Stage, c: Cursor, s: Source, more: usize, number: u16) -> Source
+fn due(file: &[u8], stage: Stage, c: Cursor, s: Source, more: usize) -> Source
     requires inside { s.at.at < length file.now }
     requires few { more ≤ 2 }
     requires later { Ordered (suc s.at.at) (length file.now) (tokens_at file.now c) }
-    ensures { IsDue file.now stage c (s.ends + more) number result }
+    ensures { IsDue file.now stage c (s.ends + more) result }
 {
     let t = token_at(file, c);
     Source {
@@ -198,33 +174,29 @@ fn due(file: &[u8], stage: Stage, c: Cursor, s: Source, more: usize, number: u16
             cover: Cover::Uncovered,
         },
         ends: s.ends + more,
-        number,
     }
 }
 
 // The row that is due, and what is due behind it.
-pub fn row_at(file: &[u8], s: Source) -> Sourced
-    ensures { Yields file.now s result result.row }
+pub fn row_at(file: &[u8], s: Source) -> Option<Sourced>
+    ensures { Yields file.now s result }
 {
     match s.stage {
-        Stage::Module => Sourced {
+        Stage::Module => Some(Sourced {
             row: FileRow::Module,
             next: staged(s, Stage::Line),
-        },
-        Stage::Line => line_row_at(file, s.at.at),
-        Stage::Statements => statement_row_at(file, s),
-        Stage::To => Sourced {
-            row: FileRow::To(s.number),
+        }),
+        Stage::Line => Some(line_row_at(file, s.at.at)),
+        Stage::Statements => Some(statement_row_at(file, s)),
+        Stage::To(number) => Some(Sourced {
+            row: FileRow::To(number),
             next: staged(s, Stage::Ends),
-        },
-        Stage::Stmts => Sourced {
+        }),
+        Stage::Stmts => Some(Sourced {
             row: FileRow::Stmts,
             next: staged(s, Stage::Statements),
-        },
-        Stage::Ends => end_row_at(file, s),
-        Stage::Ended => Sourced {
-            row: FileRow::Nothing,
-            next: s,
-        },
+        }),
+        Stage::Ends => Some(end_row_at(file, s)),
+        Stage::Ended => None,
     }
 }

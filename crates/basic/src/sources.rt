@@ -3,25 +3,25 @@ ghost use Rattle.std.specs.Prelude.{◌≤◌, ◌+◌, ◌*◌};
 
 use super::cursors::Cursor;
 
-// What is due next: the module's row, a line or the module's end, a statement or the end of its list, the row of a jump branch, `(stmts`, rows `)`, nothing.
+// What is due next: the module's row, a line or the module's end, a statement or the end of its list, the row of a jump branch to a number, `(stmts`, rows `)`,
+// nothing.
 #[derive(Clone, Copy)]
 pub enum Stage {
     Module,
     Line,
     Statements,
-    To,
+    To(u16),
     Stmts,
     Ends,
     Ended,
 }
 
-// ends: how many rows `)` are due where the line ends: one for the line, two for each THEN that holds the rest of it. number: that of a jump branch.
+// ends: how many rows `)` are due where the line ends: one for the line, two for each THEN that holds the rest of it.
 #[derive(Clone, Copy)]
 pub struct Source {
     pub stage: Stage,
     pub at: Cursor,
     pub ends: usize,
-    pub number: u16,
     // Two for each THEN, and a THEN is a byte that stands before `at`.
     ghost few: { ends ≤ 2 * at.at + 1 },
 }
@@ -30,7 +30,6 @@ pub struct Source {
 // that stands; `(if`, `(to N)`, `(stmts`, `)`.
 #[derive(Clone, Copy)]
 pub enum FileRow {
-    Nothing,
     Module,
     Line(u16),
     Simple {

@@ -1,3 +1,4 @@
 pub mod BuildNumbers
 pub mod QuestionNumbers
 pub mod VerdictNumbers
+pub mod DoneNumbers

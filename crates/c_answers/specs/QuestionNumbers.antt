@@ -1,20 +1,14 @@
 -- What the C functions over the questions return and write. Assumes nothing.
-use Rattle.std.specs.Prelude.{ℕ, ◌≡◌, List, [], ◌∷◌, length}
-use Rattle.std.proofs.Common.{◌∙◌, ap}
+use Rattle.std.specs.Prelude.{ℕ, ◌≡◌, List, [], ◌∷◌, length, Result, Ok, Err}
+use Rattle.std.specs.Prelude as std
+use Rattle.std.proofs.Common.{subst}
 use Rattle.std.proofs.Math.Option.{Option, none, some}
+use Rattle.layout.specs.declared.refusals.Refusal.{Refusal}
+use Rattle.layout.specs.Refusals.{number_of}
 use Rattle.graph.specs.Questions.{Reply, answer, refused}
-use Rattle.adjacency.specs.ListsAt.{asked_of}
-use Rattle.adjacency.specs.EntryAt.{entered_of}
-use Rattle.statements.specs.StatementAt.{stated_of}
-use Rattle.frame_slices.specs.FrameAnswer.{framed_of, slice_after}
-use Rattle.adjacency.specs.declared.successors.Asked.{Asked}
-use Rattle.adjacency.specs.declared.successors.Asked.TheVariants as asked
-use Rattle.adjacency.specs.declared.entry.Entered.{Entered}
-use Rattle.adjacency.specs.declared.entry.Entered.TheVariants as entered
-use Rattle.statements.specs.declared.statement.Stated.{Stated}
-use Rattle.statements.specs.declared.statement.Stated.TheVariants as stated
-use Rattle.frame_slices.specs.declared.slices.Framed.{Framed}
-use Rattle.frame_slices.specs.declared.slices.Framed.TheVariants as framed
+use Rattle.tables.specs.Told.{told, told_by}
+use Rattle.adjacency.specs.EntryAt.{node_of}
+use Rattle.frame_slices.specs.FrameAnswer.{length_of, slice_after}
 
 -- document 01's number, 0 for an answer; and two entries, a refusal's place and 0 or what is answered
 
@@ -48,61 +42,17 @@ pub record ListNumbered (q : Reply (List ℕ)) (out out' : List ℕ) (number : �
   pub answered : Numbered length_words q number words
   pub slice : out' ≡ slice_after q out
 
--- ---- the same for each case of a routine's answer
-
-abbrev pub asked_code : Asked → ℕ
-asked_code (asked.Part s k) = 0
-asked_code (asked.Refused n p) = n
-
-abbrev pub asked_words : Asked → List ℕ
-asked_words (asked.Part s k) = s ∷ k ∷ []
-asked_words (asked.Refused n p) = p ∷ 0 ∷ []
-
-abbrev pub stated_code : Stated → ℕ
-stated_code (stated.Stmt i w) = 0
-stated_code (stated.Refused n p) = n
-
-abbrev pub stated_words : Stated → List ℕ
-stated_words (stated.Stmt i w) = i ∷ w ∷ []
-stated_words (stated.Refused n p) = p ∷ 0 ∷ []
-
-abbrev pub entered_code : Entered → ℕ
-entered_code (entered.Node i) = 0
-entered_code entered.Nowhere = 0
-entered_code (entered.Refused n p) = n
-
-abbrev pub entered_words : Entered → List ℕ
-entered_words (entered.Node i) = i ∷ 1 ∷ []
-entered_words entered.Nowhere = 0 ∷ 0 ∷ []
-entered_words (entered.Refused n p) = p ∷ 0 ∷ []
-
-abbrev pub framed_code : Framed → ℕ
-framed_code (framed.Listed k) = 0
-framed_code (framed.Refused n p) = n
-
-abbrev pub framed_words : Framed → List ℕ
-framed_words (framed.Listed k) = k ∷ 0 ∷ []
-framed_words (framed.Refused n p) = p ∷ 0 ∷ []
-
 -- ---- the answer to a question, then told
 
-pub asked-numbered : (q : Reply (ℕ × ℕ)) {x : Asked} {r : ℕ} {l : List ℕ} → x ≡ asked_of q → (r ≡ asked_code x) × (l ≡ asked_words x) → Numbered pair_words q r l
-unfolding asked_of code_of words_of pair_words
-asked-numbered (answer d) h g = record { number_is = g.0 ∙ ap asked_code h; words_are = g.1 ∙ ap asked_words h }
-asked-numbered (refused n p) h g = record { number_is = g.0 ∙ ap asked_code h; words_are = g.1 ∙ ap asked_words h }
+pub numbered_as : {A : Type 0} {f : A → List ℕ} (q p : Reply A) {n : ℕ} {w : List ℕ} → q ≡ p → Numbered f q n w → Numbered f p n w
+numbered_as {A} {f} q p {n} {w} e g = subst (λ (z : Reply A). Numbered f z n w) e g
 
-pub stated_numbered : (q : Reply (ℕ × ℕ)) {x : Stated} {r : ℕ} {l : List ℕ} → x ≡ stated_of q → (r ≡ stated_code x) × (l ≡ stated_words x) → Numbered pair_words q r l
-unfolding stated_of code_of words_of pair_words
-stated_numbered (answer d) h g = record { number_is = g.0 ∙ ap stated_code h; words_are = g.1 ∙ ap stated_words h }
-stated_numbered (refused n p) h g = record { number_is = g.0 ∙ ap stated_code h; words_are = g.1 ∙ ap stated_words h }
+pub entry_numbered : (r : Result (std.Option ℕ) Refusal) (q : Reply (Option ℕ)) {n : ℕ} {w : List ℕ} → told_by node_of r ≡ q → Numbered (λ x. entry_words (node_of x)) (told r) n w → Numbered entry_words q n w
+unfolding code_of words_of
+entry_numbered (Ok x) q e g = numbered_as (answer (node_of x)) q e (record { number_is = g.number_is; words_are = g.words_are })
+entry_numbered (Err x) q e g = numbered_as (refused (number_of x.reason) x.place) q e (record { number_is = g.number_is; words_are = g.words_are })
 
-pub entered_numbered : (q : Reply (Option ℕ)) {x : Entered} {r : ℕ} {l : List ℕ} → x ≡ entered_of q → (r ≡ entered_code x) × (l ≡ entered_words x) → Numbered entry_words q r l
-unfolding entered_of code_of words_of entry_words
-entered_numbered (answer none) h g = record { number_is = g.0 ∙ ap entered_code h; words_are = g.1 ∙ ap entered_words h }
-entered_numbered (answer (some i)) h g = record { number_is = g.0 ∙ ap entered_code h; words_are = g.1 ∙ ap entered_words h }
-entered_numbered (refused n p) h g = record { number_is = g.0 ∙ ap entered_code h; words_are = g.1 ∙ ap entered_words h }
-
-pub framed_numbered : (q : Reply (List ℕ)) {x : Framed} {r : ℕ} {l : List ℕ} → x ≡ framed_of q → (r ≡ framed_code x) × (l ≡ framed_words x) → Numbered length_words q r l
-unfolding framed_of code_of words_of length_words
-framed_numbered (answer d) h g = record { number_is = g.0 ∙ ap framed_code h; words_are = g.1 ∙ ap framed_words h }
-framed_numbered (refused n p) h g = record { number_is = g.0 ∙ ap framed_code h; words_are = g.1 ∙ ap framed_words h }
+pub length_numbered : (r : Result ℕ Refusal) (q : Reply (List ℕ)) {n : ℕ} {w : List ℕ} → told r ≡ length_of q → Numbered (λ k. k ∷ 0 ∷ []) (told r) n w → Numbered length_words q n w
+unfolding length_of code_of words_of length_words
+length_numbered r (answer l) e g = let h = numbered_as (told r) (answer (length l)) e g in record { number_is = h.number_is; words_are = h.words_are }
+length_numbered r (refused m p) e g = let h = numbered_as (told r) (refused m p) e g in record { number_is = h.number_is; words_are = h.words_are }

@@ -1,21 +1,21 @@
-// The answer of a build.
+// The answer of a build or of a check, which is only whether it is refused.
 ghost use Rattle.std.specs.Prelude.{◌≡◌};
-ghost use Rattle.c_answers.specs.BuildNumbers.{built_number, built_place};
+ghost use Rattle.c_answers.specs.DoneNumbers.{done_number, done_place};
 
-use wiring::build::Built;
+use layout::refusals::Refusal;
 
-// What `build` answered, as a number and a place.
-pub fn number_of_build(built: Built, place: &mut [usize; 1]) -> u8
-    ensures { (result ≡ built_number built) × (place.new ≡ built_place built) }
+// 0 and 0; or document 01's number, and the place.
+pub fn number_of_done(done: Result<(), Refusal>, place: &mut [usize; 1]) -> u8
+    ensures { (result ≡ done_number done) × (place.new ≡ done_place done) }
 {
-    match built {
-        Built::Graph => {
+    match done {
+        Ok(()) => {
             *place = [0];
             0
         }
-        Built::Refused { number, place: at } => {
-            *place = [at];
-            number
+        Err(refusal) => {
+            *place = [refusal.place];
+            refusal.reason.number()
         }
     }
 }

@@ -2,8 +2,4 @@
 #![tactic(auto)]
 
 pub mod build;
-pub mod entry;
-pub mod frame;
-pub mod statement;
-pub mod successors;
-pub mod verdict;
+pub mod question;

@@ -4,26 +4,32 @@ ghost use Rattle.comparing.specs.Judging.{start};
 ghost use Rattle.comparing.specs.Comparing.{same, fed};
 ghost use Rattle.comparing.specs.ComparingStates.{standing_of, verdict_of};
 ghost use Rattle.passes.specs.TableForms.{sizes_of};
+ghost use Rattle.wiring.specs.BuiltAnswer.{built_told};
 ghost use Rattle.checking.specs.Checking.{concluded, GraphChecked};
 
-use comparing::compare::{Comparing, Verdict, begin, feed, rule};
+use comparing::compare::{Comparing, begin, feed, rule};
+use layout::refusals::Refusal;
 use printing::list::list_graph;
-use wiring::build::Built;
 
 // The graph given ends: the listing's refusal, whatever was given, or what the comparison says.
-pub fn conclude(built: Built, s: Comparing, due: &[u8]) -> Verdict
-    ensures { verdict_of result ≡ concluded built (standing_of s) due.now }
+pub fn conclude(built: Result<(), Refusal>, s: Comparing, due: &[u8]) -> Result<(), Refusal>
+    ensures { verdict_of result ≡ concluded (built_told built) (standing_of s) due.now }
 {
     match built {
-        Built::Refused { number, place } => Verdict::Wrong { number, place },
-        Built::Graph => rule(s, due),
+        Err(refusal) => Err(refusal),
+        Ok(()) => rule(s, due),
     }
 }
 
 // The graph given beside the one due, the first n bytes of a page.
-fn check_page(built: Built, page: &[u8], n: usize, graph: &[u8]) -> Verdict
+fn check_page(
+    built: Result<(), Refusal>,
+    page: &[u8],
+    n: usize,
+    graph: &[u8],
+) -> Result<(), Refusal>
     requires { n ≤ length page.now }
-    ensures { verdict_of result ≡ concluded built (fed (take n page.now) (same 0 start) graph.now) (take n page.now) }
+    ensures { verdict_of result ≡ concluded (built_told built) (fed (take n page.now) (same 0 start) graph.now) (take n page.now) }
 {
     let due = &page[..n];
     let s = feed(begin(), due, graph);
@@ -46,7 +52,7 @@ pub fn check_graph(
     succ: &mut [u16],
     pred: &mut [u16],
     page: &mut [u8; 1048576],
-) -> Verdict
+) -> Result<(), Refusal>
     ensures { GraphChecked text.now graph.now (sizes_of lines.old stmts.old args.old entries.old falls.old links.old lists.old returns.old succ.old pred.old) counts.new lines.new stmts.new args.new entries.new falls.new links.new lists.new returns.new succ.new pred.new page.old page.new result }
 {
     let listed = list_graph(

@@ -1,16 +1,15 @@
 // A verdict as a row.
 ghost use Rattle.checking.specs.Checking.{RowShown};
 
-use comparing::compare::Verdict;
-use formatting::print_numbers::put_bytes;
-use formatting::print_rows::put_refusal;
+use formatting::page::{print_bytes, print_refusal};
+use layout::refusals::Refusal;
 
 // The row that is printed for a verdict.
-pub fn show_verdict(out: &mut [u8; 64], v: Verdict) -> usize
-    ensures { RowShown out.old out.new result v }
+pub fn show_verdict(out: &mut [u8; 64], verdict: Result<(), Refusal>) -> usize
+    ensures { RowShown out.old out.new result verdict }
 {
-    match v {
-        Verdict::Right => put_bytes(out, 0, b"(right)\n"),
-        Verdict::Wrong { number, place } => put_refusal(out, 0, number as usize, place),
+    match verdict {
+        Ok(()) => print_bytes(out, b"(right)\n"),
+        Err(refusal) => print_refusal(out, refusal),
     }
 }

@@ -1,27 +1,30 @@
 -- What the states of a comparison stand for, and what its answer says. Assumes nothing.
-use Rattle.std.specs.Prelude.{ℕ, suc, ◌+◌, ◌<◌, ◌≤◌, ◌≡◌, Bool, true, false, eqb, length, take, drop, get_or}
-use Rattle.std.proofs.Math.Path.{sym, ap}
-use Rattle.std.proofs.Common.{◌∙◌, arith, add-one, drop_of_length-le, drop-cons, take-suc}
+use Rattle.std.specs.Prelude.{Result, Ok, Err, ℕ, suc, ◌+◌, ◌<◌, ◌≤◌, ◌≡◌, cond, Bool, true, false, eqb, length, take, drop, get_or}
+use Rattle.std.proofs.Math.Path.{refl, sym, ap}
+use Rattle.std.specs.List.{filter}
+use Rattle.std.proofs.Common.{◌∙◌, add-one, drop_of_length-le, drop-cons, take-suc}
 use mathlib.Core.List.{List, [], ◌∷◌}
 use Rattle.listings.specs.Bytes.{pick}
 use Rattle.graph.specs.Check as check
-use Rattle.comparing.specs.Comparing.{Standing, same, differs, ended, begins, fed_byte, fed, rows_ended, nothing}
-use Rattle.comparing.specs.ComparingLaws.{fed-append, rows_more}
+use Rattle.comparing.specs.Comparing.{Standing, same, differs, ended, begins, fed_byte, fed, rows_ended, is_start, nothing}
+use Rattle.comparing.specs.ComparingLaws.{fed-append}
 use Rattle.comparing.specs.JudgeStates.{reading_of}
+use Rattle.comparing.specs.declared.judge.Judge.{Judge}
+use Rattle.comparing.specs.declared.judge.Judge.TheVariants.{Start, Opened, Lost, Outside, Begins, Inside}
 use Rattle.comparing.specs.declared.compare.Comparing.{Comparing}
 use Rattle.comparing.specs.declared.compare.Comparing.TheVariants.{Same, Differs, Ended}
-use Rattle.comparing.specs.declared.compare.Verdict.{Verdict}
-use Rattle.comparing.specs.declared.compare.Verdict.TheVariants.{Right, Wrong}
+use Rattle.layout.specs.declared.refusals.Refusal.{Refusal}
+use Rattle.layout.specs.Refusals.{number_of}
 
 unfoldable pub standing_of : Comparing → Standing
 standing_of (Same at j) = same at (reading_of j)
 standing_of (Differs at j) = differs at (reading_of j)
-standing_of (Ended n at) = ended n at
+standing_of (Ended k at) = ended (number_of k) at
 
 -- the number and the place of each verdict
-unfoldable pub verdict_of : Verdict → check.Verdict
-verdict_of Right = check.right
-verdict_of (Wrong n p) = check.wrong n p
+unfoldable pub verdict_of : Result (Unit {0}) Refusal → check.Verdict
+verdict_of (Ok u) = check.right
+verdict_of (Err r) = check.wrong (number_of r.reason) r.place
 
 -- ---- the byte due
 
@@ -48,12 +51,22 @@ pub fed_more : (due : List ℕ) (s : Standing) (g : List ℕ) (i : ℕ) → i < 
 unfolding fed
 fed_more due s g i h = sym (ap (λ (n : ℕ). fed due s (take n g)) (add-one i) ∙ ap (fed due s) (take-suc g i 0 h) ∙ fed-append due s (take i g) (get_or g i 0 ∷ []))
 
-pub rows_next : (t : List ℕ) (i n m : ℕ) → i < length t → n ≡ rows_ended (take i t) → m ≡ pick (eqb (get_or t i 0) 10) 1 0 → n + m ≡ rows_ended (take (i + 1) t)
-rows_next t i n m h e q =
-    let z : rows_ended (take (i + 1) t) ≡ pick (eqb (get_or t i 0) 10) (suc (rows_ended (take i t))) (rows_ended (take i t)) =
-    ap (λ (k : ℕ). rows_ended (take k t)) (add-one i) ∙ ap rows_ended (take-suc t i 0 h) ∙ rows_more (take i t) (get_or t i 0) in
-    go (eqb (get_or t i 0) 10) q z
+-- the bytes 10 end rows
+pub rows_counted : (t : List ℕ) → length (filter (λ b. eqb b 10) t) ≡ rows_ended t
+unfolding rows_ended
+rows_counted [] = refl
+rows_counted (b ∷ t) = go (eqb b 10) (rows_counted t)
   where
-    go : (x : Bool) → m ≡ pick x 1 0 → rows_ended (take (i + 1) t) ≡ pick x (suc (rows_ended (take i t))) (rows_ended (take i t)) → n + m ≡ rows_ended (take (i + 1) t)
-    go true p k = omega arith
-    go false p k = omega arith
+    go : (x : Bool) → length (filter (λ c. eqb c 10) t) ≡ rows_ended t → length (cond x (b ∷ filter (λ c. eqb c 10) t) (filter (λ c. eqb c 10) t)) ≡ pick x (suc (rows_ended t)) (rows_ended t)
+    go true e = ap suc e
+    go false e = e
+
+-- whatever a judge has met but nothing
+pub begun_lem : (j : Judge) → (j ≡ Start → ⊥) → false ≡ is_start (reading_of j)
+unfolding is_start reading_of
+begun_lem Start n = absurd (n refl)
+begun_lem Opened n = refl
+begun_lem Lost n = refl
+begun_lem (Outside p) n = refl
+begun_lem (Begins p) n = refl
+begun_lem (Inside v p) n = refl

@@ -1,16 +1,20 @@
 -- What the states of the judge stand for. Assumes nothing.
-use Rattle.std.specs.Prelude.{ℕ, suc, ◌+◌, ◌-◌, ◌*◌, ◌<◌, ◌≤◌, ◌≡◌, Bool, ◌&&◌, ◌||◌, not, ltb, length, drop, get_or}
+use Rattle.std.specs.Prelude.{ℕ, suc, cond, ◌+◌, ◌-◌, ◌*◌, ◌<◌, ◌≤◌, ◌≡◌, Bool, ◌&&◌, ◌||◌, ◌⊎◌, not, ltb, length, drop}
 use Rattle.std.proofs.Math.Path.{refl, sym, ap}
-use Rattle.std.proofs.Common.{◌∙◌, arith, add-one, drop_of_length-le, drop-cons}
+use Rattle.std.proofs.Common.{◌∙◌, inl, inr, arith}
 use mathlib.Core.List.{List, [], ◌∷◌}
 use Rattle.std.proofs.Math.Bool.{true, false, and-false}
 use Rattle.std.proofs.Math.Option.{none, some}
-use borrow.Author.Tests.{lt-ltb, le-ltb, le-leb, lt-leb, eq-eqb, ne_eqb, eqb-true, not-true, not-false}
+use Rattle.std.specs.List.{list_all, position_or_len}
+use Rattle.std.proofs.Common.{Option as StdOption, Some, None, length-take}
+use Rattle.std.specs.Option.{unwrap_or}
+use Rattle.std.proofs.lemmas.List.Folds.{length-prefix_len}
+use borrow.Author.Tests.{lt-ltb, le-ltb, le-leb, lt-leb, ltb-false, eq-eqb, ne_eqb, eqb-true, not-true, not-false}
 use Rattle.std.proofs.Math.Dec.{eqb}
 use Rattle.listings.specs.Bytes.{pick}
 use Rattle.listings.specs.Rows.{is_digit}
-use Rattle.listings.specs.Tests.{not_both, both_true}
-use Rattle.graph.specs.Check.{row_forms, outside, begins, inside, begun, outside_step, digit_step, may_end}
+use Rattle.listings.specs.Tests.{not_both}
+use Rattle.graph.specs.Check.{outside, begins, inside, begun, outside_step, digit_step, may_end}
 use Rattle.comparing.specs.Judging.{Reading, start, opened, lost, beside, stepped_to}
 use Rattle.comparing.specs.declared.judge.Place.{Place}
 use Rattle.comparing.specs.declared.judge.Judge.{Judge}
@@ -18,7 +22,7 @@ use Rattle.comparing.specs.declared.judge.Judge.TheVariants.{Start, Opened, Lost
 
 -- what is left of the form
 unfoldable pub left_of : Place → List ℕ
-left_of p = let f = drop p.at (get_or row_forms p.form []) in pick p.list (42 ∷ f) f
+left_of p = pick p.list (42 ∷ p.left.now) p.left.now
 
 unfoldable pub reading_of : Judge → Reading
 reading_of Start = start
@@ -32,10 +36,10 @@ reading_of (Inside v p) = beside (inside v, left_of p)
 unfoldable pub passes : ℕ → ℕ → Bool
 passes c b = pick (eqb c 42) (not (eqb b 32)) (pick (eqb c 37) (not (is_digit b)) false)
 
--- from `at` to r the form f has only such lists; there it ends, or something else stands
-pub record Passed (f : List ℕ) (b at r : ℕ) : Type 0 where
-  pub step_is : outside_step (drop at f) b ≡ outside_step (drop r f) b
-  pub stops : r < length f → passes (get_or f r 0) b ≡ false
+-- r is what is left of the form f behind such lists
+pub record Passed (f : List ℕ) (b : ℕ) (r : List ℕ) : Type 0 where
+  pub step_is : outside_step f b ≡ outside_step r b
+  pub stops : (c : ℕ) (t : List ℕ) → r ≡ c ∷ t → passes c b ≡ false
 
 -- ---- numbers
 
@@ -110,96 +114,101 @@ module _ (f : List ℕ) (b : ℕ) where
 
 -- ---- lists passed
 
-module _ (f : List ℕ) (b at i : ℕ) (s : outside_step (drop at f) b ≡ outside_step (drop i f) b) where
-  pub pass_more : i < length f → passes (get_or f i 0) b ≡ true → outside_step (drop at f) b ≡ outside_step (drop (i + 1) f) b
-  pass_more h p =
-      s ∙ ap (λ (z : List ℕ). outside_step z b) (drop-cons f i 0 h) ∙ list_passed (drop (suc i) f) b (get_or f i 0) p ∙ ap (λ (n : ℕ). outside_step (drop n f) b) (sym (add-one i))
+-- how many such lists stand at the front
+unfoldable pub lists_in_front : ℕ → List ℕ → ℕ
+lists_in_front b f = position_or_len (λ c. not (passes c b)) f
 
-  pub pass_stops : passes (get_or f i 0) b ≡ false → Passed f b at i
-  pass_stops p = record { step_is = s; stops = λ h. p }
+pub front_passed : (b : ℕ) (f : List ℕ) → Passed f b (drop (lists_in_front b f) f)
+unfolding lists_in_front
+front_passed b [] = record { step_is = refl; stops = λ c t e. absurd (cc) }
+front_passed b (c ∷ f) = go (passes c b) refl (front_passed b f)
+  where
+    rest : List ℕ
+    rest = drop (position_or_len (λ x. not (passes x b)) f) f
 
-  pub pass_ends : length f ≤ i → Passed f b at i
-  pass_ends h = record { step_is = s; stops = λ g. absurd (omega arith) }
+    go : (z : Bool) → passes c b ≡ z → Passed f b rest → Passed (c ∷ f) b (drop (cond (not (not z)) (1 + position_or_len (λ x. not (passes x b)) f) 0) (c ∷ f))
+    go true e p =
+        let q : 1 + position_or_len (λ x. not (passes x b)) f ≡ suc (position_or_len (λ x. not (passes x b)) f) = omega arith in
+        rw q (record { step_is = list_passed f b c e ∙ p.step_is; stops = p.stops })
+    go false e p = record { step_is = refl; stops = λ d t q. let z : c ≡ d = cc in rw (← z) e }
+
+-- the first place at which a test passes, or the end
+pub first_or_end : (p : ℕ → Bool) (l : List ℕ) (r : StdOption ℕ) → r ≡ cond (ltb (position_or_len p l) (length l)) (Some (position_or_len p l)) None
+    → (unwrap_or r (length l) ≡ position_or_len p l) × (position_or_len p l ≤ length l)
+first_or_end p l r e = (go (ltb n (length l)) refl e, in_list)
+  where
+    n : ℕ
+    n = position_or_len p l
+
+    in_list : n ≤ length l
+    in_list = omega (arith, length-prefix_len (λ x. not (p x)) l, length-take n l)
+
+    go : (z : Bool) → ltb n (length l) ≡ z → r ≡ cond z (Some n) None → unwrap_or r (length l) ≡ n
+    go true q f = rw f refl
+    go false q f = rw f (omega (arith, ltb-false n (length l) q, in_list))
 
 -- ---- one byte outside numbers, behind the lists passed
 
-module _ (f : List ℕ) (b at i : ℕ) (p : Passed f b at i) where
-  pub step-ends : length f ≤ i → lost ≡ stepped_to (outside_step (drop at f) b)
+module _ (f : List ℕ) (b : ℕ) (r : List ℕ) (p : Passed f b r) where
+  pub step-ends : length r ≡ 0 → lost ≡ stepped_to (outside_step f b)
   unfolding stepped_to outside_step
-  step-ends h = sym (ap stepped_to (p.step_is ∙ ap (λ (z : List ℕ). outside_step z b) (drop_of_length-le f h)))
+  step-ends e = sym (ap stepped_to (p.step_is ∙ go r e))
+    where
+      go : (l : List ℕ) → length l ≡ 0 → outside_step l b ≡ none
+      go [] q = refl
+      go (c ∷ l) q = absurd (omega arith)
 
-  module _ (c : ℕ) (e : c ≡ get_or f i 0) (h : i < length f) where
-    here : outside_step (drop at f) b ≡ outside_step (c ∷ drop (i + 1) f) b
-    here =
-        p.step_is ∙ ap (λ (z : List ℕ). outside_step z b) (drop-cons f i 0 h)
-        ∙ ap (λ (x : ℕ). outside_step (x ∷ drop (suc i) f) b) (sym e) ∙ ap (λ (n : ℕ). outside_step (c ∷ drop n f) b) (sym (add-one i))
+  module _ (c : ℕ) (t : List ℕ) (e : r ≡ c ∷ t) where
+    here : outside_step f b ≡ outside_step (c ∷ t) b
+    here = p.step_is ∙ ap (λ (z : List ℕ). outside_step z b) e
 
-    held : passes c b ≡ false
-    held = ap (λ (x : ℕ). passes x b) e ∙ p.stops h
+    pub step_number : c ≡ 35 → {s : Reading} → s ≡ stepped_to (begun t b) → s ≡ stepped_to (outside_step f b)
+    step_number q k = k ∙ sym (ap stepped_to (here ∙ at_number t b c q))
 
-    pub step_number : c ≡ 35 → {r : Reading} → r ≡ stepped_to (begun (drop (i + 1) f) b) → r ≡ stepped_to (outside_step (drop at f) b)
-    step_number q k = k ∙ sym (ap stepped_to (here ∙ at_number (drop (i + 1) f) b c q))
-
-    pub step-list : c ≡ 42 → beside (begins, 42 ∷ drop (i + 1) f) ≡ stepped_to (outside_step (drop at f) b)
+    pub step-list : c ≡ 42 → beside (begins, 42 ∷ t) ≡ stepped_to (outside_step f b)
     unfolding stepped_to
-    step-list q = sym (ap stepped_to (here ∙ list-begins (drop (i + 1) f) b c q held))
+    step-list q = sym (ap stepped_to (here ∙ list-begins t b c q (p.stops c t e)))
 
-    pub step_path : c ≡ 37 → {r : Reading} → r ≡ stepped_to (begun (42 ∷ drop (i + 1) f) b) → r ≡ stepped_to (outside_step (drop at f) b)
-    step_path q k = k ∙ sym (ap stepped_to (here ∙ path_begins (drop (i + 1) f) b c q held))
+    pub step_path : c ≡ 37 → {s : Reading} → s ≡ stepped_to (begun (42 ∷ t) b) → s ≡ stepped_to (outside_step f b)
+    step_path q k = k ∙ sym (ap stepped_to (here ∙ path_begins t b c q (p.stops c t e)))
 
     module _ (n35 : c ≡ 35 → ⊥) (n42 : c ≡ 42 → ⊥) (n37 : c ≡ 37 → ⊥) where
-      pub step-met : c ≡ b → beside (outside, drop (i + 1) f) ≡ stepped_to (outside_step (drop at f) b)
+      pub step-met : c ≡ b → beside (outside, t) ≡ stepped_to (outside_step f b)
       unfolding stepped_to
-      step-met q = sym (ap stepped_to (here ∙ byte_met (drop (i + 1) f) b c n35 n42 n37 q))
+      step-met q = sym (ap stepped_to (here ∙ byte_met t b c n35 n42 n37 q))
 
-      pub step_missed : (c ≡ b → ⊥) → lost ≡ stepped_to (outside_step (drop at f) b)
+      pub step_missed : (c ≡ b → ⊥) → lost ≡ stepped_to (outside_step f b)
       unfolding stepped_to
-      step_missed q = sym (ap stepped_to (here ∙ byte_missed (drop (i + 1) f) b c n35 n42 n37 q))
+      step_missed q = sym (ap stepped_to (here ∙ byte_missed t b c n35 n42 n37 q))
 
 -- a list that is left: one more number, or what follows it
 module _ (p : Place) (b : ℕ) where
-  rest : List ℕ
-  rest = drop p.at (get_or row_forms p.form [])
+  pub list_goes_on : p.list ≡ true → b ≡ 32 → reading_of (Begins p) ≡ stepped_to (outside_step (left_of p) b)
+  unfolding left_of reading_of stepped_to
+  list_goes_on e q =
+      ap (λ (z : Bool). beside (begins, pick z (42 ∷ p.left.now) p.left.now)) e
+      ∙ sym (ap (λ (z : Bool). stepped_to (outside_step (pick z (42 ∷ p.left.now) p.left.now) b)) e
+      ∙ ap stepped_to (at_list p.left.now b ∙ ap (λ (z : Bool). pick z (some (begins, 42 ∷ p.left.now)) (outside_step p.left.now b)) (eq-eqb b 32 q)))
 
-  pub list_goes_on : (p.list && eqb b 32) ≡ true → reading_of (Begins p) ≡ stepped_to (outside_step (left_of p) b)
-  unfolding left_of reading_of stepped_to rest
-  list_goes_on h =
-      let e = (both_true p.list (eqb b 32) h).0 in
-      let q = (both_true p.list (eqb b 32) h).1 in
-      ap (λ (z : Bool). beside (begins, pick z (42 ∷ rest) rest)) e
-      ∙ sym (ap (λ (z : Bool). stepped_to (outside_step (pick z (42 ∷ rest) rest) b)) e ∙ ap stepped_to (at_list rest b ∙ ap (λ (z : Bool). pick z (some (begins, 42 ∷ rest)) (outside_step rest b)) q))
-
-  pub form_goes_on : {r : Reading} → r ≡ stepped_to (outside_step (drop p.at (get_or row_forms p.form [])) b) → (p.list && eqb b 32) ≡ false → r ≡ stepped_to (outside_step (left_of p) b)
-  unfolding left_of rest
-  form_goes_on {r} k n = go p.list n
-    where
-      go : (z : Bool) → (z && eqb b 32) ≡ false → r ≡ stepped_to (outside_step (pick z (42 ∷ rest) rest) b)
-      go true e = k ∙ sym (ap stepped_to (at_list rest b ∙ ap (λ (z : Bool). pick z (some (begins, 42 ∷ rest)) (outside_step rest b)) e))
-      go false e = k
+  pub form_goes_on : {r : Reading} → r ≡ stepped_to (outside_step p.left.now b) → ((p.list ≡ true) × (b ≡ 32 → ⊥)) ⊎ (p.list ≡ false) → r ≡ stepped_to (outside_step (left_of p) b)
+  unfolding left_of
+  form_goes_on k (inl h) =
+      k ∙ sym (ap (λ (z : Bool). stepped_to (outside_step (pick z (42 ∷ p.left.now) p.left.now) b)) h.0
+      ∙ ap stepped_to (at_list p.left.now b ∙ ap (λ (z : Bool). pick z (some (begins, 42 ∷ p.left.now)) (outside_step p.left.now b)) (ne_eqb b 32 h.1)))
+  form_goes_on k (inr h) = k ∙ sym (ap (λ (z : Bool). stepped_to (outside_step (pick z (42 ∷ p.left.now) p.left.now) b)) h)
 
 -- ---- where a form may end
 
-module _ (f : List ℕ) (at i : ℕ) (s : may_end (drop at f) ≡ may_end (drop i f)) where
-  module _ (h : i < length f) where
-    here_end : may_end (drop i f) ≡ ((eqb (get_or f i 0) 42 || eqb (get_or f i 0) 37) && may_end (drop (suc i) f))
-    unfolding may_end
-    here_end = ap may_end (drop-cons f i 0 h)
-
-    pub end_later : (eqb (get_or f i 0) 42 || eqb (get_or f i 0) 37) ≡ true → may_end (drop at f) ≡ may_end (drop (i + 1) f)
-    end_later q = s ∙ here_end ∙ ap (λ (x : Bool). x && may_end (drop (suc i) f)) q ∙ ap (λ (n : ℕ). may_end (drop n f)) (sym (add-one i))
-
-    pub end_never : (eqb (get_or f i 0) 42 || eqb (get_or f i 0) 37) ≡ false → false ≡ may_end (drop at f)
-    end_never q = sym (s ∙ here_end ∙ ap (λ (x : Bool). x && may_end (drop (suc i) f)) q)
-
-  pub end_here : length f ≤ i → true ≡ may_end (drop at f)
-  unfolding may_end
-  end_here h = sym (s ∙ ap may_end (drop_of_length-le f h))
+pub ends_with_lists : (f : List ℕ) → list_all (λ c. eqb c 42 || eqb c 37) f ≡ may_end f
+unfolding may_end
+ends_with_lists [] = refl
+ends_with_lists (c ∷ f) = ap (λ (z : Bool). (eqb c 42 || eqb c 37) && z) (ends_with_lists f)
 
 -- an open list may end
-pub left-ends : (p : Place) → may_end (drop p.at (get_or row_forms p.form [])) ≡ may_end (left_of p)
+pub left-ends : (p : Place) → may_end p.left.now ≡ may_end (left_of p)
 unfolding left_of may_end
 left-ends p = go p.list
   where
-    go : (z : Bool) → may_end (drop p.at (get_or row_forms p.form [])) ≡ may_end (pick z (42 ∷ drop p.at (get_or row_forms p.form [])) (drop p.at (get_or row_forms p.form [])))
+    go : (z : Bool) → may_end p.left.now ≡ may_end (pick z (42 ∷ p.left.now) p.left.now)
     go true = refl
     go false = refl

@@ -1,5 +1,4 @@
 pub mod Judging
-pub mod FormTable
 pub mod JudgeStates
 pub mod Comparing
 pub mod ComparingLaws

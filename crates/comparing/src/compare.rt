@@ -1,6 +1,7 @@
 // The graph given beside the graph due, byte by byte; the first row that is not the one due decides.
 ghost use Rattle.std.specs.Prelude.{◌≡◌, true, ◌<◌, ◌≤◌, eqb, length, drop};
 ghost use Rattle.listings.specs.Bytes.{pick};
+ghost use Rattle.layout.specs.Refusals.{number_of};
 ghost use Rattle.comparing.specs.Judging.{start, met};
 ghost use Rattle.comparing.specs.JudgeStates.{reading_of};
 ghost use Rattle.comparing.specs.Comparing.{same, begins, rows_number, differing, fed_byte, fed, rows_ended, is_start, place_at, ruled};
@@ -8,20 +9,14 @@ ghost use Rattle.comparing.specs.ComparingStates.{standing_of, verdict_of};
 ghost use Rattle.comparing.specs.Feeding.{RowsDue, FedTo};
 
 use crate::judge::{Judge, in_form, judge_byte};
+use layout::refusals::{Reason, Refusal};
 
 // Of the graph due `at` bytes were met. All that was given is due so far; this row is not the one due; a row was not, and has ended.
 #[derive(Drop)]
 pub enum Comparing {
     Same { at: usize, judge: Judge },
     Differs { at: usize, judge: Judge },
-    Ended { number: u8, at: usize },
-}
-
-// What is said of the graph given; of a wrong one document 02's number, and the first row that is not the one due, or the refusal of its listing.
-#[derive(Drop)]
-pub enum Verdict {
-    Right,
-    Wrong { number: u8, place: usize },
+    Ended { reason: Reason, at: usize },
 }
 
 // Before the first byte.
@@ -34,28 +29,28 @@ pub fn begin() -> Comparing
     }
 }
 
-// The number of a row that is not the one due.
-fn row_number(judge: Judge) -> u8
-    ensures { result ≡ rows_number (reading_of judge) }
+// Why a row is refused that is not the one due.
+fn row_reason(judge: Judge) -> Reason
+    ensures { number_of result ≡ rows_number (reading_of judge) }
 {
     if in_form(judge) {
-        return 32;
+        return Reason::WrongRow;
     }
-    31
+    Reason::NotARow
 }
 
 // A byte of a row that is not the one due.
 fn differ(at: usize, judge: Judge, b: u8) -> Comparing
     ensures { standing_of result ≡ differing at (reading_of judge) b }
 {
-    if b == 10 {
+    if b == b'\n' {
         return Comparing::Ended {
-            number: row_number(judge),
-            at: at,
+            reason: row_reason(judge),
+            at,
         };
     }
     Comparing::Differs {
-        at: at,
+        at,
         judge: judge_byte(judge, b),
     }
 }
@@ -64,7 +59,7 @@ fn differ(at: usize, judge: Judge, b: u8) -> Comparing
 fn next_judge(judge: Judge, b: u8) -> Judge
     ensures { reading_of result ≡ pick (eqb b 10) start (met (reading_of judge) b) }
 {
-    if b == 10 {
+    if b == b'\n' {
         return Judge::Start;
     }
     judge_byte(judge, b)
@@ -74,10 +69,7 @@ fn next_judge(judge: Judge, b: u8) -> Judge
 fn is_due(due: &[u8], at: usize, b: u8) -> bool
     ensures { (result ≡ begins (drop at due.now) b) × (result ≡ true → at < length due.now) }
 {
-    if at < due.len() {
-        return due[at] == b;
-    }
-    false
+    at < due.len() && due[at] == b
 }
 
 // One byte more, where all was as due.
@@ -104,7 +96,7 @@ struct Fed {
 fn row_behind(b: u8, i: usize, m: usize) -> usize
     ensures { result ≡ pick (eqb b 10) i m }
 {
-    if b == 10 {
+    if b == b'\n' {
         return i;
     }
     m
@@ -118,14 +110,11 @@ fn rows_due(at: usize, due: &[u8], piece: &[u8]) -> usize
         return 0;
     }
     let mut m: usize = 0;
-    let mut i: usize = 0;
-    while i < piece.len() {
-        let b = piece[i];
-        if !is_due(due, at + i, b) {
+    for (i, b) in piece.iter().enumerate() {
+        if !is_due(due, at + i, *b) {
             return m;
         }
-        i += 1;
-        m = row_behind(b, i, m);
+        m = row_behind(*b, i + 1, m);
     }
     m
 }
@@ -168,8 +157,8 @@ fn feed_more(s: Comparing, due: &[u8], piece: &[u8], i: usize) -> Fed
             state: differ(at, judge, piece[i]),
             next: i + 1,
         },
-        Comparing::Ended { number, at } => Fed {
-            state: Comparing::Ended { number, at },
+        Comparing::Ended { reason, at } => Fed {
+            state: Comparing::Ended { reason, at },
             next: piece.len(),
         },
     }
@@ -189,27 +178,11 @@ pub fn feed(s: Comparing, due: &[u8], piece: &[u8]) -> Comparing
     r
 }
 
-// 1 for a byte that ends a row.
-fn row_end(b: u8) -> usize
-    ensures { (result ≡ pick (eqb b 10) 1 0) × (result ≤ 1) }
-{
-    if b == 10 {
-        return 1;
-    }
-    0
-}
-
 // How many rows end in a text.
 fn rows_ended(text: &[u8]) -> usize
     ensures { result ≡ rows_ended text.now }
 {
-    let mut n: usize = 0;
-    let mut i: usize = 0;
-    while i < text.len() {
-        n += row_end(text[i]);
-        i += 1;
-    }
-    n
+    text.iter().filter(|b| **b == b'\n').count()
 }
 
 // The row in which byte `at` of the graph due stands.
@@ -226,48 +199,29 @@ fn place_at(due: &[u8], at: usize) -> usize
 fn is_start(judge: Judge) -> bool
     ensures { result ≡ is_start (reading_of judge) }
 {
-    match judge {
-        Judge::Start => true,
-        Judge::Opened => false,
-        Judge::Lost => false,
-        Judge::Outside(_) => false,
-        Judge::Begins(_) => false,
-        Judge::Inside { value: _, place: _ } => false,
-    }
+    matches!(judge, Judge::Start)
 }
 
 // The graph given ends, and all was as due.
-fn rule_same(at: usize, judge: Judge, due: &[u8]) -> Verdict
+fn rule_same(at: usize, judge: Judge, due: &[u8]) -> Result<(), Refusal>
     ensures { verdict_of result ≡ ruled due.now (same at (reading_of judge)) }
 {
     if !is_start(judge) {
-        return Verdict::Wrong {
-            number: 31,
-            place: place_at(due, at),
-        };
+        return Err(Reason::NotARow.at(place_at(due, at)));
     }
     if due.len() <= at {
-        return Verdict::Right;
+        return Ok(());
     }
-    Verdict::Wrong {
-        number: 32,
-        place: place_at(due, at),
-    }
+    Err(Reason::WrongRow.at(place_at(due, at)))
 }
 
-// The graph given ends.
-pub fn rule(s: Comparing, due: &[u8]) -> Verdict
+// The graph given ends: right, or refused at the first row that is not the one due.
+pub fn rule(s: Comparing, due: &[u8]) -> Result<(), Refusal>
     ensures { verdict_of result ≡ ruled due.now (standing_of s) }
 {
     match s {
         Comparing::Same { at, judge } => rule_same(at, judge, due),
-        Comparing::Differs { at, judge: _ } => Verdict::Wrong {
-            number: 31,
-            place: place_at(due, at),
-        },
-        Comparing::Ended { number, at } => Verdict::Wrong {
-            number: number,
-            place: place_at(due, at),
-        },
+        Comparing::Differs { at, judge: _ } => Err(Reason::NotARow.at(place_at(due, at))),
+        Comparing::Ended { reason, at } => Err(reason.at(place_at(due, at))),
     }
 }

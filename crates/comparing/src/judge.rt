@@ -1,18 +1,17 @@
 // Whether a row is one that a graph prints, judged byte by byte: its length has no limit.
-ghost use Rattle.std.specs.Prelude.{◌≡◌, true, ◌&&◌, ◌||◌, [], eqb, drop, get_or};
+ghost use Rattle.std.specs.Prelude.{◌≡◌, true, ◌||◌, [], eqb};
 ghost use Rattle.listings.specs.Rows.{is_digit};
-ghost use Rattle.graph.specs.Check.{row_forms, outside, inside, begun, outside_step, digit_step, step, may_end};
+ghost use Rattle.graph.specs.Check.{outside, inside, begun, outside_step, digit_step, step, may_end};
 ghost use Rattle.comparing.specs.Judging.{start, beside, chosen, met, good, stepped_to};
 ghost use Rattle.comparing.specs.JudgeStates.{passes, Passed, left_of, reading_of};
 
-use crate::forms::{form_byte, form_length};
 use tokens::numbers::is_digit;
 
-// A place in a form; in a list, one more number may come first.
+// What is left of a form, where `#` is a number, `*` numbers with a space before each and `%` numbers with a space between them; in a list, one more
+// number may come first.
 #[derive(Clone, Copy)]
 pub struct Place {
-    form: usize,
-    at: usize,
+    left: &'static [u8],
     list: bool,
 }
 
@@ -28,105 +27,74 @@ pub enum Judge {
 }
 
 // Whether c stands for a list that byte b does not go on with.
+#[tactic(auto, unfolding(crate::specs::JudgeStates::passes))]
 fn passes_list(c: u8, b: u8) -> bool
     ensures { result ≡ passes c b }
 {
-    if c == 42 {
-        return b != 32;
+    match c {
+        b'*' => b != b' ',
+        b'%' => !is_digit(b),
+        _ => false,
     }
-    if c == 37 {
-        return !is_digit(b);
-    }
-    false
 }
 
-// The first place of form k from `at` on that is no such list.
-fn pass_lists(k: usize, at: usize, b: u8) -> usize
-    ensures { Passed (get_or row_forms k []) b at result }
+// What is left of a form behind such lists.
+fn pass_lists(left: &'static [u8], b: u8) -> &'static [u8]
+    ensures { Passed left.now b result.now }
 {
-    let n = form_length(k);
-    let mut i = at;
-    while i < n {
-        if !passes_list(form_byte(k, i), b) {
-            return i;
-        }
-        i += 1;
-    }
-    i
+    let n = left
+        .iter()
+        .position(|c| !passes_list(*c, b))
+        .unwrap_or(left.len());
+    &left[n..]
 }
 
 // A byte that begins a number; the place behind it is p.
+#[tactic(auto, unfolding(crate::specs::JudgeStates::reading_of, graph::specs::Check::begun, crate::specs::Judging::stepped_to))]
 fn begin_number(p: Place, b: u8) -> Judge
     ensures { reading_of result ≡ stepped_to (begun (left_of p) b) }
 {
     if is_digit(b) {
         return Judge::Inside {
-            value: (b - 48) as u32,
+            value: u32::from(b - b'0'),
             place: p,
         };
     }
     Judge::Lost
 }
 
-// A byte outside numbers, where form k goes on at `at`.
-fn form_step(k: usize, at: usize, b: u8) -> Judge
-    ensures { reading_of result ≡ stepped_to (outside_step (drop at (get_or row_forms k [])) b) }
+// A byte outside numbers, where a form goes on with what is left.
+fn form_step(left: &'static [u8], b: u8) -> Judge
+    ensures { reading_of result ≡ stepped_to (outside_step left.now b) }
 {
-    let i = pass_lists(k, at, b);
-    if form_length(k) <= i {
+    let Some((c, behind)) = pass_lists(left, b).split_first() else {
         return Judge::Lost;
-    }
-    let c = form_byte(k, i);
-    let next = i + 1;
-    if c == 35 {
-        return begin_number(
-            Place {
-                form: k,
-                at: next,
-                list: false,
-            },
-            b,
-        );
-    }
-    let behind = Place {
-        form: k,
-        at: next,
+    };
+    let next = Place {
+        left: behind,
+        list: false,
+    };
+    let open = Place {
+        left: behind,
         list: true,
     };
-    if c == 42 {
-        return Judge::Begins(behind);
+    match *c {
+        b'#' => begin_number(next, b),
+        b'*' => Judge::Begins(open),
+        b'%' => begin_number(open, b),
+        d if d == b => Judge::Outside(next),
+        _ => Judge::Lost,
     }
-    if c == 37 {
-        return begin_number(behind, b);
-    }
-    if c == b {
-        return Judge::Outside(Place {
-            form: k,
-            at: next,
-            list: false,
-        });
-    }
-    Judge::Lost
 }
 
-// Whether a list that is open goes on with byte b.
-fn goes_on(list: bool, b: u8) -> bool
-    ensures { result ≡ (list && eqb b 32) }
-{
-    if list {
-        return b == 32;
-    }
-    false
-}
-
-// A byte outside numbers.
+// A byte outside numbers: a list that is open goes on, or the form does.
 fn outside_step(p: Place, b: u8) -> Judge
     ensures { reading_of result ≡ stepped_to (outside_step (left_of p) b) }
 {
-    if goes_on(p.list, b) {
+    if p.list && b == b' ' {
         return Judge::Begins(p);
     }
-    form_step(p.form, p.at, b)
+    form_step(p.left, b)
 }
 
 // A digit more of a number.
@@ -134,13 +102,10 @@ fn digit_step(value: u32, p: Place, b: u8) -> Judge
     requires { is_digit b ≡ true }
     ensures { reading_of result ≡ stepped_to (digit_step value (left_of p) b) }
 {
-    if value == 0 {
+    if value == 0 || 6553 < value {
         return Judge::Lost;
     }
-    if 6553 < value {
-        return Judge::Lost;
-    }
-    let v = value * 10 + (b - 48) as u32;
+    let v = value * 10 + u32::from(b - b'0');
     if 65535 < v {
         return Judge::Lost;
     }
@@ -148,6 +113,7 @@ fn digit_step(value: u32, p: Place, b: u8) -> Judge
 }
 
 // A byte behind a digit.
+#[tactic(auto, unfolding(graph::specs::Check::step))]
 fn inside_step(value: u32, p: Place, b: u8) -> Judge
     ensures { reading_of result ≡ stepped_to (step (inside value) (left_of p) b) }
 {
@@ -157,53 +123,43 @@ fn inside_step(value: u32, p: Place, b: u8) -> Judge
     outside_step(p, b)
 }
 
-// Beside form k, behind its first bytes.
-fn beside_form(k: usize, at: usize) -> Judge
-    ensures { reading_of result ≡ beside (outside, drop at (get_or row_forms k [])) }
+// Beside a form, with so much of it left.
+#[tactic(auto, unfolding(crate::specs::JudgeStates::reading_of, crate::specs::JudgeStates::left_of))]
+fn beside_form(left: &'static [u8]) -> Judge
+    ensures { reading_of result ≡ beside (outside, left.now) }
 {
-    Judge::Outside(Place {
-        form: k,
-        at: at,
-        list: false,
-    })
+    Judge::Outside(Place { left, list: false })
 }
 
 // The byte behind a bracket: no two forms have the same one.
+#[tactic(auto, unfolding(crate::specs::Judging::chosen, crate::specs::JudgeStates::reading_of, crate::specs::Judging::form_rest, graph::specs::Check::row_forms, listings::specs::Bytes::bytes))]
 fn second_byte(b: u8) -> Judge
     ensures { reading_of result ≡ chosen b }
 {
-    if b == 103 {
-        return beside_form(0, 2);
+    match b {
+        b'g' => beside_form(b"raph # #"),
+        b'n' => beside_form(b"ode # # # (%) (succ*) (pred*))"),
+        b'e' => beside_form(b"ntry # #)"),
+        b'r' => beside_form(b"eturns*)"),
+        b'b' => beside_form(b"ack # #)"),
+        _ => Judge::Lost,
     }
-    if b == 110 {
-        return beside_form(1, 2);
-    }
-    if b == 101 {
-        return beside_form(2, 2);
-    }
-    if b == 114 {
-        return beside_form(3, 2);
-    }
-    if b == 98 {
-        return beside_form(4, 2);
-    }
-    Judge::Lost
 }
 
 // The first byte of a row.
+#[tactic(auto, unfolding(crate::specs::Judging::met, crate::specs::JudgeStates::reading_of))]
 fn first_byte(b: u8) -> Judge
     ensures { reading_of result ≡ met start b }
 {
-    if b == 40 {
-        return Judge::Opened;
+    match b {
+        b'(' => Judge::Opened,
+        b')' => beside_form(b""),
+        _ => Judge::Lost,
     }
-    if b == 41 {
-        return beside_form(5, 1);
-    }
-    Judge::Lost
 }
 
 // One byte more of a row.
+#[tactic(auto, unfolding(crate::specs::Judging::met, crate::specs::JudgeStates::reading_of, graph::specs::Check::step))]
 pub fn judge_byte(j: Judge, b: u8) -> Judge
     ensures { reading_of result ≡ met (reading_of j) b }
 {
@@ -221,37 +177,24 @@ pub fn judge_byte(j: Judge, b: u8) -> Judge
 fn is_list(c: u8) -> bool
     ensures { result ≡ (eqb c 42 || eqb c 37) }
 {
-    if c == 42 {
-        return true;
-    }
-    c == 37
+    c == b'*' || c == b'%'
 }
 
-// Whether form k has only lists from `at` on.
-fn only_lists(k: usize, at: usize) -> bool
-    ensures { result ≡ may_end (drop at (get_or row_forms k [])) }
+// Whether what is left of a form are only lists.
+fn only_lists(left: &[u8]) -> bool
+    ensures { result ≡ may_end left.now }
 {
-    let n = form_length(k);
-    let mut i = at;
-    while i < n {
-        if !is_list(form_byte(k, i)) {
-            return false;
-        }
-        i += 1;
-    }
-    true
+    left.iter().all(|c| is_list(*c))
 }
 
 // Whether the row is in form if it ends here.
+#[tactic(auto, unfolding(graph::specs::Check::ends, crate::specs::Judging::good, crate::specs::JudgeStates::reading_of))]
 pub fn in_form(j: Judge) -> bool
     ensures { result ≡ good (reading_of j) }
 {
     match j {
-        Judge::Start => false,
-        Judge::Opened => false,
-        Judge::Lost => false,
-        Judge::Outside(p) => only_lists(p.form, p.at),
-        Judge::Begins(_) => false,
-        Judge::Inside { value: _, place } => only_lists(place.form, place.at),
+        Judge::Outside(p) => only_lists(p.left),
+        Judge::Inside { value: _, place } => only_lists(place.left),
+        _ => false,
     }
 }

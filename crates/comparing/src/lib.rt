@@ -2,5 +2,4 @@
 #![tactic(auto)]
 
 pub mod compare;
-mod forms;
 pub mod judge;

@@ -8,11 +8,12 @@ ghost use Rattle.answers.specs.Flowask.{ask_text, flowask};
 
 use asking::ask::ask_text;
 use filling::read_full;
-use formatting::print_rows::put_refusal;
+use formatting::page::print_refusal;
 use layout::limits::{
     ARGS_LENGTH, ENTRIES_LENGTH, FALLS_LENGTH, LINKS_LENGTH, LISTS_LENGTH, MAX_EDGES, MAX_LINES,
     MAX_STMTS, STMTS_LENGTH,
 };
+use layout::refusals::Reason;
 use std::io::Write;
 
 // So many bytes a text may have, questions and all.
@@ -58,11 +59,11 @@ fn ask(text: &[u8], out: &mut [u8; 2097153]) -> usize
     ensures { Whole out.new result (flowask text.now) }
 {
     if MAX_BYTES < text.len() {
-        return put_refusal(out, 0, 1, 0);
+        return print_refusal(out, Reason::TextTooLong.at(0));
     }
     let r = ask_at_limits(text, out);
     if MAX_ANSWERS < r {
-        return put_refusal(out, 0, 28, MAX_ANSWERS);
+        return print_refusal(out, Reason::NoRoom.at(MAX_ANSWERS));
     }
     r
 }

@@ -87,20 +87,18 @@ fn is_text_read(rt: &HostRuntime, n: usize, listing: &mut Named<'_>) -> bool {
     n == 65537 || is_read(rt, listing)
 }
 
-// The graph in a file beside the one due, in pieces. A proved loop has to end, so it counts its turns down, from a number that no run uses up.
+// The graph in a file beside the one due, in pieces. A proved loop has to end, so its turns are counted, up to a number that no run comes to.
 fn compare_file(file: &mut File, due: &[u8]) -> Comparing
     ensures { SomeFed due.now (standing_of result) }
 {
     let mut s = begin();
     let mut piece = [0u8; 65536];
-    let mut turns = u64::MAX;
-    while turns > 0 {
+    for _ in 0..u64::MAX {
         let n = read_full(file, &mut piece);
         s = feed(s, due, &piece[..n]);
         if n < 65536 {
             return s;
         }
-        turns -= 1;
     }
     s
 }

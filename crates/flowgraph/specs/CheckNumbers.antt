@@ -1,12 +1,13 @@
 -- What `flow_check` returns, and what it leaves in the lent tables and on the page (document 02, L1). Assumes nothing.
-use Rattle.std.specs.Prelude.{ℕ, ◌≡◌, List, [], ◌∷◌}
+use Rattle.std.specs.Prelude.{Result, ℕ, ◌≡◌, List, [], ◌∷◌}
 use Rattle.graph.specs.Check.{checked}
 use Rattle.passes.specs.TableForms.{Sizes, capacity}
-use Rattle.wiring.specs.declared.build.Built.{Built as BuiltAnswer}
-use Rattle.comparing.specs.declared.compare.Verdict.{Verdict}
+use Rattle.wiring.specs.BuiltAnswer.{BuiltAnswer}
+use Rattle.layout.specs.declared.refusals.Refusal.{Refusal}
+use Rattle.c_answers.specs.DoneNumbers.{done_number, done_place}
 use Rattle.printing.specs.ListGraph.{GraphListed}
 use Rattle.checking.specs.Checking.{GraphChecked}
-use Rattle.c_answers.specs.VerdictNumbers.{number_of, place_of, verdict_number, verdict_place, verdict_numbered}
+use Rattle.c_answers.specs.VerdictNumbers.{number_of, place_of, verdict_numbered}
 
 -- page is page' after: the number returned and the place are the definition's, the tables and the page are as `list_graph` leaves them
 pub record CheckNumbered (text given : List ℕ) (s : Sizes) (c l t a e f k i r u p page page' : List ℕ) (number : ℕ) (place : List ℕ) : Type 0 where
@@ -17,8 +18,8 @@ pub record CheckNumbered (text given : List ℕ) (s : Sizes) (c l t a e f k i r 
   pub listed : GraphListed text s c l t a e f k i r u p page page' built len
 
 -- judged, then told
-pub check-numbered : {text given : List ℕ} {s : Sizes} {c l t a e f k i r u p page page' : List ℕ} {v : Verdict} {number : ℕ} {place : List ℕ}
-    → GraphChecked text given s c l t a e f k i r u p page page' v → (number ≡ verdict_number v) × (place ≡ verdict_place v)
+pub check-numbered : {text given : List ℕ} {s : Sizes} {c l t a e f k i r u p page page' : List ℕ} {v : Result (Unit {0}) Refusal} {number : ℕ} {place : List ℕ}
+    → GraphChecked text given s c l t a e f k i r u p page page' v → (number ≡ done_number v) × (place ≡ done_place v)
     → CheckNumbered text given s c l t a e f k i r u p page page' number place
 check-numbered {v = v} w g =
     let z = verdict_numbered v w.verdict g in

@@ -5,7 +5,7 @@ ghost use Rattle.graph.specs.Build.{build as built_by, built_of_answer};
 ghost use Rattle.passes.specs.TableForms.{sizes_of, capacity};
 ghost use Rattle.c_answers.specs.BuildNumbers.{BuildNumbered};
 
-use c_answers::build::number_of_build;
+use c_answers::build::number_of_done;
 use wiring::build::{build, build_input};
 
 #[unsafe(no_mangle)]
@@ -30,7 +30,7 @@ pub extern "C" fn flow_build(
     let built = build(
         text, counts, lines, stmts, args, entries, falls, links, lists, returns, succ, pred,
     );
-    number_of_build(built, place)
+    number_of_done(built, place)
 }
 
 #[unsafe(no_mangle)]
@@ -56,5 +56,5 @@ pub extern "C" fn flow_build_program(
         true, program, counts, lines, stmts, args, entries, falls, links, lists, returns, succ,
         pred,
     );
-    number_of_build(found, place)
+    number_of_done(found, place)
 }

@@ -2,7 +2,7 @@
 ghost use Rattle.passes.specs.TableForms.{sizes_of};
 ghost use Rattle.flowgraph.specs.CheckNumbers.{CheckNumbered};
 
-use c_answers::verdict::number_of_verdict;
+use c_answers::build::number_of_done;
 use checking::check::check_graph;
 
 #[unsafe(no_mangle)]
@@ -30,5 +30,5 @@ pub extern "C" fn flow_check(
         text, graph, counts, lines, stmts, args, entries, falls, links, lists, returns, succ, pred,
         page,
     );
-    number_of_verdict(verdict, place)
+    number_of_done(verdict, place)
 }

@@ -2,7 +2,7 @@
 ghost use Rattle.adjacency.specs.EntryAt.{entry_at};
 ghost use Rattle.c_answers.specs.QuestionNumbers.{entry_words, Numbered};
 
-use c_answers::entry::number_of_entry;
+use c_answers::question::number_of_answer;
 use questions::entry::line_first;
 
 #[unsafe(no_mangle)]
@@ -15,5 +15,5 @@ pub extern "C" fn flow_entry(
 ) -> u8
     ensures { Numbered entry_words (entry_at counts.now entries.now number) result answer.new }
 {
-    number_of_entry(line_first(counts, entries, number), answer)
+    number_of_answer(line_first(counts, entries, number), answer)
 }

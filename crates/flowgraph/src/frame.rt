@@ -3,7 +3,7 @@ ghost use Rattle.std.specs.Prelude.{length, get_or};
 ghost use Rattle.frame_lists.specs.FrameAt.{frame_at};
 ghost use Rattle.c_answers.specs.QuestionNumbers.{ListNumbered};
 
-use c_answers::frame::number_of_frame;
+use c_answers::question::number_of_answer;
 use questions::frame::frame_successors;
 
 #[unsafe(no_mangle)]
@@ -27,5 +27,5 @@ pub extern "C" fn flow_frame(
     let framed = frame_successors(
         counts, stmts, args, falls, lists, succ, header, node, name, flag, out,
     );
-    number_of_frame(framed, answer)
+    number_of_answer(framed, answer)
 }

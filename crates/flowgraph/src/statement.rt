@@ -2,7 +2,7 @@
 ghost use Rattle.statements.specs.StatementAt.{node_statement, path_statement};
 ghost use Rattle.c_answers.specs.QuestionNumbers.{pair_words, Numbered};
 
-use c_answers::statement::number_of_statement;
+use c_answers::question::number_of_answer;
 use questions::statement::{resolve_path, stmt_at};
 
 #[unsafe(no_mangle)]
@@ -15,7 +15,7 @@ pub extern "C" fn flow_statement(
 ) -> u8
     ensures { Numbered pair_words (node_statement counts.now stmts.now node) result answer.new }
 {
-    number_of_statement(stmt_at(counts, stmts, node), answer)
+    number_of_answer(stmt_at(counts, stmts, node), answer)
 }
 
 #[unsafe(no_mangle)]
@@ -29,5 +29,5 @@ pub extern "C" fn flow_path(
 ) -> u8
     ensures { Numbered pair_words (path_statement counts.now stmts.now line path.now) result answer.new }
 {
-    number_of_statement(resolve_path(counts, stmts, line, path), answer)
+    number_of_answer(resolve_path(counts, stmts, line, path), answer)
 }

@@ -3,7 +3,7 @@ ghost use Rattle.std.specs.Prelude.{length};
 ghost use Rattle.adjacency.specs.ListsAt.{successors_at, predecessors_at};
 ghost use Rattle.c_answers.specs.QuestionNumbers.{pair_words, Numbered};
 
-use c_answers::successors::number_of_list;
+use c_answers::question::number_of_answer;
 use questions::successors::{ask_predecessors, ask_successors};
 
 #[unsafe(no_mangle)]
@@ -17,7 +17,7 @@ pub extern "C" fn flow_successors(
 ) -> u8
     ensures { Numbered pair_words (successors_at counts.now lists.now (length succ.now) node) result answer.new }
 {
-    number_of_list(ask_successors(counts, lists, succ, node), answer)
+    number_of_answer(ask_successors(counts, lists, succ, node), answer)
 }
 
 #[unsafe(no_mangle)]
@@ -31,5 +31,5 @@ pub extern "C" fn flow_predecessors(
 ) -> u8
     ensures { Numbered pair_words (predecessors_at counts.now lists.now (length pred.now) node) result answer.new }
 {
-    number_of_list(ask_predecessors(counts, lists, pred, node), answer)
+    number_of_answer(ask_predecessors(counts, lists, pred, node), answer)
 }

@@ -1,55 +1,30 @@
 // Framed texts on standard input (a row with the byte count, then the bytes); for each its graph or its refusal, framed in the same way.
 #![tactic(auto)]
 
-ghost use Rattle.std.specs.Prelude.{◌≡◌};
-
 use at_limits::list::list_text;
 use filling::read_full;
 use std::io::{Read, Write};
 
-#[derive(Drop)]
-enum Byte {
-    Got(u8),
-    End,
-}
-
 // One byte of the input, while there is one.
-fn next_byte(input: &mut impl Read) -> Byte {
+fn next_byte(input: &mut impl Read) -> Option<u8> {
     let mut byte = [0u8; 1];
     if read_full(input, &mut byte) == 0 {
-        return Byte::End;
+        return None;
     }
-    Byte::Got(byte[0])
-}
-
-// A byte as a number that can be counted with.
-fn wide_byte(b: u8) -> usize
-    ensures { result ≡ b }
-{
-    b as usize
-}
-
-#[derive(Drop)]
-enum Next {
-    Length(usize),
-    End,
+    Some(byte[0])
 }
 
 // The row before a text: its byte count.
-fn next_length(input: &mut impl Read) -> Next {
+fn next_length(input: &mut impl Read) -> Option<usize> {
     let mut n: usize = 0;
-    let mut k: usize = 0;
-    while k < 9 {
-        let Byte::Got(b) = next_byte(input) else {
-            return Next::End;
-        };
-        if b == 10 {
-            return Next::Length(n);
+    for _ in 0..9 {
+        let b = next_byte(input)?;
+        if b == b'\n' {
+            return Some(n);
         }
-        n = n % 10000000 * 10 + wide_byte(b % 48);
-        k += 1;
+        n = n % 10000000 * 10 + usize::from(b % 48);
     }
-    Next::End
+    None
 }
 
 // The answer behind a row with its byte count.
@@ -67,8 +42,7 @@ fn answer_part(input: &mut impl Read, output: &mut impl Write, text: &mut [u8], 
     let part = &mut text[..n];
     read_full(input, part);
     let listed = list_text(part, &mut out);
-    let r = listed.len;
-    print_framed(output, &out[..r]);
+    print_framed(output, &out[..listed.len]);
 }
 
 // Room for the longest text that a test has.
@@ -82,7 +56,7 @@ fn main(rt: HostRuntime) {
     let mut input = rt.stdin();
     let mut output = rt.stdout();
     for _ in 0..u64::MAX {
-        let Next::Length(n) = next_length(&mut input) else {
+        let Some(n) = next_length(&mut input) else {
             return;
         };
         answer_text(&mut input, &mut output, n);

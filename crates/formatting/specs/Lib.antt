@@ -1,1 +1,2 @@
 pub mod Printing
+pub mod Pages

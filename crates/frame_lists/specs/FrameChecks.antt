@@ -1,7 +1,7 @@
 -- Laws of what the frame question checks, and of its list by the opening word. Assumes nothing.
-use Prim.Native.Nat.{ℕ, zero, suc, ◌+◌, ◌*◌, ◌-◌, ◌/◌, ◌<◌, ◌≤◌}
-use Rattle.std.specs.Prelude.{◌≡◌, List, [], Bool, ◌||◌, length, get_or}
-use Rattle.std.proofs.Math.Path.{refl, sym, ap}
+use Prim.Native.Nat.{ℕ, ◌+◌, ◌*◌, ◌-◌, ◌/◌, ◌<◌, ◌≤◌}
+use Rattle.std.specs.Prelude.{◌≡◌, List, [], Bool, Result, ◌||◌, length, get_or}
+use Rattle.std.proofs.Math.Path.{refl, sym}
 use Rattle.std.proofs.Common.{subst, ◌∙◌, arith}
 use Rattle.std.proofs.Math.Bool.{true, false}
 use borrow.Author.Tests.{ltb-true, ltb-false, lt-ltb, le-ltb}
@@ -13,13 +13,14 @@ use Rattle.reader.specs.Operands.{key_answer}
 use Rattle.listings.specs.Records.{name_key}
 use Rattle.listings.specs.Cut.{cut_name}
 use Rattle.tables.specs.Columns.{call_word, word_of, fall_entry, succ_start, succ_count, succ_part}
-use Rattle.graph.specs.Questions.{Reply, refused, kept, if_room}
+use Rattle.graph.specs.Questions.{Reply, answer, refused, kept, if_room}
 use Rattle.adjacency.specs.ListsAt.{successors_at, part_of}
 use Rattle.adjacency.specs.ListsAtLaws.{successors_part}
 use Rattle.frame_lists.specs.FrameAt.{ends_frame, keeps_shared, frame_read, short_tables, part_outside, fall_outside, frame_outside, frame_in, frame_at}
 use Rattle.frame_slices.specs.FrameAnswer.{FrameAnswered}
-use Rattle.statements.specs.StatementAt.{no_statement, unless_refused}
-use Rattle.frame_slices.specs.declared.slices.Framed.{Framed}
+use Rattle.statements.specs.StatementAt.{no_statement_in, unless_refused, refused_by}
+use Rattle.statements.specs.StatementLaws.{refusal_passes, answer_passes, statement_inside}
+use Rattle.layout.specs.declared.refusals.Refusal.{Refusal}
 
 -- ---- inside the tables
 
@@ -170,22 +171,16 @@ module _ (n : ℕ) (stmts args falls lists succ : List ℕ) (h i : ℕ) where
     unfolding frame_in
     in_25 a b e = rw (lt-ltb h n a, lt-ltb i n b, e) refl
 
-    module _ (a : h < n) (b : i < n) (e : frame_outside n stmts args falls lists succ h i ≡ false) (c : ℕ) (f : c ≡ no_statement lines stmts n i) where
-      by_number : unless_refused c (if_room room (frame_read stmts args falls lists succ h i k flag)) ≡ frame_in lines n stmts args falls lists succ h i k flag room
+    module _ (a : h < n) (b : i < n) (e : frame_outside n stmts args falls lists succ h i ≡ false) where
+      by_record : unless_refused (no_statement_in lines stmts n i) (if_room room (frame_read stmts args falls lists succ h i k flag)) ≡ frame_in lines n stmts args falls lists succ h i k flag room
       unfolding frame_in
-      by_number = rw (lt-ltb h n a, lt-ltb i n b, e, f) refl
+      by_record = rw (lt-ltb h n a, lt-ltb i n b, e, statement_inside lines stmts n i b (rows_inside e)) refl
 
-      pub in_26 : (c ≡ 0 → ⊥) → frame_in lines n stmts args falls lists succ h i k flag room ≡ refused c 0
-      unfolding unless_refused
-      in_26 z = sym by_number ∙ go c z
-        where
-          go : (c : ℕ) → (c ≡ 0 → ⊥) → unless_refused c (if_room room (frame_read stmts args falls lists succ h i k flag)) ≡ refused c 0
-          go zero z = absurd (z refl)
-          go (suc c) z = refl
+      pub in_26 : (m p : ℕ) → refused m p ≡ refused_by (no_statement_in lines stmts n i) → frame_in lines n stmts args falls lists succ h i k flag room ≡ refused m p
+      in_26 m p f = sym (refusal_passes _ _ m p f ∙ by_record)
 
-      pub in_list : c ≡ 0 → if_room room (frame_read stmts args falls lists succ h i k flag) ≡ frame_in lines n stmts args falls lists succ h i k flag room
-      unfolding unless_refused
-      in_list z = ap (λ (j : ℕ). unless_refused j (if_room room (frame_read stmts args falls lists succ h i k flag))) (sym z) ∙ by_number
+      pub in_list : answer (tt {0}) ≡ refused_by (no_statement_in lines stmts n i) → if_room room (frame_read stmts args falls lists succ h i k flag) ≡ frame_in lines n stmts args falls lists succ h i k flag room
+      in_list f = answer_passes _ _ f ∙ by_record
 
 -- ---- the list, by the opening word
 
@@ -213,7 +208,7 @@ pub name_key_lem : (v : Name) → is_name v ≡ true → key_answer (as_key (par
 unfolding parse_name
 name_key_lem v e = rw e
 
-pub answer_as : (q p : Reply (List ℕ)) (out t : List ℕ) (r : Framed) → q ≡ p → FrameAnswered q out t r → FrameAnswered p out t r
+pub answer_as : (q p : Reply (List ℕ)) (out t : List ℕ) (r : Result ℕ Refusal) → q ≡ p → FrameAnswered q out t r → FrameAnswered p out t r
 answer_as q p out t r e g = subst (λ (z : Reply (List ℕ)). FrameAnswered z out t r) e g
 
 module _ (lines n : ℕ) (stmts args falls lists succ : List ℕ) (h i : ℕ) (v : Name) (flag : Bool) (room : ℕ) where

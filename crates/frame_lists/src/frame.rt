@@ -1,6 +1,5 @@
 // The frame list.
 ghost use Rattle.std.specs.Prelude.{◌≡◌, ◌+◌, ◌*◌, ◌<◌, length, get_or};
-ghost use Rattle.reader.specs.Operands.{key_answer};
 ghost use Rattle.tables.specs.Columns.{succ_part};
 ghost use Rattle.graph.specs.Questions.{kept, if_room};
 ghost use Rattle.frame_lists.specs.FrameAt.{forgets_word, ends_frame, keeps_shared, short_tables, part_outside, fall_outside, frame_outside, frame_read, frame_in, frame_at};
@@ -8,32 +7,33 @@ ghost use Rattle.frame_slices.specs.FrameAnswer.{FrameAnswered};
 ghost use Rattle.frame_lists.specs.FrameChecks.{PartInside, FrameInside};
 
 use adjacency::successors::successors;
-use frame_slices::slices::{Framed, copy_list, give_fall, give_nothing, keep_shared};
+use frame_slices::slices::{copy_list, give_fall, give_nothing, keep_shared};
 use layout::columns::{ARG_ENTRIES, FALL_ENTRIES, LIST_ENTRIES, STMT_ENTRIES, SUCC_COUNT};
-use layout::widths::{count_of, wide};
+use layout::refusals::{Reason, Refusal};
+use layout::widths::count_of;
 use layout::words::{CLR, FOR, NEXT, RETURN, RUN};
 use statements::statement::no_statement;
 use tables::calls::is_call;
-use tokens::names::{NameKey, is_name, key_of};
+use tokens::names::{is_name, key_of};
 
 // The words that end a frame of any name.
+#[tactic(auto, unfolding(crate::specs::FrameAt::forgets_word))]
 fn forgets(word: u16) -> bool
     ensures { result ≡ forgets_word word }
 {
-    word == CLR || (word == RUN || word == RETURN)
+    matches!(word, CLR | RUN | RETURN)
 }
 
 // Whether a statement ends the frame of that name.
+#[tactic(auto, unfolding(crate::specs::FrameAt::ends_frame))]
 fn ends_frame(word: u16, arg: u64, key: u64) -> bool
     ensures { result ≡ ends_frame word arg key }
 {
-    if forgets(word) {
-        return true;
-    }
-    word == FOR && arg == key
+    forgets(word) || (word == FOR && arg == key)
 }
 
 // A NEXT under the flag keeps what the header has too.
+#[tactic(auto, unfolding(crate::specs::FrameAt::keeps_shared))]
 fn keeps_shared(word: u16, flag: bool) -> bool
     ensures { result ≡ keeps_shared word flag }
 {
@@ -48,7 +48,7 @@ fn keep_part(
     header: usize,
     node: usize,
     out: &mut [u16],
-) -> Framed
+) -> Result<usize, Refusal>
     requires { PartInside counts.now lists.now succ.now header × PartInside counts.now lists.now succ.now node }
     ensures { FrameAnswered (if_room (length out.old) (kept (succ_part lists.now succ.now header) (succ_part lists.now succ.now node))) out.old out.new result }
 {
@@ -58,7 +58,13 @@ fn keep_part(
 }
 
 // All successors.
-fn copy_part(counts: &[u32; 6], lists: &[u16], succ: &[u16], node: usize, out: &mut [u16]) -> Framed
+fn copy_part(
+    counts: &[u32; 6],
+    lists: &[u16],
+    succ: &[u16],
+    node: usize,
+    out: &mut [u16],
+) -> Result<usize, Refusal>
     requires { PartInside counts.now lists.now succ.now node }
     ensures { FrameAnswered (if_room (length out.old) (succ_part lists.now succ.now node)) out.old out.new result }
 {
@@ -78,7 +84,7 @@ fn write_frame(
     key: u64,
     flag: bool,
     out: &mut [u16],
-) -> Framed
+) -> Result<usize, Refusal>
     requires { FrameInside counts.now stmts.now args.now falls.now lists.now succ.now header node }
     ensures { FrameAnswered (if_room (length out.old) (frame_read stmts.now args.now falls.now lists.now succ.now header node key flag)) out.old out.new result }
 {
@@ -99,16 +105,9 @@ fn write_frame(
 fn short_tables(n: usize, stmts: &[u16], args: &[u64], falls: &[u16], lists: &[u16]) -> bool
     ensures { result ≡ short_tables n (length stmts.now) (length args.now) (length falls.now) (length lists.now) }
 {
-    if stmts.len() / STMT_ENTRIES < n {
-        return true;
-    }
-    if args.len() / ARG_ENTRIES < n {
-        return true;
-    }
-    if falls.len() / FALL_ENTRIES < n {
-        return true;
-    }
-    lists.len() / LIST_ENTRIES < n
+    stmts.len() / STMT_ENTRIES < n
+        || (args.len() / ARG_ENTRIES < n
+            || (falls.len() / FALL_ENTRIES < n || lists.len() / LIST_ENTRIES < n))
 }
 
 // By a difference, so that no sum can wrap.
@@ -116,11 +115,8 @@ fn part_outside(lists: &[u16], succ: &[u16], i: usize) -> bool
     requires { i * 4 + 1 < length lists.now }
     ensures { result ≡ part_outside lists.now succ.now i }
 {
-    let start = wide(lists[i * LIST_ENTRIES]);
-    if succ.len() < start {
-        return true;
-    }
-    succ.len() - start < wide(lists[i * LIST_ENTRIES + SUCC_COUNT])
+    let start = usize::from(lists[i * LIST_ENTRIES]);
+    succ.len() < start || succ.len() - start < usize::from(lists[i * LIST_ENTRIES + SUCC_COUNT])
 }
 
 // Only a call's fall is read, so only that one is tested.
@@ -128,10 +124,7 @@ fn fall_outside(n: usize, stmts: &[u16], falls: &[u16], i: usize) -> bool
     requires { (i * 12 < length stmts.now) × (i * 3 < length falls.now) }
     ensures { result ≡ fall_outside n stmts.now falls.now i }
 {
-    if is_call(stmts[i * STMT_ENTRIES]) {
-        return n < wide(falls[i * FALL_ENTRIES]);
-    }
-    false
+    is_call(stmts[i * STMT_ENTRIES]) && n < usize::from(falls[i * FALL_ENTRIES])
 }
 
 // Whether a used count or a record that the question reads points outside its table.
@@ -148,26 +141,9 @@ fn frame_outside(
     requires { (header < n) × (node < n) }
     ensures { result ≡ frame_outside n stmts.now args.now falls.now lists.now succ.now header node }
 {
-    if short_tables(n, stmts, args, falls, lists) {
-        return true;
-    }
-    if part_outside(lists, succ, header) {
-        return true;
-    }
-    if part_outside(lists, succ, node) {
-        return true;
-    }
-    fall_outside(n, stmts, falls, node)
-}
-
-// The key of a name that is known to be one.
-fn key_answer(k: NameKey) -> u64
-    ensures { result ≡ key_answer k }
-{
-    match k {
-        NameKey::Refused(_) => 0,
-        NameKey::Key(v) => v,
-    }
+    short_tables(n, stmts, args, falls, lists)
+        || (part_outside(lists, succ, header)
+            || (part_outside(lists, succ, node) || fall_outside(n, stmts, falls, node)))
 }
 
 // Once the name is known to be one. All is decided before the first entry is written.
@@ -185,32 +161,20 @@ fn frame_of(
     key: u64,
     flag: bool,
     out: &mut [u16],
-) -> Framed
+) -> Result<usize, Refusal>
     requires { n ≡ get_or counts.now 1 0 }
     ensures { FrameAnswered (frame_in lines n stmts.now args.now falls.now lists.now succ.now header node key flag (length out.old)) out.old out.new result }
 {
     if n <= header {
-        return Framed::Refused {
-            number: 24,
-            place: header,
-        };
+        return Err(Reason::NoNode.at(header));
     }
     if n <= node {
-        return Framed::Refused {
-            number: 24,
-            place: node,
-        };
+        return Err(Reason::NoNode.at(node));
     }
     if frame_outside(n, stmts, args, falls, lists, succ, header, node) {
-        return Framed::Refused {
-            number: 25,
-            place: 0,
-        };
+        return Err(Reason::Outside.at(0));
     }
-    let number = no_statement(lines, stmts, n, node);
-    if number != 0 {
-        return Framed::Refused { number, place: 0 };
-    }
+    no_statement(lines, stmts, n, node)?;
     write_frame(
         counts, stmts, args, falls, lists, succ, header, node, key, flag, out,
     )
@@ -229,29 +193,25 @@ pub fn ask_frame(
     name: &[u8],
     flag: bool,
     out: &mut [u16],
-) -> Framed
+) -> Result<usize, Refusal>
     ensures { FrameAnswered (frame_at (get_or counts.now 0 0) (get_or counts.now 1 0) stmts.now args.now falls.now lists.now succ.now header node name.now flag (length out.old)) out.old out.new result }
 {
-    if is_name(name) {
-        let key = key_answer(key_of(name));
-        return frame_of(
-            counts,
-            count_of(counts[0]),
-            count_of(counts[1]),
-            stmts,
-            args,
-            falls,
-            lists,
-            succ,
-            header,
-            node,
-            key,
-            flag,
-            out,
-        );
+    if !is_name(name) {
+        return Err(Reason::BadWord.at(0));
     }
-    Framed::Refused {
-        number: 3,
-        place: 0,
-    }
+    frame_of(
+        counts,
+        count_of(counts[0]),
+        count_of(counts[1]),
+        stmts,
+        args,
+        falls,
+        lists,
+        succ,
+        header,
+        node,
+        key_of(name).unwrap_or(0),
+        flag,
+        out,
+    )
 }

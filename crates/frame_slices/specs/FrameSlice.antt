@@ -1,5 +1,5 @@
 -- How the frame list comes into the slice lent for it: the list at its front, zeros behind. Assumes nothing.
-use Rattle.std.specs.Prelude.{ℕ, zero, suc, ◌+◌, ◌-◌, ◌<◌, ◌≤◌, ◌≡◌, refl, List, [], ◌∷◌, ◌++◌, Bool, true, false, length, get_or, take, drop, set, replicate}
+use Rattle.std.specs.Prelude.{ℕ, suc, ◌+◌, ◌<◌, ◌≤◌, ◌≡◌, refl, List, [], ◌∷◌, ◌++◌, Bool, true, false, Result, Ok, Err, length, get_or, take, drop, set, replicate}
 use Rattle.std.proofs.Common.{sym, ap, subst, ◌∙◌, append-nil, arith, add-one, le-leb, length-append, length-drop, take-append-drop, take_all, take_at, drop-cons, take-suc}
 use Rattle.std.proofs.lemmas.Bool.{lt-leb}
 use Rattle.std.proofs.Math.Seq.{append_snoc}
@@ -9,11 +9,13 @@ use Rattle.listings.specs.Records.{padded}
 use Rattle.reader.specs.Tables.{padded-nil}
 use Rattle.graph.specs.Lists.{has, keep}
 use Rattle.graph_laws.specs.Adding.{decode}
-use Rattle.layout.specs.Zeroed.{cleared_behind}
+use Rattle.layout.specs.Zeroed.{filled_behind}
+use Rattle.layout.specs.declared.refusals.Reason.TheVariants.{NoRoom}
+use Rattle.layout.specs.declared.refusals.Refusal.{Refusal}
+use Rattle.layout.specs.Refusals.{number_of, refusal_at}
+use Rattle.tables.specs.Told.{told}
 use Rattle.graph.specs.Questions.{Reply, answer, refused, kept, if_room}
-use Rattle.frame_slices.specs.FrameAnswer.{FrameAnswered, framed_of, slice_after}
-use Rattle.frame_slices.specs.declared.slices.Framed.{Framed}
-use Rattle.frame_slices.specs.declared.slices.Framed.TheVariants.{Listed, Refused}
+use Rattle.frame_slices.specs.FrameAnswer.{FrameAnswered, length_of, slice_after}
 
 -- ---- the kept ones, one after the other
 
@@ -99,43 +101,42 @@ room_short : (room : ℕ) (l : List ℕ) → room < length l → if_room room l 
 unfolding if_room
 room_short room l h = rw (lt-leb (length l) room h)
 
-answered_by : (q : Reply (List ℕ)) (out t : List ℕ) (r : Framed) (p : Reply (List ℕ)) → q ≡ p → r ≡ framed_of p → t ≡ slice_after p out → FrameAnswered q out t r
-answered_by q out t r p e f g = record { answered = f ∙ ap framed_of (sym e); slice = g ∙ ap (λ (z : Reply (List ℕ)). slice_after z out) (sym e) }
+answered_by : (q : Reply (List ℕ)) (out t : List ℕ) (r : Result ℕ Refusal) (p : Reply (List ℕ)) → q ≡ p → told r ≡ length_of p → t ≡ slice_after p out → FrameAnswered q out t r
+answered_by q out t r p e f g = record { answered = f ∙ ap length_of (sym e); slice = g ∙ ap (λ (z : Reply (List ℕ)). slice_after z out) (sym e) }
 
 -- a refused question writes nothing
-pub answered-refused : (q : Reply (List ℕ)) (out : List ℕ) (n p : ℕ) → q ≡ refused n p → FrameAnswered q out out (Refused n p)
-unfolding framed_of slice_after
-answered-refused q out n p e = answered_by q out out (Refused n p) (refused n p) e refl refl
+pub answered-refused : (q : Reply (List ℕ)) (out : List ℕ) (r : Refusal) → q ≡ refused (number_of r.reason) r.place → FrameAnswered q out out (Err r)
+unfolding length_of slice_after
+answered-refused q out r e = answered_by q out out (Err r) (refused (number_of r.reason) r.place) e refl refl
 
 -- "28 the frame answer is longer than the slice lent for it (place: the answer's length)"
-pub answered_long : (l out : List ℕ) (n : ℕ) → n ≡ length l → length out < n → FrameAnswered (if_room (length out) l) out out (Refused 28 n)
-answered_long l out n e h = answered-refused (if_room (length out) l) out 28 n (room_short (length out) l (omega arith) ∙ ap (λ (k : ℕ). refused 28 k) (sym e))
+pub answered_long : (l out : List ℕ) (r : Refusal) (n : ℕ) → r ≡ refusal_at NoRoom n → n ≡ length l → length out < n → FrameAnswered (if_room (length out) l) out out (Err r)
+answered_long l out r n f e h = rw f (answered-refused (if_room (length out) l) out (refusal_at NoRoom n) (room_short (length out) l (omega arith) ∙ ap (λ (k : ℕ). refused 28 k) (sym e)))
 
-padded_front : (l out t : List ℕ) → length l ≤ length out → t ≡ l ++ drop (length l) out → cleared_behind (length l) t ≡ padded (length out) l
-unfolding cleared_behind padded
+padded_front : (l out t : List ℕ) → length l ≤ length out → t ≡ l ++ drop (length l) out → filled_behind 0 (length l) t ≡ padded (length out) l
+unfolding padded
 padded_front l out t h e =
     let k : length t ≡ length out = ap length e ∙ length-append l (drop (length l) out) ∙ omega (arith, length-drop (length l) out) in
     let f : take (length l) t ≡ l = ap (take (length l)) e ∙ take_at l (drop (length l) out) (length l) refl in
     rw (f, k)
 
 -- the list stands at the front of t, and the rest of t became zero
-pub answered-list : (l out t u : List ℕ) (n : ℕ) → n ≡ length l → n ≤ length out → t ≡ l ++ drop (length l) out → u ≡ cleared_behind n t → FrameAnswered (if_room (length out) l) out u (Listed n)
-unfolding framed_of slice_after
+pub answered-list : (l out t u : List ℕ) (n : ℕ) → n ≡ length l → n ≤ length out → t ≡ l ++ drop (length l) out → u ≡ filled_behind 0 n t → FrameAnswered (if_room (length out) l) out u (Ok n)
+unfolding length_of slice_after
 answered-list l out t u n e h f g =
-    answered_by (if_room (length out) l) out u (Listed n) (answer l) (room_for (length out) l (omega arith)) (ap Listed e)
-    (g ∙ ap (λ (k : ℕ). cleared_behind k t) e ∙ padded_front l out t (omega arith) f)
+    answered_by (if_room (length out) l) out u (Ok n) (answer l) (room_for (length out) l (omega arith)) (ap answer e)
+    (g ∙ ap (λ (k : ℕ). filled_behind 0 k t) e ∙ padded_front l out t (omega arith) f)
 
-pub answered-none : (out t : List ℕ) → t ≡ replicate (length out) 0 → FrameAnswered (if_room (length out) []) out t (Listed 0)
-unfolding framed_of slice_after
-answered-none out t e = answered_by (if_room (length out) []) out t (Listed 0) (answer []) (room_for (length out) [] (omega arith)) refl (e ∙ sym (padded-nil (length out)))
+pub answered-none : (out t : List ℕ) → t ≡ replicate (length out) 0 → FrameAnswered (if_room (length out) []) out t (Ok 0)
+unfolding length_of slice_after
+answered-none out t e = answered_by (if_room (length out) []) out t (Ok 0) (answer []) (room_for (length out) [] (omega arith)) refl (e ∙ sym (padded-nil (length out)))
 
 -- by another list that is the same
-pub answered_as : (l m out t : List ℕ) (r : Framed) → l ≡ m → FrameAnswered (if_room (length out) l) out t r → FrameAnswered (if_room (length out) m) out t r
+pub answered_as : (l m out t : List ℕ) (r : Result ℕ Refusal) → l ≡ m → FrameAnswered (if_room (length out) l) out t r → FrameAnswered (if_room (length out) m) out t r
 answered_as l m out t r e g = subst (λ (z : List ℕ). FrameAnswered (if_room (length out) z) out t r) e g
 
 pub decode-none : (t : ℕ) → t ≡ 0 → [] ≡ decode t
 decode-none t e = ap decode (sym e)
 
-pub decode-some : (t : ℕ) → (t ≡ 0 → ⊥) → ◌≡◌ {A = List ℕ} ((t - 1) ∷ []) (decode t)
-decode-some zero h = absurd (h refl)
-decode-some (suc t) h = let e : suc t - 1 ≡ t = omega arith in ap (λ (k : ℕ). k ∷ []) e
+pub decode-some : (t k : ℕ) → t ≡ suc k → ◌≡◌ {A = List ℕ} (k ∷ []) (decode t)
+decode-some t k e = ap decode (sym e)

@@ -1,6 +1,6 @@
 -- The numbers of the layout, each once: the opening words by their places in the table, how many entries a statement has in each table, what stands in
 -- them (docs/DECISIONS.md, "Tables"). src has the same numbers for code. Assumes nothing.
-use Rattle.std.specs.Prelude.{ℕ, ◌≡◌, refl, List, [], ◌∷◌, length, get_or}
+use Rattle.std.specs.Prelude.{ℕ, ◌≡◌, refl, [], ◌∷◌, length, get_or}
 use Rattle.listings.specs.Bytes.{bytes, same}
 use Rattle.listings.specs.Rows.{opening_words}
 use Rattle.listings.specs.WordTable.{words, first, word_index}

@@ -3,6 +3,7 @@
 
 pub mod columns;
 pub mod limits;
+pub mod refusals;
 pub mod widths;
 pub mod words;
 pub mod zeroing;

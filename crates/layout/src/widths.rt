@@ -1,14 +1,7 @@
-// A table's entry, and a used count, as an index.
+// A used count, as an index.
 ghost use Rattle.std.specs.Prelude.{◌≡◌, ◌<◌};
 
-// An entry as an index.
-pub fn wide(x: u16) -> usize
-    ensures { result ≡ x }
-{
-    x as usize
-}
-
-// A used count as an index.
+// Kept: std has no conversion from u32 to usize that cannot fail, and the bound is what callers need of it.
 pub fn count_of(x: u32) -> usize
     ensures { (result ≡ x) × (result < 4294967296) }
 {

@@ -1,43 +1,21 @@
-// Tables zeroed, whole or from an entry on. Twice each, for the two widths that tables have.
-ghost use Rattle.std.specs.Prelude.{◌≡◌, length, replicate};
-ghost use Rattle.layout.specs.Zeroed.{cleared_behind};
+// Entries of one value: a whole array, or a table from an entry on.
+ghost use Rattle.std.specs.Prelude.{◌≡◌, replicate};
+ghost use Rattle.layout.specs.Zeroed.{filled_behind};
 
-// Every entry 0.
-pub fn zero16(t: &mut [u16])
-    ensures { t.new ≡ replicate (length t.old) 0 }
+// N entries of one value. In a function of its own: a caller's proof then speaks of them by their number alone.
+pub fn all_of<T: Copy, const N: usize>(value: T) -> [T; N]
+    ensures { result ≡ replicate N value }
 {
-    let mut i: usize = 0;
-    while i < t.len() {
-        t[i] = 0;
-        i += 1;
-    }
+    [value; N]
 }
 
-// The same of an argument table.
-pub fn zero64(t: &mut [u64])
-    ensures { t.new ≡ replicate (length t.old) 0 }
-{
-    let mut i: usize = 0;
-    while i < t.len() {
-        t[i] = 0;
-        i += 1;
-    }
-}
-
-// The entries from `at` on become zero.
-pub fn clear_behind(t: &mut [u16], at: usize)
-    ensures { t.new ≡ cleared_behind at t.old }
+// The entries from `at` on become `value`.
+pub fn fill_behind<T: Copy>(t: &mut [T], at: usize, value: T)
+    ensures { t.new ≡ filled_behind value at t.old }
 {
     if at < t.len() {
-        zero16(&mut t[at..]);
-    }
-}
-
-// The same of an argument table.
-pub fn clear_words_behind(t: &mut [u64], at: usize)
-    ensures { t.new ≡ cleared_behind at t.old }
-{
-    if at < t.len() {
-        zero64(&mut t[at..]);
+        for x in &mut t[at..] {
+            *x = value;
+        }
     }
 }

@@ -1,6 +1,6 @@
 -- Laws of regions by closed rows of bits: the RETURNs' rows change, the others stay closed. Assumes nothing.
-use Rattle.std.specs.Prelude.{ℕ, ◌+◌, ◌*◌, ◌/◌, ◌≤◌, ◌<◌, ◌≡◌, refl, Bool, true, false, ◌&&◌, not, ◌⊎◌, ◌↔◌, ltb, eqb, length, get_or}
-use Rattle.std.proofs.Common.{sym, ap, subst, ◌∙◌, inl, inr, ⊎_elim, arith}
+use Rattle.std.specs.Prelude.{ℕ, ◌+◌, ◌*◌, ◌/◌, ◌≤◌, ◌<◌, ◌≡◌, Bool, ◌⊎◌, ◌↔◌, length, get_or}
+use Rattle.std.proofs.Common.{sym, ap, ◌∙◌, inl, inr, ⊎_elim, arith}
 use mathlib.Core.List.Memᴰ
 use mathlib.Core.List.{List, [], Memᴰ}
 use borrow.Author.Tests.{lt-ltb, le-ltb, eq-eqb, ne_eqb}
@@ -11,7 +11,7 @@ use Rattle.tables.specs.Columns.{word_of}
 use Rattle.passes.specs.Compare.{eq-or}
 use Rattle.passes.specs.Sets.{In, members_of}
 use Rattle.passes.specs.SetLaws.{none_in, members_in, members_are}
-use Rattle.passes.specs.ReturnSets.{IsReturn, set_of}
+use Rattle.passes.specs.ReturnSets.{set_of}
 use Rattle.layout.specs.Layout.{return_word}
 use Rattle.passes.specs.ReturnSetLaws.{row_same}
 use Rattle.passes.specs.Clearing.{SetsCleared}
@@ -21,8 +21,8 @@ use Rattle.passes.specs.FillRows.{FillReady, RowsFilled}
 use Rattle.passes.specs.SkipLists.{skip_ids}
 use Rattle.passes.specs.FillRowLaws.{skip_none}
 use Rattle.passes.specs.Prepared.{Prepared, Roles}
-use Rattle.passes.specs.Regions.{ReturnsBy, RegionsJoined, SetsClear}
-use Rattle.passes.specs.WalkTables.{CallsRead, calls_readable, read_calls}
+use Rattle.passes.specs.Regions.{SetsClear}
+use Rattle.passes.specs.WalkTables.{CallsRead, read_calls}
 use Rattle.passes.specs.RegionLaws.{regions_more, regions_all, set-clear, roles_read, back_exact}
 use Rattle.passes.specs.ByRows.{EntryByRows, EntriesByRows, ByRowsReady, row_steps, SetsByRows, ByRowsAnswered, ReturnsByRows}
 

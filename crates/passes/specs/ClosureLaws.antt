@@ -16,7 +16,7 @@ use Rattle.passes.specs.ReturnSets.{set_of}
 use Rattle.layout.specs.Layout.{return_word}
 use Rattle.passes.specs.ReturnSetLaws.{row_length, row_at, row_same, row_part, row_put}
 use Rattle.passes.specs.WalkLaws.{id_at}
-use Rattle.passes.specs.Closure.{Leads, RowsHold, RowsClosed, StepsBelow, Closed, RowIs, Way, one, more, RowJoined, RowsJoined, ClosedTo, OthersClosed, RowReached, RowListed}
+use Rattle.passes.specs.Closure.{Leads, RowsClosed, StepsBelow, Closed, RowIs, Way, one, more, RowJoined, RowsJoined, ClosedTo, OthersClosed, RowReached, RowListed}
 
 -- ---- ways
 

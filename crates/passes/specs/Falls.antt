@@ -3,11 +3,10 @@ use Rattle.std.specs.Prelude.{ℕ, suc, ◌+◌, ◌*◌, ◌≤◌, ◌≡◌, 
 use Rattle.std.proofs.Math.Option.{Option}
 use Rattle.std.proofs.lemmas.List.Edits.{sets}
 use Rattle.listings.specs.Bytes.{pick}
-use Rattle.listings.specs.Listing.{BranchForm, to, stmts, Stmts, ∅, ◌▸◌, branching, Lines, size}
+use Rattle.listings.specs.Listing.{BranchForm, Stmts, ∅, ◌▸◌, branching, Lines, size}
 use Rattle.listings.specs.ListingText.{StmtsOk, LinesOk}
 use Rattle.listings.specs.Records.{branch_number, branch_line, padded}
 use Rattle.graph_laws.specs.Adding.{node_number, decode, decode_number}
-use Rattle.graph.specs.Lists.{list}
 use Rattle.graph.specs.Nodes.{BranchTarget, to_line, to_node, falls, NodeStmt, simple, cond, Node, branch_target, Entries, entry_of, entries, nodes}
 use Rattle.graph.specs.Targets.{branch_edges}
 use Rattle.passes.specs.Held.{StmtsHeld}

@@ -1,5 +1,5 @@
 -- The pass over the FOR stack makes the rows of links; each NEXT's row lists what PerNode says that it pops. Assumes nothing.
-use Prim.Native.Nat.{ℕ, zero, suc, ◌+◌, ◌*◌, ◌-◌, ◌≤◌, ◌<◌}
+use Prim.Native.Nat.{ℕ, zero, suc, ◌+◌, ◌*◌, ◌≤◌, ◌<◌}
 use Rattle.std.specs.Prelude.{◌≡◌, Bool}
 use Rattle.std.proofs.Math.Path.{refl, sym, ap, subst}
 use Rattle.std.proofs.Common.{◌∙◌, add-one, take-append-drop, drop_of_length-le, take_at, drop_at, length-take-le, take-take}

@@ -3,16 +3,14 @@ use Rattle.std.specs.Prelude.{ℕ, zero, suc, ◌+◌, ◌*◌, ◌-◌, ◌≤�
 use Rattle.std.proofs.Math.Path.{refl}
 use Rattle.std.proofs.Common.{sym, subst, ◌∙◌, add-one, drop-cons}
 use Rattle.std.proofs.Math.Bool.{true, false}
-use mathlib.Core.List.{List, [], ◌∷◌, ◌++◌, append_assoc, append-nil}
-use Rattle.std.proofs.Math.Option.{some}
+use mathlib.Core.List.{List, [], ◌∷◌, append-nil}
 use native.Mathlib.Omega.{arith}
 use borrow.Author.Tests.{eq-eqb, ne_eqb, eqb-true}
 use Rattle.std.proofs.Math.ListN.{get_or}
 use Rattle.layout.specs.Layout.{next_word, orphan_mark}
 use Rattle.listings.specs.Bytes.{pick}
 use Rattle.listings.specs.Every.{All, all[], all∷, all_append}
-use Rattle.listings.specs.Listing.{for}
-use Rattle.graph.specs.Lists.{each, list}
+use Rattle.graph.specs.Lists.{each}
 use Rattle.graph_laws.specs.Adding.{decode}
 use Rattle.graph_laws.specs.Members.{all-each}
 use Rattle.graph_laws.specs.EdgeBounds.{Ids}

@@ -1,15 +1,14 @@
 -- What the prepared tables say of a node: where it leads, what it pops, the frame that it closes. Assumes nothing.
 use Rattle.std.specs.Prelude.{ℕ, ◌+◌, ◌*◌, ◌≤◌, ◌<◌, length, take, drop, replicate}
 use Rattle.std.proofs.Math.Path.{◌≡◌, ap}
-use Rattle.std.proofs.Common.{sym, ◌∙◌, length-drop, take_at, take-take, ext_get_or, get_or-take, get_or-drop, length-take-le}
+use Rattle.std.proofs.Common.{sym, ◌∙◌, length-drop, take-take, ext_get_or, get_or-take, get_or-drop, length-take-le}
 use mathlib.Core.List.{List, [], ◌∷◌}
-use Rattle.std.proofs.Math.Option.{none, some}
+use Rattle.std.proofs.Math.Option.{some}
 use native.Mathlib.Omega.{arith}
 use Rattle.std.proofs.Math.ListN.{get_or, get_elem?}
 use Rattle.std.proofs.lemmas.List.{length-replicate}
 use Rattle.listings.specs.Every.{All}
 use Rattle.listings.specs.Listing.{Mark, Slot, next, Listing}
-use Rattle.listings.specs.Records.{padded}
 use Rattle.graph.specs.Lists.{each, list}
 use Rattle.graph_laws.specs.Adding.{decode}
 use Rattle.graph_laws.specs.Members.{all-at}

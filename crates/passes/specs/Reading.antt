@@ -1,5 +1,5 @@
 -- Reading into the front parts of tables: zeros stand behind them. Assumes nothing.
-use Rattle.std.specs.Prelude.{◌≡◌, refl, Bool, true, false, List, ◌++◌, ℕ, ◌+◌, ◌*◌, ◌-◌, ◌/◌, ◌≤◌, leb, length, replicate, take, drop}
+use Rattle.std.specs.Prelude.{◌≡◌, refl, Bool, true, false, List, ◌++◌, ℕ, ◌+◌, ◌*◌, ◌-◌, ◌/◌, ◌≤◌, leb, length, replicate, take, drop, Result}
 use Rattle.std.proofs.Common.{sym, ap, ◌∙◌, append_assoc, arith, length-take-le, drop_at, leb-true}
 use Rattle.std.proofs.lemmas.List.{replicate-append-replicate}
 use Rattle.listings.specs.Bytes.{pick}
@@ -13,9 +13,10 @@ use Rattle.listing_laws.specs.CutLaws.{meant_within}
 use Rattle.reader.specs.Tables.{joined_length}
 use Rattle.reader.specs.ReadBack.{lines_wide}
 use Rattle.listings.specs.ListingText.{Within}
-use Rattle.reader.specs.Answer.{listed_of}
+use Rattle.reader.specs.Answer.{by_number, listed_of}
 use Rattle.reader.specs.Listed.{line_entries, stmt_entries, arg_entries, RecordsWritten}
-use Rattle.reader.specs.declared.listing.Listed.{Listed}
+use Rattle.reader.specs.declared.listing.Accepted.{Accepted}
+use Rattle.layout.specs.declared.refusals.Refusal.{Refusal}
 use Rattle.layout.specs.Zeroed.{cleared_behind, cleared_length}
 
 -- ---- a wider table
@@ -37,8 +38,8 @@ abbrev pub read_by : ℕ → ℕ → Answer → Answer
 read_by kl kn q = answer_of kl (kn * 12) (kn * 64) q
 
 -- the answer and every entry, of tables with nl, ns and na entries; q: what is meant, or the refusal
-pub record FittingRead (q : Answer) (kl kn nl ns na : ℕ) (c l t a : List ℕ) (r : Listed) : Type 0 where
-  pub answer : r ≡ listed_of (read_by kl kn q)
+pub record FittingRead (q : Answer) (kl kn nl ns na : ℕ) (c l t a : List ℕ) (r : Result Accepted Refusal) : Type 0 where
+  pub answer : by_number r ≡ listed_of (read_by kl kn q)
   pub counts : c ≡ table_of counts_of (read_by kl kn q) 6
   pub lines : l ≡ table_of line_entries (read_by kl kn q) nl
   pub stmts : t ≡ table_of stmt_entries (read_by kl kn q) ns
@@ -95,7 +96,7 @@ pub front_length : (k : ℕ) (t u : List ℕ) → k ≤ length t → u ≡ clear
 front_length k t u h e = sym (length-take-le k u (omega (arith, ap length e, cleared_length t k h)))
 
 module _ (b : Answer) (ok : ReadWithin b) (kl kn : ℕ) (lines stmts args : List ℕ) (hl : kl ≤ length lines) (hs : kn * 12 ≤ length stmts) (ha : kn * 64 ≤ length args) where
-  pub fitting_read : (l₀ t₀ a₀ : List ℕ) → l₀ ≡ cleared_behind kl lines → t₀ ≡ cleared_behind (kn * 12) stmts → a₀ ≡ cleared_behind (kn * 64) args → (c l t a : List ℕ) (r : Listed)
+  pub fitting_read : (l₀ t₀ a₀ : List ℕ) → l₀ ≡ cleared_behind kl lines → t₀ ≡ cleared_behind (kn * 12) stmts → a₀ ≡ cleared_behind (kn * 64) args → (c l t a : List ℕ) (r : Result Accepted Refusal)
       → RecordsWritten b (length (take kl l₀)) (length (take (kn * 12) t₀)) (length (take (kn * 64) a₀)) c l t a r
       → FittingRead b kl kn (length lines) (length stmts) (length args) c (l ++ drop kl l₀) (t ++ drop (kn * 12) t₀) (a ++ drop (kn * 64) a₀) r
   fitting_read l₀ t₀ a₀ el et ea c l t a r w₀ =

@@ -12,7 +12,7 @@ use Rattle.passes.specs.Sets.{members_of}
 use Rattle.passes.specs.SetLaws.{members_in, members_asc, in_below}
 use Rattle.passes.specs.ReturnSets.{set_of}
 use Rattle.tables.specs.Columns.{word_of}
-use Rattle.passes.specs.WalkTables.{sets_fit, SetsRead, read-sets}
+use Rattle.passes.specs.WalkTables.{sets_fit, read-sets}
 
 -- the sum of f over those below n that pass a test
 unfoldable pub sum_where : (ℕ → Bool) → (ℕ → ℕ) → ℕ → ℕ

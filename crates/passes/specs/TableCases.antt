@@ -1,5 +1,5 @@
 -- The tables of entries, falls and links of small listings, computed. Assumes nothing.
-use Rattle.std.specs.Prelude.{ℕ, ◌≡◌, refl, List, [], ◌∷◌, replicate, take}
+use Rattle.std.specs.Prelude.{◌≡◌, refl, [], ◌∷◌, replicate, take}
 use Rattle.listings.specs.Listing.{gosub, ongoto, BareWord, return, stop, jump, on, bare, if, ifelse, to, stmts, absent, ∅, ◌▸◌, branching, Lines, nolines, line}
 use Rattle.graph.specs.Nodes.{entries, nodes}
 use Rattle.passes.specs.LineEntries.{entry_pairs, entry_rows}

@@ -17,11 +17,11 @@ use Rattle.reader.specs.Tables.{Wide}
 use Rattle.reader.specs.ReadBack.{lines_wide}
 use Rattle.graph_laws.specs.Adding.{node_number, decode, decode_number}
 use Rattle.graph.specs.Lists.{each}
-use Rattle.graph.specs.Nodes.{BranchTarget, NodeStmt, simple, cond, Node, Entries, entry_of, entries, nodes}
+use Rattle.graph.specs.Nodes.{BranchTarget, NodeStmt, simple, cond, Node, Entries, entry_of, nodes}
 use Rattle.graph.specs.Targets.{target_entries, branch_edges}
 use Rattle.graph_laws.specs.NodeRecords.{Match, match[], match∷, lines_match}
 use Rattle.passes.specs.ListedNodes.{FallsListed}
-use Rattle.passes.specs.Falls.{leads, stmt_row, fall_row, fall_rows, leads-edges}
+use Rattle.passes.specs.Falls.{stmt_row, fall_row, fall_rows, leads-edges}
 use Rattle.passes.specs.FallLaws.{fall_at_lem}
 use Rattle.passes.specs.Jumps.{stmt_targets, link_row, linked}
 use Rattle.passes.specs.JumpLaws.{link_length, row_few, targets_few}

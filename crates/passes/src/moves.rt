@@ -3,7 +3,7 @@ ghost use Rattle.std.specs.Prelude.{◌≡◌};
 ghost use Rattle.passes.specs.Frames.{loop_move, do_move};
 ghost use Rattle.passes.specs.FramePass.{move_of, moves_stack};
 
-use layout::words::{DOIF, DONE, ELSE, EXIT, REPEAT, UNTIL};
+use layout::words::{DOIF, DONE, ELSE, ENDLOOP, EXIT, EXITIF, LOOP, REPEAT, UNTIL};
 
 // What a statement does to a stack.
 #[derive(Clone, Copy)]
@@ -19,19 +19,12 @@ pub enum FrameMove {
 pub fn loop_move(word: u16) -> FrameMove
     ensures { move_of result ≡ loop_move word }
 {
-    if word < REPEAT {
-        return FrameMove::Stays;
+    match word {
+        REPEAT | LOOP => FrameMove::Opens,
+        UNTIL | ENDLOOP => FrameMove::Closes,
+        EXIT | EXITIF => FrameMove::Joins,
+        _ => FrameMove::Stays,
     }
-    if word < UNTIL {
-        return FrameMove::Opens;
-    }
-    if word < EXIT {
-        return FrameMove::Closes;
-    }
-    if word < DOIF {
-        return FrameMove::Joins;
-    }
-    FrameMove::Stays
 }
 
 // What a word does to the DO stack.
@@ -39,26 +32,17 @@ pub fn loop_move(word: u16) -> FrameMove
 pub fn do_move(word: u16) -> FrameMove
     ensures { move_of result ≡ do_move word }
 {
-    if word == DOIF {
-        return FrameMove::Opens;
+    match word {
+        DOIF => FrameMove::Opens,
+        ELSE => FrameMove::Joins,
+        DONE => FrameMove::Closes,
+        _ => FrameMove::Stays,
     }
-    if word == ELSE {
-        return FrameMove::Joins;
-    }
-    if word == DONE {
-        return FrameMove::Closes;
-    }
-    FrameMove::Stays
 }
 
 // Whether the stack is changed.
 pub fn moves(m: FrameMove) -> bool
     ensures { result ≡ moves_stack (move_of m) }
 {
-    match m {
-        FrameMove::Stays => false,
-        FrameMove::Opens => true,
-        FrameMove::Closes => true,
-        FrameMove::Joins => false,
-    }
+    matches!(m, FrameMove::Opens | FrameMove::Closes)
 }

@@ -7,7 +7,7 @@ use Rattle.graph.specs.Build.{Capacity, build, written, limits, flowlist}
 use Rattle.passes.specs.TableForms.{Sizes}
 use Rattle.wiring.specs.GraphTables.{answer_of}
 use Rattle.wiring.specs.Limits.{at_limits}
-use Rattle.wiring.specs.declared.build.Built.{Built as BuiltAnswer}
+use Rattle.wiring.specs.BuiltAnswer.{BuiltAnswer}
 use Rattle.formatting.specs.Printing.{Puts, puts_is}
 use Rattle.printing.specs.ListGraph.{GraphListed, InputListed, built_of}
 use Rattle.printing.specs.PrintLength.{input_length}

@@ -12,8 +12,8 @@ use Rattle.passes.specs.GraphHeld.{GraphHeld}
 use Rattle.printing.specs.PrintedTables.{SomeGraph, GraphPrinted}
 use Rattle.wiring.specs.WrittenLaws.{graph_held, counts_held}
 use Rattle.wiring.specs.BuildAnswers.{input_read, accepted_built, graph_of, refused_by}
-use Rattle.wiring.specs.declared.build.Built.{Built as BuiltAnswer}
-use Rattle.wiring.specs.declared.build.Built.TheVariants as answer
+use Rattle.wiring.specs.BuiltAnswer.{BuiltAnswer}
+use Rattle.wiring.specs.BuiltAnswer as answer
 
 -- what is built of an input, a saved program or a text
 abbrev pub built_of : Capacity → Bool → List ℕ → Built

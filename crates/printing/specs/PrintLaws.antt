@@ -16,7 +16,8 @@ use Rattle.passes.specs.OpenerLaws.{in_range}
 use Rattle.passes.specs.EntryColumn.{table_row}
 use Rattle.wiring.specs.WrittenLaws.{held_table}
 use Rattle.passes.specs.TableReads.{fall_of_lem}
-use Rattle.formatting.specs.Printing.{Puts, puts_both, each_snoc, pair_text}
+use Rattle.formatting.specs.Pages.{Wrote, wrote_both, each_snoc, pair_text}
+use Rattle.formatting.specs.declared.page.Page.{Page}
 use Rattle.printing.specs.PrintedTables.{head_text, lists_text, node_text, some_text, entry_text, back_text, returns_text}
 use Rattle.passes.specs.GraphHeld.{GraphHeld}
 use Rattle.passes.specs.ReturnTargets.{each_below}
@@ -113,8 +114,7 @@ module _ {L : Listing} {lines stmts entries falls lists returns succ pred : List
   pub graph_text_lem : graph_text n (each (node_text lines stmts lists succ pred) (below n)) (each (entry_text entries) (below rows)) (take targets returns) (each (back_text stmts falls) (below n)) ≡ printed L
   graph_text_lem = rw (nodes_text, entries_text, returns_are g, backs_text, ← node_count_lem g) (printed_is L)
 
-pub puts_graph : {p q s t u v w x : List ℕ} {a b c d e f r : ℕ} {ns es bs : List ℕ} (k : ℕ) (rs : List ℕ) → Puts p 0 q a (bytes "(graph" ++ spaced (0 ∷ k ∷ [])) → Puts q a s b (bytes "\n") → Puts s b t c ns → Puts t c u d es
-    → Puts u d v e (returns_text rs) → Puts v e w f bs → Puts w f x r (bytes ")\n") → Puts p 0 x r (graph_text k ns es rs bs)
+pub wrote_graph : {p q s t u v w x : Page} {ns es bs : List ℕ} (k : ℕ) (rs : List ℕ) → Wrote p q (bytes "(graph" ++ spaced (0 ∷ k ∷ [])) → Wrote q s (bytes "\n") → Wrote s t ns → Wrote t u es
+    → Wrote u v (returns_text rs) → Wrote v w bs → Wrote w x (bytes ")\n") → Wrote p x (graph_text k ns es rs bs)
 unfolding graph_text
-puts_graph k rs h i j l m n o =
-    puts_both _ _ _ _ _ _ _ _ (puts_both _ _ _ _ _ _ _ _ (puts_both _ _ _ _ _ _ _ _ (puts_both _ _ _ _ _ _ _ _ (puts_both _ _ _ _ _ _ _ _ (puts_both _ _ _ _ _ _ _ _ h i) j) l) m) n) o
+wrote_graph k rs h i j l m n o = wrote_both (wrote_both (wrote_both (wrote_both (wrote_both (wrote_both h i) j) l) m) n) o

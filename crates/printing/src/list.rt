@@ -1,13 +1,15 @@
 // An input's graph, printed.
 ghost use Rattle.std.specs.Prelude.{get_or};
 ghost use Rattle.passes.specs.TableForms.{sizes_of};
+ghost use Rattle.wiring.specs.BuiltAnswer.{built_told};
 ghost use Rattle.printing.specs.PrintedTables.{SomeGraph, GraphPrinted};
 ghost use Rattle.printing.specs.ListGraph.{InputListed, GraphListed};
 
 use crate::print::print_graph;
-use formatting::print_rows::put_refusal;
+use formatting::page::{Page, print_refusal};
+use layout::refusals::Refusal;
 use layout::widths::count_of;
-use wiring::build::{Built, build_input};
+use wiring::build::build_input;
 
 // Prints the graph that the tables hold, with the counts as their table has them.
 fn print_counted(
@@ -25,6 +27,7 @@ fn print_counted(
     requires { SomeGraph lines.now stmts.now entries.now falls.now lists.now returns.now succ.now pred.now (get_or counts.now 5 0) (get_or counts.now 1 0) (get_or counts.now 4 0) }
     ensures { GraphPrinted lines.now stmts.now entries.now falls.now lists.now returns.now succ.now pred.now (get_or counts.now 5 0) (get_or counts.now 1 0) (get_or counts.now 4 0) out.old out.new result }
 {
+    let mut page = Page::new(out);
     print_graph(
         counts,
         lines,
@@ -38,14 +41,15 @@ fn print_counted(
         count_of(counts[5]),
         count_of(counts[1]),
         count_of(counts[4]),
-        out,
-    )
+        &mut page,
+    );
+    page.len()
 }
 
 // What was built, and where the next byte of what was printed would go (the length of the part if it did not fit).
 #[derive(Drop)]
 pub struct Printed {
-    pub built: Built,
+    pub built: Result<(), Refusal>,
     pub len: usize,
 }
 
@@ -66,28 +70,22 @@ pub fn list_input(
     pred: &mut [u16],
     out: &mut [u8],
 ) -> Printed
-    ensures { InputListed program input.now (sizes_of lines.old stmts.old args.old entries.old falls.old links.old lists.old returns.old succ.old pred.old) counts.new lines.new stmts.new args.new entries.new falls.new links.new lists.new returns.new succ.new pred.new out.old out.new result.built result.len }
+    ensures { InputListed program input.now (sizes_of lines.old stmts.old args.old entries.old falls.old links.old lists.old returns.old succ.old pred.old) counts.new lines.new stmts.new args.new entries.new falls.new links.new lists.new returns.new succ.new pred.new out.old out.new (built_told result.built) result.len }
 {
     let built = build_input(
         program, input, counts, lines, stmts, args, entries, falls, links, lists, returns, succ,
         pred,
     );
     match built {
-        Built::Refused { number, place } => {
-            let len = put_refusal(out, 0, number as usize, place);
-            Printed {
-                built: Built::Refused { number, place },
-                len: len,
-            }
-        }
-        Built::Graph => {
+        Err(refusal) => Printed {
+            built,
+            len: print_refusal(out, refusal),
+        },
+        Ok(()) => {
             let len = print_counted(
                 counts, lines, stmts, entries, falls, lists, returns, succ, pred, out,
             );
-            Printed {
-                built: Built::Graph,
-                len: len,
-            }
+            Printed { built, len }
         }
     }
 }
@@ -108,7 +106,7 @@ pub fn list_graph(
     pred: &mut [u16],
     out: &mut [u8],
 ) -> Printed
-    ensures { GraphListed text.now (sizes_of lines.old stmts.old args.old entries.old falls.old links.old lists.old returns.old succ.old pred.old) counts.new lines.new stmts.new args.new entries.new falls.new links.new lists.new returns.new succ.new pred.new out.old out.new result.built result.len }
+    ensures { GraphListed text.now (sizes_of lines.old stmts.old args.old entries.old falls.old links.old lists.old returns.old succ.old pred.old) counts.new lines.new stmts.new args.new entries.new falls.new links.new lists.new returns.new succ.new pred.new out.old out.new (built_told result.built) result.len }
 {
     list_input(
         false, text, counts, lines, stmts, args, entries, falls, links, lists, returns, succ, pred,

@@ -1,5 +1,5 @@
 -- The rows of a file, put one after the other. Assumes nothing.
-use Rattle.std.specs.Prelude.{ℕ, false, ◌≤◌, ◌<◌, ◌≡◌, refl, List, [], ◌∷◌, ◌++◌, length, take, drop}
+use Rattle.std.specs.Prelude.{Result, Ok, Err, ℕ, false, ◌≤◌, ◌<◌, ◌≡◌, refl, List, [], ◌∷◌, ◌++◌, length, take, drop}
 use Rattle.std.proofs.Common.{sym, ap, ◌∙◌, subst, append_assoc, append-nil, arith, take_at, take_all}
 use Rattle.listings.specs.Bytes.{bytes, decimal}
 use Rattle.listings.specs.Listing.{if, Listing}
@@ -9,19 +9,21 @@ use Rattle.listings.specs.Rows.{parsed, Content, end_row, stmts_row, module_row,
 use Rattle.listings.specs.Records.{args_of}
 use Rattle.listings.specs.Every.{All, all∷}
 use Rattle.listing_laws.specs.Contents.{IsParsed, text_by, row_text}
-use Rattle.formatting.specs.Printing.{Puts, puts_none, puts_both, puts_is}
+use Rattle.formatting.specs.Pages.{Wrote, wrote_none, wrote_both, wrote_is}
+use Rattle.formatting.specs.declared.page.Page.{Page}
 use Rattle.graph.specs.Print.{printed_refusal}
 use Rattle.program_files.specs.Program.{read_program, action}
 use Rattle.program_laws.specs.Accepted.{program_within, program_cut}
 use Rattle.basic.specs.Actions.{args_in, fuel}
 use Rattle.basic.specs.Cursors.{tokens_at}
 use Rattle.basic.specs.Items.{put_front}
-use Rattle.basic.specs.Judge.{judged_of}
-use Rattle.basic.specs.Rows.{lines_at, contents_from, SimpleIs, RowIs, First, Yields}
+use Rattle.basic.specs.Judge.{judged_of, told_of}
+use Rattle.basic.specs.Rows.{lines_at, contents_from, SimpleIs, RowIs, First}
 use Rattle.basic.specs.RowsAre.{rows_are_lem}
 use Rattle.basic.specs.declared.cursors.Cursor.{Cursor}
-use Rattle.basic.specs.declared.judge.Judged.{Judged}
-use Rattle.basic.specs.declared.judge.Judged.TheVariants.{Accepted, Refused}
+use Rattle.basic.specs.declared.judge.Counts.{Counts}
+use Rattle.layout.specs.Refusals.{number_of}
+use Rattle.layout.specs.declared.refusals.Refusal.{Refusal}
 use Rattle.basic.specs.declared.sources.Source.{Source}
 use Rattle.basic.specs.declared.sources.FileRow.{FileRow}
 use Rattle.basic.specs.declared.sources.FileRow.TheVariants as row
@@ -35,11 +37,11 @@ abbrev pub ended : Content → List ℕ
 ended d = row_text d ++ (10 ∷ [])
 
 -- the row of content d, put where it can be
-abbrev pub PutsRow : List ℕ → FileRow → List ℕ → ℕ → List ℕ → ℕ → Type 0
-PutsRow f w out at out' r = (d : Content) → RowIs f d w → Printable d → Puts out at out' r (ended d)
+abbrev pub WroteRow : List ℕ → FileRow → Page → Page → Type 0
+WroteRow f w p p' = (d : Content) → RowIs f d w → Printable d → Wrote p p' (ended d)
 
-abbrev pub PutsSimple : List ℕ → (w n b : ℕ) → Cursor → List ℕ → ℕ → List ℕ → ℕ → Type 0
-PutsSimple f w n b c out at out' r = (d : Content) → SimpleIs f d w n b c → Printable d → Puts out at out' r (ended d)
+abbrev pub WroteSimple : List ℕ → (w n b : ℕ) → Cursor → Page → Page → Type 0
+WroteSimple f w n b c p p' = (d : Content) → SimpleIs f d w n b c → Printable d → Wrote p p' (ended d)
 
 -- ---- the rows of one number or none
 
@@ -80,12 +82,12 @@ front_args : (vs z : List ℕ) → length vs ≤ length z → take (length vs) (
 unfolding put_front
 front_args vs z h = ap (λ (l : List ℕ). take (length vs) (l ++ drop (length vs) z)) (take_all (length z) vs h) ∙ take_at vs (drop (length vs) z) (length vs) refl
 
-module _ (f : List ℕ) (w n b : ℕ) (c : Cursor) (out : List ℕ) (at : ℕ) where
+module _ (f : List ℕ) (w n b : ℕ) (c : Cursor) where
   stmt_prints : (d : Content) (s : SimpleIs f d w n b c) → Printable d → StmtPrints s.simple
   unfolding Printable IsParsed
   stmt_prints d s h = rw s.content at h
 
-  pub too_many_lem : 64 < n → PutsSimple f w n b c out at out at
+  pub too_many_lem : {p : Page} → 64 < n → WroteSimple f w n b c p p
   too_many_lem g = λ d s h. absurd (omega (arith, s.count, (stmt_prints d s h).few))
 
   -- the arguments in the room for them
@@ -100,51 +102,35 @@ module _ (f : List ℕ) (w n b : ℕ) (c : Cursor) (out : List ℕ) (at : ℕ) w
   row_is_lem d s h =
       ap (λ (k : ℕ). stmt_text k (args_of s.simple)) s.word ∙ sym (stmt_text_lem s.simple (stmt_prints d s h).form s.detail) ∙ ap ended (sym s.content)
 
-  pub puts_simple : (z part out' : List ℕ) (r : ℕ) → length z ≡ 64 → part ≡ put_front (args_in (action (fuel f c) b (tokens_at f c))) z → Puts out at out' r (stmt_text w (take n part))
-      → PutsSimple f w n b c out at out' r
-  puts_simple z part out' r e g p = λ d s h. puts_is (ap (stmt_text w) (args_are_lem d s h z part e g) ∙ row_is_lem d s h) p
+  pub wrote_simple : {p p' : Page} (z part : List ℕ) → length z ≡ 64 → part ≡ put_front (args_in (action (fuel f c) b (tokens_at f c))) z → Wrote p p' (stmt_text w (take n part))
+      → WroteSimple f w n b c p p'
+  wrote_simple z part e g p = λ d s h. wrote_is (ap (stmt_text w) (args_are_lem d s h z part e g) ∙ row_is_lem d s h) p
 
 -- ---- any row
 
-module _ (f out : List ℕ) (at : ℕ) (out' : List ℕ) (r : ℕ) (w : FileRow) where
-  pub puts_nothing : w ≡ row.Nothing → PutsRow f w out at out' r
-  puts_nothing e = λ d h g. absurd (subst (RowIs f d) e h)
+module _ (f : List ℕ) {q q' : Page} (w : FileRow) where
+  pub wrote_module : w ≡ row.Module → Wrote q q' (bytes "(module 0\n") → WroteRow f w q q'
+  wrote_module e p = λ d h g. wrote_is (module_text_lem ∙ ap ended (sym (subst (RowIs f d) e h))) p
 
-  pub puts_module : w ≡ row.Module → Puts out at out' r (bytes "(module 0\n") → PutsRow f w out at out' r
-  puts_module e p = λ d h g. puts_is (module_text_lem ∙ ap ended (sym (subst (RowIs f d) e h))) p
+  pub wrote_line : (n : ℕ) → w ≡ row.Line n → Wrote q q' (numbered_text (bytes "(line") n (bytes "\n")) → WroteRow f w q q'
+  wrote_line n e p = λ d h g. wrote_is (line_text_lem n ∙ ap ended (sym (subst (RowIs f d) e h))) p
 
-  pub puts_line : (n : ℕ) → w ≡ row.Line n → Puts out at out' r (numbered_text (bytes "(line") n (bytes "\n")) → PutsRow f w out at out' r
-  puts_line n e p = λ d h g. puts_is (line_text_lem n ∙ ap ended (sym (subst (RowIs f d) e h))) p
+  pub wrote_stmt_row : (k n b : ℕ) (c : Cursor) → w ≡ row.Simple k n b c → WroteSimple f k n b c q q' → WroteRow f w q q'
+  wrote_stmt_row k n b c e p = λ d h g. p d (subst (RowIs f d) e h) g
 
-  pub puts_stmt_row : (k n b : ℕ) (c : Cursor) → w ≡ row.Simple k n b c → PutsSimple f k n b c out at out' r → PutsRow f w out at out' r
-  puts_stmt_row k n b c e p = λ d h g. p d (subst (RowIs f d) e h) g
+  pub wrote_if : w ≡ row.If → Wrote q q' (bytes "(if\n") → WroteRow f w q q'
+  wrote_if e p = λ d h g. wrote_is (if_text ∙ ap ended (sym (subst (RowIs f d) e h))) p
 
-  pub puts_if : w ≡ row.If → Puts out at out' r (bytes "(if\n") → PutsRow f w out at out' r
-  puts_if e p = λ d h g. puts_is (if_text ∙ ap ended (sym (subst (RowIs f d) e h))) p
+  pub wrote_to : (n : ℕ) → w ≡ row.To n → Wrote q q' (numbered_text (bytes "(to") n (bytes ")\n")) → WroteRow f w q q'
+  wrote_to n e p = λ d h g. wrote_is (to_text_lem n ∙ ap ended (sym (subst (RowIs f d) e h))) p
 
-  pub puts_to : (n : ℕ) → w ≡ row.To n → Puts out at out' r (numbered_text (bytes "(to") n (bytes ")\n")) → PutsRow f w out at out' r
-  puts_to n e p = λ d h g. puts_is (to_text_lem n ∙ ap ended (sym (subst (RowIs f d) e h))) p
+  pub wrote_stmts : w ≡ row.Stmts → Wrote q q' (bytes "(stmts\n") → WroteRow f w q q'
+  wrote_stmts e p = λ d h g. wrote_is (stmts_text_lem ∙ ap ended (sym (subst (RowIs f d) e h))) p
 
-  pub puts_stmts : w ≡ row.Stmts → Puts out at out' r (bytes "(stmts\n") → PutsRow f w out at out' r
-  puts_stmts e p = λ d h g. puts_is (stmts_text_lem ∙ ap ended (sym (subst (RowIs f d) e h))) p
-
-  pub puts_end : w ≡ row.End → Puts out at out' r (bytes ")\n") → PutsRow f w out at out' r
-  puts_end e p = λ d h g. puts_is (end_text ∙ ap ended (sym (subst (RowIs f d) e h))) p
+  pub wrote_end : w ≡ row.End → Wrote q q' (bytes ")\n") → WroteRow f w q q'
+  wrote_end e p = λ d h g. wrote_is (end_text ∙ ap ended (sym (subst (RowIs f d) e h))) p
 
 -- ---- row after row
-
-pub yields_first : (f : List ℕ) (s : Source) (r : Sourced) (w : FileRow) → Yields f s r w → (w ≡ row.Nothing → ⊥) → First f s r
-yields_first f s r row.Nothing h g = absurd (g refl)
-yields_first f s r row.Module h g = h
-yields_first f s r (row.Line n) h g = h
-yields_first f s r (row.Simple w n b c) h g = h
-yields_first f s r row.If h g = h
-yields_first f s r (row.To n) h g = h
-yields_first f s r row.Stmts h g = h
-yields_first f s r row.End h g = h
-
-pub yields_none : (f : List ℕ) (s : Source) (r : Sourced) (w : FileRow) → Yields f s r w → w ≡ row.Nothing → contents_from f s ≡ []
-yields_none f s r w h e = subst (λ (x : FileRow). Yields f s r x) e h
 
 first_of_lem : {P : Content → Type 0} {d : Content} {ds : List Content} → All P (d ∷ ds) → P d
 first_of_lem (all∷ h hs) = h
@@ -153,22 +139,22 @@ others_of : {P : Content → Type 0} {d : Content} {ds : List Content} → All P
 others_of (all∷ h hs) = hs
 
 -- what was put and what is due from s on are the rows ds
-pub record Going (f : List ℕ) (ds : List Content) (s : Source) (out out' : List ℕ) (r : ℕ) : Type 0 where
+pub record Going (f : List ℕ) (ds : List Content) (s : Source) (p p' : Page) : Type 0 where
   pub done : List ℕ
-  pub puts : Puts out 0 out' r done
+  pub wrote : Wrote p p' done
   pub whole : done ++ rows_text (contents_from f s) ≡ rows_text ds
   pub good : All Printable (contents_from f s)
 
-module _ (f : List ℕ) (ds : List Content) (s : Source) (out : List ℕ) where
-  pub going_start : contents_from f s ≡ ds → All Printable ds → Going f ds s out out 0
-  going_start e h = record { done = []; puts = puts_none out 0; whole = ap rows_text e; good = subst (All Printable) (sym e) h }
+module _ (f : List ℕ) (ds : List Content) (s : Source) (p : Page) where
+  pub going_start : contents_from f s ≡ ds → All Printable ds → Going f ds s p p
+  going_start e h = record { done = []; wrote = wrote_none p; whole = ap rows_text e; good = subst (All Printable) (sym e) h }
 
-  pub going_on : (p q : List ℕ) (r k : ℕ) (t : Sourced) → Going f ds s out p r → First f s t → PutsRow f t.row p r q k → Going f ds t.next out q k
-  going_on p q r k t g h w =
+  pub going_on : (q q' : Page) (t : Sourced) → Going f ds s p q → First f s t → WroteRow f t.row q q' → Going f ds t.next p q'
+  going_on q q' t g h w =
       let good : All Printable (h.content ∷ contents_from f t.next) = subst (All Printable) h.behind g.good in
       record {
         done = g.done ++ ended h.content;
-        puts = puts_both out p q 0 r k g.done (ended h.content) g.puts (w h.content h.says (first_of_lem good));
+        wrote = wrote_both g.wrote (w h.content h.says (first_of_lem good));
         whole =
             append_assoc g.done (ended h.content) (rows_text (contents_from f t.next))
             ∙ ap (λ (l : List ℕ). g.done ++ l) (sym (rows_text_more h.content (contents_from f t.next)) ∙ ap rows_text (sym h.behind)) ∙ g.whole;
@@ -178,36 +164,36 @@ module _ (f : List ℕ) (ds : List Content) (s : Source) (out : List ℕ) where
   pub going_less : (t : Sourced) → First f s t → length (contents_from f t.next) < length (contents_from f s)
   going_less t h = omega (arith, ap length h.behind)
 
-  pub going_end : (q : List ℕ) (r : ℕ) → Going f ds s out q r → contents_from f s ≡ [] → Puts out 0 q r (rows_text ds)
+  pub going_end : (q : Page) → Going f ds s p q → contents_from f s ≡ [] → Wrote p q (rows_text ds)
   unfolding rows_text text_of
-  going_end q r g e = puts_is (sym (append-nil g.done) ∙ ap (λ (l : List Content). g.done ++ rows_text l) (sym e) ∙ g.whole) g.puts
+  going_end q g e = wrote_is (sym (append-nil g.done) ∙ ap (λ (l : List Content). g.done ++ rows_text l) (sym e) ∙ g.whole) g.wrote
 
 -- ---- the whole file
 
-module _ (f : List ℕ) (j : Judged) (told : j ≡ judged_of (read_program f)) where
-  accepted : (n m : ℕ) → j ≡ Accepted n m → (L : Listing) × (read_program f ≡ listing L)
+module _ (f : List ℕ) (j : Result Counts Refusal) (told : told_of j ≡ judged_of (read_program f)) where
+  accepted : (n : Counts) → j ≡ Ok n → (L : Listing) × (read_program f ≡ listing L)
   unfolding judged_of
-  accepted n m e = go (read_program f) refl (sym told ∙ e)
+  accepted n e = go (read_program f) refl (sym told ∙ ap told_of e)
     where
-      go : (a : Answer) → read_program f ≡ a → judged_of a ≡ Accepted n m → (L : Listing) × (read_program f ≡ listing L)
+      go : (a : Answer) → read_program f ≡ a → judged_of a ≡ told_of (Ok n) → (L : Listing) × (read_program f ≡ listing L)
       go (listing L) h i = (L, h)
       go (refusal k p) h i = absurd (cc)
 
-  pub accepted_prints : (n m : ℕ) → j ≡ Accepted n m → All Printable (module_row false ∷ lines_at f 2)
-  accepted_prints n m e =
-      let a = accepted n m e in
+  pub accepted_prints : (n : Counts) → j ≡ Ok n → All Printable (module_row false ∷ lines_at f 2)
+  accepted_prints n e =
+      let a = accepted n e in
       subst (All Printable) (sym (rows_are_lem f a.0 a.1)) (listing_prints a.0 (program_within f a.0 a.1).lines (program_cut f a.0 a.1))
 
-  pub accepted_text : (n m : ℕ) → j ≡ Accepted n m → rows_text (module_row false ∷ lines_at f 2) ≡ prglist f
+  pub accepted_text : (n : Counts) → j ≡ Ok n → rows_text (module_row false ∷ lines_at f 2) ≡ prglist f
   unfolding prglist answer_text
-  accepted_text n m e =
-      let a = accepted n m e in
+  accepted_text n e =
+      let a = accepted n e in
       ap rows_text (rows_are_lem f a.0 a.1) ∙ sym (listing_rows_text a.0) ∙ ap answer_text (sym a.1)
 
-  pub refused_text : (n p : ℕ) → j ≡ Refused n p → printed_refusal n p ≡ prglist f
+  pub refused_text : (r : Refusal) → j ≡ Err r → printed_refusal (number_of r.reason) r.place ≡ prglist f
   unfolding prglist answer_text judged_of
-  refused_text n p e = go (read_program f) (sym told ∙ e)
+  refused_text r e = go (read_program f) (sym told ∙ ap told_of e)
     where
-      go : (a : Answer) → judged_of a ≡ Refused n p → printed_refusal n p ≡ answer_text a
+      go : (a : Answer) → judged_of a ≡ told_of (Err r) → printed_refusal (number_of r.reason) r.place ≡ answer_text a
       go (listing L) i = absurd (cc)
-      go (refusal k q) i = let x : k ≡ n = cc in let y : q ≡ p = cc in rw (x, y)
+      go (refusal k q) i = let x : k ≡ number_of r.reason = cc in let y : q ≡ r.place = cc in rw (x, y)

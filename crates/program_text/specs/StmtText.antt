@@ -11,7 +11,8 @@ use Rattle.listings.specs.Records.{name_key, slot_key, args_of, tier_number, mar
 use Rattle.listings.specs.Every.{All, all[], all∷}
 use Rattle.graph.specs.Lists.{each}
 use Rattle.tokens.specs.Names.{key_not-zero}
-use Rattle.formatting.specs.Printing.{Puts, puts_both}
+use Rattle.formatting.specs.Pages.{Wrote, wrote_both}
+use Rattle.formatting.specs.declared.page.Page.{Page}
 use Rattle.program_text.specs.KeyText.{key_bytes, NamePrints, name_text}
 
 -- 0 is `*`
@@ -165,11 +166,7 @@ pub tier_none : (w : ℕ) → (w ≡ 13 → ⊥) → [] ≡ tier_text w
 unfolding tier_text
 tier_none w h = rw (ne_eqb w 13 h)
 
-pub puts_stmt : (p q s t u v : List ℕ) (n m i j k r w : ℕ) (vs : List ℕ) → Puts p n q m (40 ∷ get_or words w []) → Puts q m s i (mark_text w) → Puts s i t j (arg_texts w vs)
-    → Puts t j u k (tier_text w) → Puts u k v r (bytes ")\n") → Puts p n v r (stmt_text w vs)
+pub wrote_stmt : {p q s t u v : Page} (w : ℕ) (vs : List ℕ) → Wrote p q (40 ∷ get_or words w []) → Wrote q s (mark_text w) → Wrote s t (arg_texts w vs)
+    → Wrote t u (tier_text w) → Wrote u v (bytes ")\n") → Wrote p v (stmt_text w vs)
 unfolding stmt_text
-puts_stmt p q s t u v n m i j k r w vs a b c d e =
-    let x = 40 ∷ get_or words w [] in
-    puts_both p t v n j r ((x ++ mark_text w) ++ arg_texts w vs) (tier_text w ++ bytes ")\n")
-    (puts_both p s t n i j (x ++ mark_text w) (arg_texts w vs) (puts_both p q s n m i x (mark_text w) a b) c)
-    (puts_both t u v j k r (tier_text w) (bytes ")\n") d e)
+wrote_stmt w vs a b c d e = wrote_both (wrote_both (wrote_both a b) c) (wrote_both d e)

@@ -9,26 +9,22 @@ ghost use Rattle.program_text.specs.Limits.{Whole};
 ghost use Rattle.program_text.specs.Printable.{Printable, rows_text};
 
 use super::rows::put_row;
-use basic::judge::{Judged, judge_program};
+use basic::judge::judge_program;
 use basic::rows::{first_row, row_at};
-use basic::sources::FileRow;
-use formatting::print_rows::put_refusal;
+use formatting::page::{Page, print_refusal};
 
 // Every row of an accepted file, one after the other.
 fn put_rows(file: &[u8], out: &mut [u8]) -> usize
     requires { All Printable (module_row false ∷ lines_at file.now 2) }
     ensures { Puts out.old 0 out.new result (rows_text (module_row false ∷ lines_at file.now 2)) }
 {
-    let mut r: usize = 0;
+    let mut page = Page::new(out);
     let mut s = first_row();
-    loop {
-        let t = row_at(file, s);
-        if let FileRow::Nothing = t.row {
-            return r;
-        }
-        r = put_row(file, t.row, out, r);
+    while let Some(t) = row_at(file, s) {
+        put_row(file, t.row, &mut page);
         s = t.next;
     }
+    page.len()
 }
 
 // The listing that a file means, in the bracket form, or its refusal. Bytes that do not fit are dropped; the answer is where the next byte would go.
@@ -36,8 +32,8 @@ pub fn list_program(file: &[u8], out: &mut [u8]) -> usize
     ensures { Puts out.old 0 out.new result (prglist file.now) }
 {
     match judge_program(file) {
-        Judged::Refused { number, place } => put_refusal(out, 0, number as usize, place),
-        Judged::Accepted { lines: _, stmts: _ } => put_rows(file, out),
+        Err(r) => print_refusal(out, r),
+        Ok(_) => put_rows(file, out),
     }
 }
 

@@ -1,5 +1,5 @@
 -- The frame question on the tables that a build wrote for a listing: the answer is that of the listing's graph. Assumes nothing.
-use Rattle.std.specs.Prelude.{ℕ, ◌+◌, ◌*◌, ◌≤◌, ◌<◌, ◌≡◌, Bool, eqb, length, get_or}
+use Rattle.std.specs.Prelude.{ℕ, Result, ◌+◌, ◌*◌, ◌≤◌, ◌<◌, ◌≡◌, Bool, eqb, length, get_or}
 use Rattle.std.proofs.Math.Path.{refl, ap, subst}
 use Rattle.std.proofs.Common.{sym, ◌∙◌, arith}
 use mathlib.Core.List.{List, []}
@@ -41,7 +41,7 @@ use Rattle.frame_slices.specs.FrameAnswer.{FrameAnswered}
 use Rattle.frame_lists.specs.FrameChecks.{answer_as}
 use Rattle.statements.specs.StatementAt.{no_statement, unless_refused}
 use Rattle.questions.specs.PathAnswers.{stated, recorded_by}
-use Rattle.frame_slices.specs.declared.slices.Framed.{Framed}
+use Rattle.layout.specs.declared.refusals.Refusal.{Refusal}
 
 -- ---- by the number of the opening word
 
@@ -206,6 +206,6 @@ module _ (L : Listing) (s : Sizes) (T : Tables) (ok : Within L) (f : LongEnough 
       ∙ frame_is frame_tables h i v flag room
 
   -- so what `ask_frame` promises is the answer of the listing's graph
-  pub frame_answered : (h i : ℕ) (v : Name) (flag : Bool) (out out' : List ℕ) (r : Framed)
+  pub frame_answered : (h i : ℕ) (v : Name) (flag : Bool) (out out' : List ℕ) (r : Result ℕ Refusal)
       → FrameAnswered (frame_at (get_or T.counts 0 0) (get_or T.counts 1 0) T.stmts T.args T.falls T.lists T.succ h i v flag (length out)) out out' r → FrameAnswered (ask_frame L h i v flag (length out)) out out' r
   frame_answered h i v flag out out' r g = answer_as _ _ out out' r (frame_built h i v flag (length out)) g

@@ -1,6 +1,6 @@
 -- The mission (00-mission.md) as one theorem: what holds for every input and all lent tables once `build` has returned, and of every question asked of the tables
 -- that it left. `Means L`: the input is one that gives the listing L; a text means the listing that it is the text of, with its names cut (`ListingOf`), a saved program what its definition reads (`FileOf`). Number: what such an input can be refused by. q: what it means, or its refusal. Statements alone, to be read beside 00-mission.md; quotes are its words and document 01's. The proof is in MissionProof. Assumes nothing.
-use Rattle.std.specs.Prelude.{ℕ, ◌≡◌, Bool, false, List, [], ◌⊎◌, length, get_or, take}
+use Rattle.std.specs.Prelude.{ℕ, Result, ◌≡◌, Bool, false, List, [], ◌⊎◌, length, get_or, take}
 use Rattle.std.proofs.Math.Option.{some}
 use Rattle.std.proofs.Math.ListN.{get_elem?}
 use Rattle.listings.specs.Listing.{Name, Listing}
@@ -19,14 +19,15 @@ use Rattle.tables.specs.EntryRows.{entries_in}
 use Rattle.passes.specs.TableForms.{Sizes, Tables, Written, AllZero}
 use Rattle.wiring.specs.GraphTables.{BuildWrote}
 use Rattle.wiring.specs.Refusals.{Gives, NumberOf, LongEnough, Refusal}
-use Rattle.wiring.specs.declared.build.Built.{Built as BuiltAnswer}
-use Rattle.wiring.specs.declared.build.Built.TheVariants as built
+use Rattle.wiring.specs.BuiltAnswer.{BuiltAnswer}
+use Rattle.wiring.specs.BuiltAnswer as built
 use Rattle.adjacency.specs.ListsAt.{successors_at, predecessors_at, list_reply, part_of}
 use Rattle.adjacency.specs.EntryAt.{entry_at}
 use Rattle.statements.specs.StatementAt.{node_statement, path_statement}
 use Rattle.frame_lists.specs.FrameAt.{frame_at}
-use Rattle.frame_slices.specs.FrameAnswer.{framed_of, slice_after, FrameAnswered}
-use Rattle.frame_slices.specs.declared.slices.Framed.{Framed}
+use Rattle.frame_slices.specs.FrameAnswer.{length_of, slice_after, FrameAnswered}
+use Rattle.layout.specs.declared.refusals.Refusal.{Refusal as RefusalAnswer}
+use Rattle.tables.specs.Told.{told}
 
 -- ---- demand 1
 
@@ -97,9 +98,9 @@ pub record Questions (L : Listing) (T : Tables) : Type 0 where
       → frame_at (get_or T.counts 0 0) (get_or T.counts 1 0) T.stmts T.args T.falls T.lists T.succ header node v flag room ≡ ask_frame L header node v flag room
   -- whatever slice is lent, by what the routine promises: the answer is that of the graph for its room; an accepted build "zeroes its tables past the used
   -- parts, and so does the frame question its slice"; "a refused question writes nothing"
-  pub slice : (header node : ℕ) (v : Name) (flag : Bool) (out out' : List ℕ) (r : Framed)
+  pub slice : (header node : ℕ) (v : Name) (flag : Bool) (out out' : List ℕ) (r : Result ℕ RefusalAnswer)
       → FrameAnswered (frame_at (get_or T.counts 0 0) (get_or T.counts 1 0) T.stmts T.args T.falls T.lists T.succ header node v flag (length out)) out out' r
-      → (r ≡ framed_of (ask_frame L header node v flag (length out))) × (out' ≡ slice_after (ask_frame L header node v flag (length out)) out)
+      → (told r ≡ length_of (ask_frame L header node v flag (length out))) × (out' ≡ slice_after (ask_frame L header node v flag (length out)) out)
 
 -- ---- the mission
 

@@ -4,7 +4,7 @@ use Rattle.std.proofs.Math.Path.{sym, ap}
 use Rattle.std.proofs.Common.{◌∙◌}
 use Rattle.std.proofs.Math.Option.{some}
 use Rattle.std.proofs.Math.ListN.{get_elem?, take}
-use Rattle.listings.specs.Listing.{Listing, total, count}
+use Rattle.listings.specs.Listing.{Listing, total}
 use Rattle.listings.specs.Read.{Answer}
 use Rattle.listings.specs.Cut.{meant}
 use Rattle.program_files.specs.Inputs.{meaning}
@@ -27,8 +27,8 @@ use Rattle.wiring.specs.GraphTables.{BuildWrote}
 use Rattle.wiring.specs.Refusals.{Gives, ListingOf, NumberOf, ReadAs, LongEnough}
 use Rattle.wiring.specs.WrittenLaws.{graph_held, counts_held, nodes-total, held_entries, held_succ, held_pred, held_continuation}
 use Rattle.wiring.specs.BuildAnswers.{input_read, text_read, decided, refuses, refused_by, carries_out, graph_of, long_enough, number_of}
-use Rattle.wiring.specs.declared.build.Built.{Built as BuiltAnswer}
-use Rattle.wiring.specs.declared.build.Built.TheVariants as built
+use Rattle.wiring.specs.BuiltAnswer.{BuiltAnswer}
+use Rattle.wiring.specs.BuiltAnswer as built
 use Rattle.adjacency.specs.ListsAt.{list_reply, part_of}
 use Rattle.questions.specs.Mission.{NodeWritten, Demand2, list_of, Questions, Mission, MissionMet}
 use Rattle.questions.specs.TableAnswers.{successors_are, predecessors_are, entry_is}

@@ -209,7 +209,7 @@ module _ (lines : ℕ) (stmts : List ℕ) (ns : List Node) (R : Recorded lines s
       here =
           elim (eq-or h 0) [
             | inl z ↦ sym (on_line_lem stmts d.line h x i a b z) ∙ eq-eqb (line_of stmts i) d.line (R.lined i d e)
-            | inr f ↦ sym (under-if stmts d.line h x i a b f) ∙ in_if_here (R.held i d e) f
+            | inr f ↦ sym (under-if stmts d.line h x i a b (h - 1) (omega arith)) ∙ in_if_here (R.held i d e) f
           ]
 
   node_on : (line : ℕ) (ps : List ℕ) (j x : ℕ) → node_at stmts (length ns) line 0 ps ≡ suc j → node_at stmts (length ns) line 0 (ps ++ (x ∷ [])) ≡ child_at stmts (length ns) line (suc j) x

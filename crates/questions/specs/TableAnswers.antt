@@ -5,7 +5,7 @@ use Rattle.std.proofs.Math.Path.{ap}
 use mathlib.Core.List.{List}
 use Rattle.std.proofs.Math.Option.{Option, none, some}
 use Rattle.std.proofs.Math.Decide.{dec_lt}
-use Rattle.listings.specs.Listing.{Listing, total, count}
+use Rattle.listings.specs.Listing.{Listing, total}
 use Rattle.listings.specs.ListingText.{Within}
 use Rattle.graph.specs.Nodes.{entry_in, entry_of}
 use Rattle.graph_laws.specs.NodeLaws.{Below, entry_fits}
@@ -18,7 +18,6 @@ use Rattle.passes.specs.GraphHeld.{GraphHeld}
 use Rattle.passes.specs.GraphReads.{nodes_readable}
 use Rattle.wiring.specs.WrittenLaws.{graph_held, counts_held, nodes-total, held_entries, held_succ, held_pred}
 use Rattle.wiring.specs.Refusals.{LongEnough}
-use Rattle.wiring.specs.declared.build.Built.TheVariants as built
 use Rattle.graph.specs.Questions.{Reply, answer, if_node, ask_successors, ask_predecessors, ask_entry}
 use Rattle.adjacency.specs.ListsAt.{list_at, successors_at, predecessors_at, list_reply}
 use Rattle.adjacency.specs.ListsAtLaws.{no_node, list_found}

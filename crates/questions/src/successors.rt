@@ -1,8 +1,9 @@
 // A node's successors and predecessors.
 ghost use Rattle.std.specs.Prelude.{◌≡◌, length};
-ghost use Rattle.adjacency.specs.ListsAt.{successors_at, predecessors_at, asked_of, part_of};
+ghost use Rattle.tables.specs.Told.{told};
+ghost use Rattle.adjacency.specs.ListsAt.{successors_at, predecessors_at, part_of};
 
-use adjacency::successors::Asked;
+use layout::refusals::Refusal;
 
 // The successors: that part of the lent edge table; empty where the question is refused.
 pub fn successors<'a>(counts: &[u32; 6], lists: &[u16], succ: &'a [u16], node: usize) -> &'a [u16]
@@ -18,16 +19,26 @@ pub fn predecessors<'a>(counts: &[u32; 6], lists: &[u16], pred: &'a [u16], node:
     adjacency::successors::predecessors(counts, lists, pred, node)
 }
 
-// Where that part stands, or the refusal.
-pub fn ask_successors(counts: &[u32; 6], lists: &[u16], succ: &[u16], node: usize) -> Asked
-    ensures { result ≡ asked_of (successors_at counts.now lists.now (length succ.now) node) }
+// Where that part stands, start and length, or the refusal.
+pub fn ask_successors(
+    counts: &[u32; 6],
+    lists: &[u16],
+    succ: &[u16],
+    node: usize,
+) -> Result<(usize, usize), Refusal>
+    ensures { told result ≡ successors_at counts.now lists.now (length succ.now) node }
 {
     adjacency::successors::ask_successors(counts, lists, succ, node)
 }
 
 // The same of the predecessors.
-pub fn ask_predecessors(counts: &[u32; 6], lists: &[u16], pred: &[u16], node: usize) -> Asked
-    ensures { result ≡ asked_of (predecessors_at counts.now lists.now (length pred.now) node) }
+pub fn ask_predecessors(
+    counts: &[u32; 6],
+    lists: &[u16],
+    pred: &[u16],
+    node: usize,
+) -> Result<(usize, usize), Refusal>
+    ensures { told result ≡ predecessors_at counts.now lists.now (length pred.now) node }
 {
     adjacency::successors::ask_predecessors(counts, lists, pred, node)
 }

@@ -1,20 +1,24 @@
 -- The rows of an accepted text: each is in form, so that less has to be judged when it is read again. Assumes nothing.
-use Rattle.std.specs.Prelude.{ℕ, ◌-◌, ◌≤◌, ◌<◌, ◌≡◌, refl, List, [], ◌∷◌, Bool, true, false, eqb, ltb, leb, length, get_or, take, drop}
-use Rattle.std.proofs.Common.{sym, ap, ◌∙◌, subst, arith, ne_eqb, eqb-true}
+use Rattle.std.specs.Prelude.{ℕ, ◌-◌, ◌≤◌, ◌<◌, ◌≡◌, refl, List, [], ◌∷◌, Bool, true, false, eqb, ltb, leb, length, get_or, take, drop, Option as Maybe, Some, None, Result, Ok, Err}
+use Rattle.std.proofs.Common.{sym, ap, ◌∙◌, subst, arith, eqb-true}
 use Rattle.std.proofs.Math.Option.{Option, none, some}
 use Rattle.std.proofs.Math.Decide.{dec_lt}
 use Rattle.std.proofs.lemmas.Bool.{eqb-false}
 use Rattle.listings.specs.Bytes.{same, pick}
-use Rattle.listings.specs.Rows.{split, are_words, form_row, row_of, opening_words, lookup, Parse, malformed, invalid, parsed, single, handler_facts, module_by, module_content, content_of}
-use Rattle.listings.specs.WordTable.{forms, word_index, kind_at, kind-none}
+use Rattle.listings.specs.Rows.{split, are_words, form_row, row_of, lookup, Parse, malformed, invalid, parsed, single, handler_facts, module_by, module_content, content_of}
+use Rattle.listings.specs.WordTable.{word_index}
 use Rattle.listing_laws.specs.WordSlots.{candidate_of, own_candidate}
 use Rattle.listings.specs.Scan.{index_of, after}
-use Rattle.tokens.specs.Arguments.{arg_check, check_kind}
-use Rattle.reader.specs.CodedRows.{as_line, as_to, no_row, as_row, simple_by, args_row, bare_row, form_false, form_one, form_more, row_empty, row_end, row_bad}
+use Rattle.tokens.specs.Arguments.{check_kind}
+use Rattle.tokens.specs.Kinds.{opened_kind, opened_past}
+use Rattle.tokens.specs.declared.words.Kind.{Kind}
+use Rattle.tokens.specs.declared.words.Kind.TheVariants as kind
+use Rattle.layout.specs.declared.refusals.Reason.{Reason}
+use Rattle.reader.specs.CodedRows.{place_number, as_line, as_to, as_row, simple_by, closed_args, opened_args, args_row, closed_bare, opened_bare, bare_row, closed_others, form_false, form_one, form_more, row_empty, row_end, row_bad}
 use Rattle.reader.specs.Machine.{may_branch, one_more, step_simple, step_row}
-use Rattle.tokens.specs.declared.arguments.ArgCheck.{ArgCheck}
 use Rattle.reader.specs.declared.machine.State.{State}
-use Rattle.reader.specs.declared.machine.Step.TheVariants.{Taken, Refused}
+use Rattle.reader.specs.declared.rows.Position.TheVariants as at
+use Rattle.layout.specs.declared.refusals.Reason.TheVariants as reason
 use Rattle.reader.specs.declared.rows.Row.{Row}
 use Rattle.reader.specs.declared.rows.Row.TheVariants as row
 
@@ -42,13 +46,13 @@ uncounted (row.Cond k) = row.Cond k
 
 -- ---- what is taken is in form, and is taken without its count
 
-not_taken : (a b : Bool) (n : ℕ) (v : State) → pick a (pick b (Refused n) (Refused 2)) (Refused 2) ≡ Taken v → ⊥
-not_taken true true n v e = let z : ◌≡◌ {A = ℕ} 0 1 = cc in omega arith
-not_taken true false n v e = let z : ◌≡◌ {A = ℕ} 0 1 = cc in omega arith
-not_taken false b n v e = let z : ◌≡◌ {A = ℕ} 0 1 = cc in omega arith
+not_taken : (a b : Bool) (n : Reason) (v : State) → pick a (pick b (Err n) (Err reason.NotAForm)) (Err reason.NotAForm) ≡ Ok v → ⊥
+not_taken true true n v e = cc
+not_taken true false n v e = cc
+not_taken false b n v e = cc
 
-pub taken_formed : (s v : State) (d : Row) → step_row s d ≡ Taken v → WellFormed d
-taken_formed s v (row.Refused n p) e = not_taken (eqb s.position p) (may_branch s.word s.branches) n v e
+pub taken_formed : (s v : State) (d : Row) → step_row s d ≡ Ok v → WellFormed d
+taken_formed s v (row.Refused n p) e = not_taken (eqb (place_number s.position) (place_number p)) (may_branch s.word s.branches) n v e
 taken_formed s v row.End e = tt
 taken_formed s v row.Stmts e = tt
 taken_formed s v (row.Module h) e = tt
@@ -57,19 +61,19 @@ taken_formed s v (row.To n) e = tt
 taken_formed s v (row.Simple k n) e = tt
 taken_formed s v (row.Cond k) e = tt
 
-simple_uncounted : (s v : State) (n : ℕ) → step_simple s n ≡ Taken v → step_simple s 0 ≡ Taken v
-simple_uncounted s v n = go (eqb s.position 3) (ltb s.stmts 4096) (leb s.depth 16) (leb n 64)
+simple_uncounted : (s v : State) (n : ℕ) → step_simple s n ≡ Ok v → step_simple s 0 ≡ Ok v
+simple_uncounted s v n = go (eqb (place_number s.position) 3) (ltb s.stmts 4096) (leb s.depth 16) (leb n 64)
   where
     go : (a b c d : Bool)
-        → pick a (pick b (pick c (pick d (Taken (one_more s 3 0)) (Refused 8)) (Refused 7)) (Refused 6)) (Refused 2) ≡ Taken v
-        → pick a (pick b (pick c (Taken (one_more s 3 0)) (Refused 7)) (Refused 6)) (Refused 2) ≡ Taken v
+        → pick a (pick b (pick c (pick d (Ok (one_more s at.InStmts 0)) (Err reason.TooWide)) (Err reason.TooDeep)) (Err reason.TooManyStatements)) (Err reason.NotAForm) ≡ Ok v
+        → pick a (pick b (pick c (Ok (one_more s at.InStmts 0)) (Err reason.TooDeep)) (Err reason.TooManyStatements)) (Err reason.NotAForm) ≡ Ok v
     go false b c d e = e
     go true false c d e = e
     go true true false d e = e
     go true true true true e = e
-    go true true true false e = let z : ◌≡◌ {A = ℕ} 0 1 = cc in absurd (omega arith)
+    go true true true false e = cc
 
-pub taken-uncounted : (s v : State) (d : Row) → step_row s d ≡ Taken v → step_row s (uncounted d) ≡ Taken v
+pub taken-uncounted : (s v : State) (d : Row) → step_row s d ≡ Ok v → step_row s (uncounted d) ≡ Ok v
 taken-uncounted s v (row.Refused n p) e = e
 taken-uncounted s v row.End e = e
 taken-uncounted s v row.Stmts e = e
@@ -101,68 +105,77 @@ module_same (w ∷ []) = go (lookup handler_facts w)
     go (some h) = refl
 module_same (w ∷ v ∷ ws) = refl
 
-pub open_module : (g k : ℕ) (ws : List (List ℕ)) → g ≡ 0 → as_row (module_content ws) ≡ uncounted (args_row g k false ws)
-unfolding args_row
-open_module g k ws h = rw h (module_same ws)
+-- one that is not closed
+pub opened_same : (g : Kind) (ws : List (List ℕ)) → opened_args g ws ≡ uncounted (opened_args g ws)
+unfolding opened_args
+opened_same kind.Module ws = module_same ws
+opened_same kind.Line ws = line_same (single ws)
+opened_same kind.To ws = refl
+opened_same kind.Stmts ws = refl
+opened_same kind.Cond ws = refl
+opened_same kind.Bare ws = refl
+opened_same kind.Number ws = refl
+opened_same kind.Numbers ws = refl
+opened_same kind.Run ws = refl
+opened_same kind.For ws = refl
+opened_same kind.Next ws = refl
 
-pub open_line : (g k : ℕ) (ws : List (List ℕ)) → (g ≡ 0 → ⊥) → WellFormed (args_row g k false ws) → as_line (single ws) ≡ uncounted (args_row g k false ws)
-unfolding args_row
-open_line g k ws h f =
-    let q = ne_eqb g 0 h in
-    rw q (go (eqb g 1) (rw q at f))
-  where
-    go : (b : Bool) → WellFormed (pick b (as_line (single ws)) no_row) → as_line (single ws) ≡ uncounted (pick b (as_line (single ws)) no_row)
-    go true f = line_same (single ws)
-    go false f = absurd f
+pub closed_to : (k : ℕ) (ws : List (List ℕ)) → as_to (single ws) ≡ uncounted (closed_args kind.To k ws)
+unfolding closed_args
+closed_to k ws = to_same (single ws)
 
-pub closed_to : (g k : ℕ) (ws : List (List ℕ)) → g ≡ 2 → as_to (single ws) ≡ uncounted (args_row g k true ws)
-unfolding args_row
-closed_to g k ws h = rw h (to_same (single ws))
+simple_formed : (k : ℕ) (t : Result ℕ Reason) → WellFormed (simple_by k t) → row.Simple k 0 ≡ uncounted (simple_by k t)
+simple_formed k (Ok n) h = refl
+simple_formed k (Err r) h = absurd h
 
-simple_formed : (k : ℕ) (t : ArgCheck) → WellFormed (simple_by k t) → row.Simple k 0 ≡ uncounted (simple_by k t)
-simple_formed k t = go (eqb t.refusal 0)
-  where
-    go : (a : Bool) → WellFormed (pick a (row.Simple k t.count) (row.Refused t.refusal 3)) → row.Simple k 0 ≡ uncounted (pick a (row.Simple k t.count) (row.Refused t.refusal 3))
-    go true h = refl
-    go false h = absurd h
-
-pub closed_simple : (g k : ℕ) (ws : List (List ℕ)) → (g ≡ 2 → ⊥) → WellFormed (args_row g k true ws) → row.Simple k 0 ≡ uncounted (args_row g k true ws)
-unfolding args_row
+pub closed_simple : (g : Kind) (k : ℕ) (ws : List (List ℕ)) → (g ≡ kind.To → ⊥) → WellFormed (closed_args g k ws) → row.Simple k 0 ≡ uncounted (closed_args g k ws)
 closed_simple g k ws h f =
-    let q = ne_eqb g 2 h in
-    rw q (simple_formed k (check_kind g ws) (rw q at f))
+    let e = closed_others g k ws h in
+    simple_formed k (check_kind g ws) (subst WellFormed (sym e) f) ∙ ap uncounted e
 
-pub bare-same : (g k : ℕ) (c : Bool) → bare_row g k c ≡ uncounted (bare_row g k c)
+closed_bare_same : (g : Kind) (k : ℕ) → closed_bare g k ≡ uncounted (closed_bare g k)
+unfolding closed_bare
+closed_bare_same kind.Module k = refl
+closed_bare_same kind.Line k = refl
+closed_bare_same kind.To k = refl
+closed_bare_same kind.Stmts k = refl
+closed_bare_same kind.Cond k = refl
+closed_bare_same kind.Bare k = refl
+closed_bare_same kind.Number k = refl
+closed_bare_same kind.Numbers k = refl
+closed_bare_same kind.Run k = refl
+closed_bare_same kind.For k = refl
+closed_bare_same kind.Next k = refl
+
+opened_bare_same : (g : Kind) (k : ℕ) → opened_bare g k ≡ uncounted (opened_bare g k)
+unfolding opened_bare
+opened_bare_same kind.Module k = refl
+opened_bare_same kind.Line k = refl
+opened_bare_same kind.To k = refl
+opened_bare_same kind.Stmts k = refl
+opened_bare_same kind.Cond k = refl
+opened_bare_same kind.Bare k = refl
+opened_bare_same kind.Number k = refl
+opened_bare_same kind.Numbers k = refl
+opened_bare_same kind.Run k = refl
+opened_bare_same kind.For k = refl
+opened_bare_same kind.Next k = refl
+
+pub bare-same : (g : Maybe Kind) (k : ℕ) (c : Bool) → bare_row g k c ≡ uncounted (bare_row g k c)
 unfolding bare_row
-bare-same g k true = go (eqb g 5) (eqb g 7) (eqb g 8)
-  where
-    go : (a b c : Bool) → pick a (row.Simple k 0) (pick b (row.Simple k 0) (pick c (row.Simple k 0) no_row)) ≡ uncounted (pick a (row.Simple k 0) (pick b (row.Simple k 0) (pick c (row.Simple k 0) no_row)))
-    go true b c = refl
-    go false true c = refl
-    go false false true = refl
-    go false false false = refl
-bare-same g k false = go (eqb g 3) (eqb g 4)
-  where
-    go : (a b : Bool) → pick a row.Stmts (pick b (row.Cond (k - 2)) no_row) ≡ uncounted (pick a row.Stmts (pick b (row.Cond (k - 2)) no_row))
-    go true b = refl
-    go false true = refl
-    go false false = refl
+bare-same None k c = refl
+bare-same (Some g) k true = closed_bare_same g k
+bare-same (Some g) k false = opened_bare_same g k
 
 -- ---- no opening word, no form
 
-no_kind : (k : ℕ) → 28 ≤ k → kind_at k ≡ 11
-unfolding kind_at forms opening_words
-no_kind k h = kind-none forms k h
-
-bare-none : (k : ℕ) (c : Bool) → WellFormed (bare_row 11 k c) → ⊥
+bare-none : (k : ℕ) (c : Bool) → WellFormed (bare_row None k c) → ⊥
 unfolding bare_row
-bare-none k true f = f
-bare-none k false f = f
+bare-none k c f = f
 
-args_none : (k : ℕ) (c : Bool) (ws : List (List ℕ)) → WellFormed (args_row 11 k c ws) → ⊥
-unfolding args_row check_kind arg_check
-args_none k true ws f = f
-args_none k false ws f = f
+args_none : (k : ℕ) (c : Bool) (ws : List (List ℕ)) → WellFormed (args_row None k c ws) → ⊥
+unfolding args_row
+args_none k c ws f = f
 
 -- ---- a form, a row
 
@@ -175,7 +188,7 @@ formed_words c ws f = go (are_words ws) refl
 
 module _ (c : Bool) (s : List ℕ) (e : ℕ) (found : e ≡ index_of 32 s) (formed : WellFormed (as_row (content_of (form_row c (split 32 s))))) where
   formed_opening : e ≤ length s → word_index (take (e - 0) (drop 0 s)) < 28
-  formed_opening le = elim (dec_lt k 28) [ yes h ↦ h | no h ↦ absurd (go (no_kind k (omega (arith, h))) (eqb e (length s)) refl) ]
+  formed_opening le = elim (dec_lt k 28) [ yes h ↦ h | no h ↦ absurd (go (opened_past k (omega (arith, h))) (eqb e (length s)) refl) ]
     where
       k : ℕ
       k = word_index (take (e - 0) (drop 0 s))
@@ -183,24 +196,24 @@ module _ (c : Bool) (s : List ℕ) (e : ℕ) (found : e ≡ index_of 32 s) (form
       words : are_words (split 32 s) ≡ true
       words = formed_words c (split 32 s) formed
 
-      go : kind_at k ≡ 11 → (t : Bool) → eqb e (length s) ≡ t → ⊥
-      go q true h = bare-none k c (subst (λ (n : ℕ). WellFormed (bare_row n k c)) q (subst WellFormed (form_one c s e found words (eqb-true e (length s) h)) formed))
+      go : opened_kind k ≡ None → (t : Bool) → eqb e (length s) ≡ t → ⊥
+      go q true h = bare-none k c (subst (λ (n : Maybe Kind). WellFormed (bare_row n k c)) q (subst WellFormed (form_one c s e found words (eqb-true e (length s) h)) formed))
       go q false h =
           let lt : e < length s = omega (arith, eqb-false e (length s) h) in
-          args_none k c (split 32 (after s e)) (subst (λ (n : ℕ). WellFormed (args_row n k c (split 32 (after s e)))) q (subst WellFormed (form_more c s e found words lt) formed))
+          args_none k c (split 32 (after s e)) (subst (λ (n : Maybe Kind). WellFormed (args_row n k c (split 32 (after s e)))) q (subst WellFormed (form_more c s e found words lt) formed))
 
   pub formed_candidate : (k : ℕ) → k ≡ candidate_of (take (e - 0) (drop 0 s)) → e ≤ length s → k ≡ word_index (take (e - 0) (drop 0 s))
   formed_candidate k q le = q ∙ own_candidate (take (e - 0) (drop 0 s)) (formed_opening le)
 
-  pub formed_one : (k : ℕ) → k ≡ word_index (take (e - 0) (drop 0 s)) → e ≡ length s → bare_row (kind_at k) k c ≡ uncounted (as_row (content_of (form_row c (split 32 s))))
+  pub formed_one : (k : ℕ) → k ≡ word_index (take (e - 0) (drop 0 s)) → e ≡ length s → bare_row (opened_kind k) k c ≡ uncounted (as_row (content_of (form_row c (split 32 s))))
   formed_one k q h =
-      let p = ap (λ (n : ℕ). bare_row (kind_at n) n c) q ∙ sym (form_one c s e found (formed_words c (split 32 s) formed) h) in
-      bare-same (kind_at k) k c ∙ ap uncounted p
+      let p = ap (λ (n : ℕ). bare_row (opened_kind n) n c) q ∙ sym (form_one c s e found (formed_words c (split 32 s) formed) h) in
+      bare-same (opened_kind k) k c ∙ ap uncounted p
 
-  pub formed_args : (k : ℕ) → k ≡ word_index (take (e - 0) (drop 0 s)) → e < length s → args_row (kind_at k) k c (split 32 (after s e)) ≡ as_row (content_of (form_row c (split 32 s)))
-  formed_args k q h = ap (λ (n : ℕ). args_row (kind_at n) n c (split 32 (after s e))) q ∙ sym (form_more c s e found (formed_words c (split 32 s) formed) h)
+  pub formed_args : (k : ℕ) → k ≡ word_index (take (e - 0) (drop 0 s)) → e < length s → args_row (opened_kind k) k c (split 32 (after s e)) ≡ as_row (content_of (form_row c (split 32 s)))
+  formed_args k q h = ap (λ (n : ℕ). args_row (opened_kind n) n c (split 32 (after s e))) q ∙ sym (form_more c s e found (formed_words c (split 32 s) formed) h)
 
-  pub formed_more : (k : ℕ) → k ≡ word_index (take (e - 0) (drop 0 s)) → e < length s → WellFormed (args_row (kind_at k) k c (split 32 (after s e)))
+  pub formed_more : (k : ℕ) → k ≡ word_index (take (e - 0) (drop 0 s)) → e < length s → WellFormed (args_row (opened_kind k) k c (split 32 (after s e)))
   formed_more k q h = subst WellFormed (sym (formed_args k q h)) formed
 
 module _ (s : List ℕ) (formed : WellFormed (as_row (content_of (row_of s)))) where

@@ -1,5 +1,6 @@
 -- What a row says, as the code answers it, and how the code finds it. Assumes nothing.
-use Rattle.std.specs.Prelude.{ℕ, zero, suc, ◌+◌, ◌-◌, ◌≤◌, ◌<◌, ◌≡◌, refl, List, [], ◌∷◌, Bool, true, false, eqb, length, get_or, take, drop}
+use Rattle.std.specs.Prelude.{ℕ, zero, suc, ◌+◌, ◌-◌, ◌≤◌, ◌<◌, ◌≡◌, refl, List, [], ◌∷◌, Bool, true, false, eqb, length, get_or, take, drop, Option as Maybe, Some, None, Result, Ok, Err}
+use Rattle.std.specs.Result.{result_and}
 use Rattle.std.proofs.Common.{sym, ◌∙◌, subst, arith, not-suc-le-zero, take_all, eq-eqb, ne_eqb, eqb-true}
 use Rattle.std.proofs.Math.Path.{ap}
 use Rattle.std.proofs.Math.Option.{Option, none, some}
@@ -7,19 +8,31 @@ use Rattle.std.proofs.Math.ListN.{get_elem?}
 use Rattle.std.proofs.lemmas.Bool.{eqb-false}
 use Rattle.listings.specs.Bytes.{bytes, same, pick}
 use Rattle.listings.specs.Listing.{Simple, jump, runto, on, for, next, CondWord, if, ifelse, rcomp}
-use Rattle.listings.specs.Rows.{split, are_words, strip_close, Row as FormRow, close, bad, form, form_row, row_of, Form, module_form, line_form, to_form, stmts_form, run_form, for_form, next_form, cond_form, bare_form, number_form, numbers_form, opening_words, lookup, Parse, malformed, invalid, parsed, refusal_of, map_parse, with_parse, parse_numbers, parse_name, parse_slots, parse_tier, parse_mark, Counted, Content, no_form, end_row, stmts_row, module_row, line_row, to_row, simple_row, cond_row, bare_stmt, single, run_stmt, for_stmt, next_stmt, if_no_words, handler_facts, module_by, module_content, form_content, word_content, content_of}
+use Rattle.listings.specs.Rows.{split, are_words, strip_close, Row as FormRow, close, bad, form, form_row, row_of, Form, module_form, line_form, to_form, stmts_form, run_form, for_form, next_form, cond_form, bare_form, number_form, numbers_form, opening_words, lookup, Parse, malformed, invalid, parsed, map_parse, with_parse, parse_numbers, parse_name, parse_slots, parse_tier, parse_mark, Counted, Content, no_form, end_row, stmts_row, module_row, line_row, to_row, simple_row, cond_row, bare_stmt, single, run_stmt, for_stmt, next_stmt, if_no_words, handler_facts, module_by, module_content, form_content, word_content, content_of}
 use Rattle.listings.specs.ListingText.{jump_word, on_word, simple_word}
-use Rattle.listings.specs.WordTable.{words, forms, first, word_index, kind, kind_of, kind_at, content_at}
+use Rattle.listings.specs.WordTable.{words, forms, first, word_index, content_at}
 use Rattle.listings.specs.Scan.{index_of, split_last, split-some, after, split_alone, split-first}
 use Rattle.tokens.specs.Numbers.{as_number}
-use Rattle.tokens.specs.Arguments.{lowest, arg_check, check_for, check_next, check_kind, refusal_with, numbers_refusal, slots_refusal}
-use Rattle.tokens.specs.declared.numbers.ParsedNumber.{ParsedNumber}
-use Rattle.tokens.specs.declared.numbers.ParsedNumber.TheVariants.{Refused, Value}
-use Rattle.tokens.specs.declared.arguments.ArgCheck.{ArgCheck}
+use Rattle.tokens.specs.Arguments.{Verdict, verdict, refusal_by, lowest, lowest_of, lowest_counted, check_for, check_next, check_kind, refusal_with, numbers_refusal, slots_refusal}
+use Rattle.tokens.specs.Kinds.{form_kind, kind_found, opened_kind}
+use Rattle.tokens.specs.declared.words.Kind.{Kind}
+use Rattle.tokens.specs.declared.words.Kind.TheVariants as kind
+use Rattle.layout.specs.declared.refusals.Reason.{Reason}
+use Rattle.layout.specs.declared.refusals.Reason.TheVariants as reason
+use Rattle.reader.specs.declared.rows.Position.{Position as Place}
+use Rattle.reader.specs.declared.rows.Position.TheVariants as at
 use Rattle.reader.specs.declared.rows.Row.{Row}
 use Rattle.reader.specs.declared.rows.Row.TheVariants as row
 
 -- ---- the code's answer for what a row says
+
+-- the places in their order
+abbrev pub place_number : Place → ℕ
+place_number at.Begin = 0
+place_number at.InModule = 1
+place_number at.Ended = 2
+place_number at.InStmts = 3
+place_number at.InCond = 4
 
 -- the number of a statement's opening word
 abbrev pub word_number : Simple → ℕ
@@ -37,25 +50,21 @@ cond_number rcomp = 2
 
 -- "2 not a form", wherever it stands
 abbrev pub no_row : Row
-no_row = row.Refused 2 3
-
--- refused by document 01's number n where such a row is due
-abbrev pub refused_row : ℕ → ℕ → Row
-refused_row n due = pick (eqb n 2) no_row (row.Refused n due)
+no_row = row.Refused reason.NotAForm at.InStmts
 
 abbrev pub as_line : Parse ℕ → Row
-as_line malformed = refused_row (refusal_of {A = ℕ} malformed) 1
-as_line invalid = refused_row (refusal_of {A = ℕ} invalid) 1
+as_line malformed = row.Refused reason.NotAForm at.InModule
+as_line invalid = row.Refused reason.BadWord at.InModule
 as_line (parsed n) = row.Line n
 
 abbrev pub as_to : Parse ℕ → Row
-as_to malformed = refused_row (refusal_of {A = ℕ} malformed) 4
-as_to invalid = refused_row (refusal_of {A = ℕ} invalid) 4
+as_to malformed = row.Refused reason.NotAForm at.InCond
+as_to invalid = row.Refused reason.BadWord at.InCond
 as_to (parsed n) = row.To n
 
 abbrev pub as_simple : Parse Counted → Row
-as_simple malformed = refused_row (refusal_of {A = Counted} malformed) 3
-as_simple invalid = refused_row (refusal_of {A = Counted} invalid) 3
+as_simple malformed = row.Refused reason.NotAForm at.InStmts
+as_simple invalid = row.Refused reason.BadWord at.InStmts
 as_simple (parsed d) = row.Simple (word_number d.0) d.1
 
 abbrev pub as_row : Content → Row
@@ -70,13 +79,13 @@ as_row (cond_row k) = row.Cond (cond_number k)
 
 -- ---- by the code's number, and by the check of the words
 
-abbrev pub to_by_number : ParsedNumber → Row
-to_by_number (Refused n) = refused_row n 4
-to_by_number (Value n) = row.To n
+abbrev pub to_by_number : Result ℕ Reason → Row
+to_by_number (Err r) = row.Refused r at.InCond
+to_by_number (Ok n) = row.To n
 
-abbrev pub line_by_number : ParsedNumber → Row
-line_by_number (Refused n) = refused_row n 1
-line_by_number (Value n) = row.Line n
+abbrev pub line_by_number : Result ℕ Reason → Row
+line_by_number (Err r) = row.Refused r at.InModule
+line_by_number (Ok n) = row.Line n
 
 pub to_by_number_lem : (g : Parse ℕ) → to_by_number (as_number g) ≡ as_to g
 to_by_number_lem malformed = refl
@@ -88,20 +97,133 @@ line_by_number_lem malformed = refl
 line_by_number_lem invalid = refl
 line_by_number_lem (parsed n) = refl
 
-abbrev pub simple_by : ℕ → ArgCheck → Row
-simple_by k t = pick (eqb t.refusal 0) (row.Simple k t.count) (row.Refused t.refusal 3)
+abbrev pub simple_by : ℕ → Result ℕ Reason → Row
+simple_by k (Ok n) = row.Simple k n
+simple_by k (Err r) = row.Refused r at.InStmts
 
--- ---- by the kind g and the number k of the opening word
+-- ---- by the kind and the number k of the opening word
 
--- a form with words after the opening one
-unfoldable pub args_row : ℕ → ℕ → Bool → List (List ℕ) → Row
-args_row g k true ws = pick (eqb g 2) (as_to (single ws)) (simple_by k (check_kind g ws))
-args_row g k false ws = pick (eqb g 0) (as_row (module_content ws)) (pick (eqb g 1) (as_line (single ws)) no_row)
+-- a closed form with words after the opening one
+unfoldable pub closed_args : Kind → ℕ → List (List ℕ) → Row
+closed_args kind.Module k ws = simple_by k (check_kind kind.Module ws)
+closed_args kind.Line k ws = simple_by k (check_kind kind.Line ws)
+closed_args kind.To k ws = as_to (single ws)
+closed_args kind.Stmts k ws = simple_by k (check_kind kind.Stmts ws)
+closed_args kind.Cond k ws = simple_by k (check_kind kind.Cond ws)
+closed_args kind.Bare k ws = simple_by k (check_kind kind.Bare ws)
+closed_args kind.Number k ws = simple_by k (check_kind kind.Number ws)
+closed_args kind.Numbers k ws = simple_by k (check_kind kind.Numbers ws)
+closed_args kind.Run k ws = simple_by k (check_kind kind.Run ws)
+closed_args kind.For k ws = simple_by k (check_kind kind.For ws)
+closed_args kind.Next k ws = simple_by k (check_kind kind.Next ws)
 
--- a form of the opening word alone
-unfoldable pub bare_row : ℕ → ℕ → Bool → Row
-bare_row g k true = pick (eqb g 5) (row.Simple k 0) (pick (eqb g 7) (row.Simple k 0) (pick (eqb g 8) (row.Simple k 0) no_row))
-bare_row g k false = pick (eqb g 3) row.Stmts (pick (eqb g 4) (row.Cond (k - 2)) no_row)
+-- one that is not closed
+unfoldable pub opened_args : Kind → List (List ℕ) → Row
+opened_args kind.Module ws = as_row (module_content ws)
+opened_args kind.Line ws = as_line (single ws)
+opened_args kind.To ws = no_row
+opened_args kind.Stmts ws = no_row
+opened_args kind.Cond ws = no_row
+opened_args kind.Bare ws = no_row
+opened_args kind.Number ws = no_row
+opened_args kind.Numbers ws = no_row
+opened_args kind.Run ws = no_row
+opened_args kind.For ws = no_row
+opened_args kind.Next ws = no_row
+
+unfoldable pub args_row : Maybe Kind → ℕ → Bool → List (List ℕ) → Row
+args_row None k c ws = no_row
+args_row (Some g) k true ws = closed_args g k ws
+args_row (Some g) k false ws = opened_args g ws
+
+-- a form of the opening word alone, closed or not
+unfoldable pub closed_bare : Kind → ℕ → Row
+closed_bare kind.Module k = no_row
+closed_bare kind.Line k = no_row
+closed_bare kind.To k = row.Refused reason.NotAForm at.InCond
+closed_bare kind.Stmts k = no_row
+closed_bare kind.Cond k = no_row
+closed_bare kind.Bare k = row.Simple k 0
+closed_bare kind.Number k = no_row
+closed_bare kind.Numbers k = row.Simple k 0
+closed_bare kind.Run k = row.Simple k 0
+closed_bare kind.For k = no_row
+closed_bare kind.Next k = no_row
+
+unfoldable pub opened_bare : Kind → ℕ → Row
+opened_bare kind.Module k = no_row
+opened_bare kind.Line k = row.Refused reason.NotAForm at.InModule
+opened_bare kind.To k = no_row
+opened_bare kind.Stmts k = row.Stmts
+opened_bare kind.Cond k = row.Cond (k - 2)
+opened_bare kind.Bare k = no_row
+opened_bare kind.Number k = no_row
+opened_bare kind.Numbers k = no_row
+opened_bare kind.Run k = no_row
+opened_bare kind.For k = no_row
+opened_bare kind.Next k = no_row
+
+unfoldable pub bare_row : Maybe Kind → ℕ → Bool → Row
+bare_row None k c = no_row
+bare_row (Some g) k true = closed_bare g k
+bare_row (Some g) k false = opened_bare g k
+
+-- every other kind
+pub closed_others : (g : Kind) (k : ℕ) (ws : List (List ℕ)) → (g ≡ kind.To → ⊥) → simple_by k (check_kind g ws) ≡ closed_args g k ws
+unfolding closed_args
+closed_others kind.Module k ws h = refl
+closed_others kind.Line k ws h = refl
+closed_others kind.To k ws h = absurd (h refl)
+closed_others kind.Stmts k ws h = refl
+closed_others kind.Cond k ws h = refl
+closed_others kind.Bare k ws h = refl
+closed_others kind.Number k ws h = refl
+closed_others kind.Numbers k ws h = refl
+closed_others kind.Run k ws h = refl
+closed_others kind.For k ws h = refl
+closed_others kind.Next k ws h = refl
+
+pub opened_others : (g : Kind) (ws : List (List ℕ)) → (g ≡ kind.Module → ⊥) → (g ≡ kind.Line → ⊥) → no_row ≡ opened_args g ws
+unfolding opened_args
+opened_others kind.Module ws h q = absurd (h refl)
+opened_others kind.Line ws h q = absurd (q refl)
+opened_others kind.To ws h q = refl
+opened_others kind.Stmts ws h q = refl
+opened_others kind.Cond ws h q = refl
+opened_others kind.Bare ws h q = refl
+opened_others kind.Number ws h q = refl
+opened_others kind.Numbers ws h q = refl
+opened_others kind.Run ws h q = refl
+opened_others kind.For ws h q = refl
+opened_others kind.Next ws h q = refl
+
+pub closed_bare_others : (g : Kind) (k : ℕ) → (g ≡ kind.To → ⊥) → (g ≡ kind.Bare → ⊥) → (g ≡ kind.Numbers → ⊥) → (g ≡ kind.Run → ⊥) → no_row ≡ closed_bare g k
+unfolding closed_bare
+closed_bare_others kind.Module k t h p q = refl
+closed_bare_others kind.Line k t h p q = refl
+closed_bare_others kind.To k t h p q = absurd (t refl)
+closed_bare_others kind.Stmts k t h p q = refl
+closed_bare_others kind.Cond k t h p q = refl
+closed_bare_others kind.Bare k t h p q = absurd (h refl)
+closed_bare_others kind.Number k t h p q = refl
+closed_bare_others kind.Numbers k t h p q = absurd (p refl)
+closed_bare_others kind.Run k t h p q = absurd (q refl)
+closed_bare_others kind.For k t h p q = refl
+closed_bare_others kind.Next k t h p q = refl
+
+pub opened_bare_others : (g : Kind) (k : ℕ) → (g ≡ kind.Line → ⊥) → (g ≡ kind.Stmts → ⊥) → (g ≡ kind.Cond → ⊥) → no_row ≡ opened_bare g k
+unfolding opened_bare
+opened_bare_others kind.Module k t h q = refl
+opened_bare_others kind.Line k t h q = absurd (t refl)
+opened_bare_others kind.To k t h q = refl
+opened_bare_others kind.Stmts k t h q = absurd (h refl)
+opened_bare_others kind.Cond k t h q = absurd (q refl)
+opened_bare_others kind.Bare k t h q = refl
+opened_bare_others kind.Number k t h q = refl
+opened_bare_others kind.Numbers k t h q = refl
+opened_bare_others kind.Run k t h q = refl
+opened_bare_others kind.For k t h q = refl
+opened_bare_others kind.Next k t h q = refl
 
 -- what the number of an opening word says of its form
 Numbered : ℕ → Form → Type 0
@@ -142,15 +264,15 @@ numbered_at k h e = let n : 0 + k ≡ k = omega arith in subst (λ (m : ℕ). Nu
 
 -- ---- a form's words
 
-simple_map : {A : Type 0} (f : A → Simple) (k n : ℕ) → ((a : A) → word_number (f a) ≡ k) → (g : Parse A) → as_simple (map_parse (λ a. (f a, n)) g) ≡ simple_by k (arg_check (refusal_of g) n)
-unfolding map_parse arg_check
+simple_map : {A : Type 0} (f : A → Simple) (k n : ℕ) → ((a : A) → word_number (f a) ≡ k) → (g : Parse A) → as_simple (map_parse (λ a. (f a, n)) g) ≡ simple_by k (result_and (verdict g) (Ok n))
+unfolding map_parse
 simple_map f k n h malformed = refl
 simple_map f k n h invalid = refl
 simple_map f k n h (parsed a) = ap (λ (z : ℕ). row.Simple z n) (h a)
 
 simple_with : {A B : Type 0} (f : A → B → Simple) (k n : ℕ) → ((a : A) (b : B) → word_number (f a b) ≡ k) → (g : Parse A) (d : Parse B)
-    → as_simple (with_parse (λ a b. (f a b, n)) g d) ≡ simple_by k (arg_check (lowest (refusal_of g) (refusal_of d)) n)
-unfolding with_parse arg_check lowest
+    → as_simple (with_parse (λ a b. (f a b, n)) g d) ≡ simple_by k (result_and (lowest (verdict g) (verdict d)) (Ok n))
+unfolding with_parse lowest
 simple_with f k n h malformed malformed = refl
 simple_with f k n h malformed invalid = refl
 simple_with f k n h malformed (parsed b) = refl
@@ -162,21 +284,23 @@ simple_with f k n h (parsed a) invalid = refl
 simple_with f k n h (parsed a) (parsed b) = ap (λ (z : ℕ). row.Simple z n) (h a b)
 
 for_row : (k : ℕ) → k ≡ 13 → (ws : List (List ℕ)) → as_simple (for_stmt ws) ≡ simple_by k (check_for ws)
-unfolding for_stmt check_for arg_check numbered
+unfolding for_stmt check_for numbered
 for_row k h [] = refl
 for_row k h (w ∷ []) = refl
 for_row k h (w ∷ v ∷ []) =
-    simple_with for k 0 (λ n t. sym h) (parse_name w) (parse_tier v) ∙ ap (λ (g : ℕ). simple_by k (arg_check g 0)) (sym (refusal_with (λ n t. (for n t, 0)) (parse_name w) (parse_tier v)))
+    simple_with for k 0 (λ n t. sym h) (parse_name w) (parse_tier v) ∙ ap (λ (g : Verdict). simple_by k (result_and g (Ok 0))) (sym (refusal_with (λ n t. (for n t, 0)) (parse_name w) (parse_tier v)))
 for_row k h (w ∷ v ∷ u ∷ ws) = refl
 
 next_row : (k : ℕ) → k ≡ 14 → (ws : List (List ℕ)) → as_simple (next_stmt ws) ≡ simple_by k (check_next ws)
-unfolding next_stmt check_next arg_check numbered
+unfolding next_stmt check_next numbered
 next_row k h [] = refl
 next_row k h (w ∷ ws) =
-    simple_with next k (length ws) (λ m ss. sym h) (parse_mark w) (parse_slots ws) ∙ ap (λ (g : ℕ). simple_by k (arg_check (lowest (refusal_of (parse_mark w)) g) (length ws))) (slots_refusal ws)
+    simple_with next k (length ws) (λ m ss. sym h) (parse_mark w) (parse_slots ws)
+    ∙ ap (λ (g : Verdict). simple_by k (result_and (lowest (verdict (parse_mark w)) g) (Ok (length ws)))) (slots_refusal ws)
+    ∙ ap (simple_by k) (lowest_counted (verdict (parse_mark w)) (lowest_of (refusal_by true) ws) (length ws))
 
-form_args : (h : Form) (k : ℕ) → Numbered k h → (c : Bool) (w : List ℕ) (ws : List (List ℕ)) → as_row (form_content h c (w ∷ ws)) ≡ args_row (kind h) k c (w ∷ ws)
-unfolding Numbered form_content args_row kind check_kind if_no_words bare_stmt run_stmt arg_check numbered
+form_args : (h : Form) (k : ℕ) → Numbered k h → (c : Bool) (w : List ℕ) (ws : List (List ℕ)) → as_row (form_content h c (w ∷ ws)) ≡ args_row (Some (form_kind h)) k c (w ∷ ws)
+unfolding Numbered form_content args_row closed_args opened_args form_kind check_kind if_no_words bare_stmt run_stmt numbered
 form_args module_form k r true w ws = refl
 form_args module_form k r false w ws = refl
 form_args line_form k r true w ws = refl
@@ -192,7 +316,7 @@ form_args (bare_form o) k r false w ws = refl
 form_args (number_form x) k r true w ws = simple_map (jump x) k 0 (λ n. r) (single (w ∷ ws))
 form_args (number_form x) k r false w ws = refl
 form_args (numbers_form x) k r true w ws =
-    simple_map (on x) k (length (w ∷ ws)) (λ ns. r) (parse_numbers (w ∷ ws)) ∙ ap (λ (g : ℕ). simple_by k (arg_check g (length (w ∷ ws)))) (numbers_refusal (w ∷ ws))
+    simple_map (on x) k (length (w ∷ ws)) (λ ns. r) (parse_numbers (w ∷ ws)) ∙ ap (λ (g : Verdict). simple_by k (result_and g (Ok (length (w ∷ ws))))) (numbers_refusal (w ∷ ws))
 form_args (numbers_form x) k r false w ws = refl
 form_args run_form k r true w ws = simple_map (jump runto) k 0 (λ n. sym r) (single (w ∷ ws))
 form_args run_form k r false w ws = refl
@@ -201,8 +325,8 @@ form_args for_form k r false w ws = refl
 form_args next_form k r true w ws = next_row k r (w ∷ ws)
 form_args next_form k r false w ws = refl
 
-form_bare : (h : Form) (k : ℕ) → Numbered k h → (c : Bool) → as_row (form_content h c []) ≡ bare_row (kind h) k c
-unfolding Numbered form_content bare_row kind if_no_words bare_stmt run_stmt for_stmt next_stmt module_content single parse_numbers map_parse numbered
+form_bare : (h : Form) (k : ℕ) → Numbered k h → (c : Bool) → as_row (form_content h c []) ≡ bare_row (Some (form_kind h)) k c
+unfolding Numbered form_content bare_row closed_bare opened_bare form_kind if_no_words bare_stmt run_stmt for_stmt next_stmt module_content single parse_numbers map_parse numbered
 form_bare module_form k r true = refl
 form_bare module_form k r false = refl
 form_bare line_form k r true = refl
@@ -226,28 +350,20 @@ form_bare for_form k r false = refl
 form_bare next_form k r true = refl
 form_bare next_form k r false = refl
 
-args_at : (k : ℕ) (c : Bool) (w : List ℕ) (ws : List (List ℕ)) → as_row (word_content (get_elem? forms k) c (w ∷ ws)) ≡ args_row (kind_at k) k c (w ∷ ws)
-unfolding kind_at args_row check_kind arg_check word_content kind_of
+args_at : (k : ℕ) (c : Bool) (w : List ℕ) (ws : List (List ℕ)) → as_row (word_content (get_elem? forms k) c (w ∷ ws)) ≡ args_row (opened_kind k) k c (w ∷ ws)
+unfolding opened_kind args_row word_content
 args_at k c w ws = go (get_elem? forms k) refl
   where
-    none_args : (c : Bool) → no_row ≡ args_row 11 k c (w ∷ ws)
-    none_args true = refl
-    none_args false = refl
-
-    go : (o : Option Form) → get_elem? forms k ≡ o → as_row (word_content o c (w ∷ ws)) ≡ args_row (kind_of o) k c (w ∷ ws)
-    go none e = none_args c
+    go : (o : Option Form) → get_elem? forms k ≡ o → as_row (word_content o c (w ∷ ws)) ≡ args_row (kind_found o) k c (w ∷ ws)
+    go none e = refl
     go (some h) e = form_args h k (numbered_at k h e) c w ws
 
-bare_at : (k : ℕ) (c : Bool) → as_row (word_content (get_elem? forms k) c []) ≡ bare_row (kind_at k) k c
-unfolding kind_at bare_row word_content kind_of
+bare_at : (k : ℕ) (c : Bool) → as_row (word_content (get_elem? forms k) c []) ≡ bare_row (opened_kind k) k c
+unfolding opened_kind bare_row word_content
 bare_at k c = go (get_elem? forms k) refl
   where
-    none_bare : (c : Bool) → no_row ≡ bare_row 11 k c
-    none_bare true = refl
-    none_bare false = refl
-
-    go : (o : Option Form) → get_elem? forms k ≡ o → as_row (word_content o c []) ≡ bare_row (kind_of o) k c
-    go none e = none_bare c
+    go : (o : Option Form) → get_elem? forms k ≡ o → as_row (word_content o c []) ≡ bare_row (kind_found o) k c
+    go none e = refl
     go (some h) e = form_bare h k (numbered_at k h e) c
 
 -- ---- `(module H`
@@ -291,13 +407,13 @@ pub form_true : (c : Bool) (w : List ℕ) (ws : List (List ℕ)) → are_words (
 unfolding form_row
 form_true c w ws h = rw h
 
-form_some : (c : Bool) (w : List ℕ) (ws : List (List ℕ)) → 0 < length ws → are_words (w ∷ ws) ≡ true → as_row (content_of (form_row c (w ∷ ws))) ≡ args_row (kind_at (word_index w)) (word_index w) c ws
+form_some : (c : Bool) (w : List ℕ) (ws : List (List ℕ)) → 0 < length ws → are_words (w ∷ ws) ≡ true → as_row (content_of (form_row c (w ∷ ws))) ≡ args_row (opened_kind (word_index w)) (word_index w) c ws
 form_some c w [] q h = absurd (not-suc-le-zero q)
 form_some c w (v ∷ ws) q h =
     ap (λ (r : FormRow). as_row (content_of r)) (form_true c w (v ∷ ws) h) ∙ ap as_row (content_at c w (v ∷ ws)) ∙ args_at (word_index w) c v ws
 
 module _ (c : Bool) (s : List ℕ) (e : ℕ) (found : e ≡ index_of 32 s) (ok : are_words (split 32 s) ≡ true) where
-  pub form_one : e ≡ length s → as_row (content_of (form_row c (split 32 s))) ≡ bare_row (kind_at (word_index (take (e - 0) (drop 0 s)))) (word_index (take (e - 0) (drop 0 s))) c
+  pub form_one : e ≡ length s → as_row (content_of (form_row c (split 32 s))) ≡ bare_row (opened_kind (word_index (take (e - 0) (drop 0 s)))) (word_index (take (e - 0) (drop 0 s))) c
   form_one h =
       let p = split_alone 32 s e found h in
       let w = take (e - 0) (drop 0 s) in
@@ -305,11 +421,23 @@ module _ (c : Bool) (s : List ℕ) (e : ℕ) (found : e ≡ index_of 32 s) (ok :
       ∙ ap as_row (content_at c w []) ∙ bare_at (word_index w) c
 
   pub form_more : e < length s
-      → as_row (content_of (form_row c (split 32 s))) ≡ args_row (kind_at (word_index (take (e - 0) (drop 0 s)))) (word_index (take (e - 0) (drop 0 s))) c (split 32 (after s e))
+      → as_row (content_of (form_row c (split 32 s))) ≡ args_row (opened_kind (word_index (take (e - 0) (drop 0 s)))) (word_index (take (e - 0) (drop 0 s))) c (split 32 (after s e))
   form_more h =
       let p = split-first 32 s e found h in
       let w = take (e - 0) (drop 0 s) in
       ap (λ (z : List (List ℕ)). as_row (content_of (form_row c z))) p ∙ form_some c w (split 32 (after s e)) (split-some 32 (after s e)) (ap are_words (sym p) ∙ ok)
+
+  -- a row with no opening word is no form
+  pub no_opening : e ≤ length s → opened_kind (word_index (take (e - 0) (drop 0 s))) ≡ None → as_row (content_of (form_row c (split 32 s))) ≡ no_row
+  unfolding args_row bare_row
+  no_opening le q = go (eqb e (length s)) refl
+    where
+      k : ℕ
+      k = word_index (take (e - 0) (drop 0 s))
+
+      go : (t : Bool) → eqb e (length s) ≡ t → as_row (content_of (form_row c (split 32 s))) ≡ no_row
+      go true h = form_one (eqb-true e (length s) h) ∙ ap (λ (g : Maybe Kind). bare_row g k c) q
+      go false h = form_more (omega (arith, eqb-false e (length s) h)) ∙ ap (λ (g : Maybe Kind). args_row g k c (split 32 (after s e))) q
 
 -- ---- a whole row
 

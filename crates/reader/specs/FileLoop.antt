@@ -1,5 +1,5 @@
 -- The file's loop that writes: the loop over what the file's rows say. Assumes nothing.
-use Rattle.std.specs.Prelude.{◌≡◌, refl, Bool, true, false, List, [], ◌∷◌, ◌++◌, ℕ, ◌+◌, ◌*◌, ◌-◌, ◌≤◌, length, take, drop}
+use Rattle.std.specs.Prelude.{◌≡◌, refl, Bool, true, false, List, [], ◌++◌, ℕ, ◌+◌, ◌*◌, ◌-◌, ◌≤◌, length, take, drop, Result, Ok, Err}
 use Rattle.std.proofs.Common.{sym, ap, ◌∙◌, subst, arith, append-nil, length-drop, drop_of_length-le}
 use Rattle.std.proofs.Math.Seq.{take_all, drop-drop}
 use borrow.Rule.Slice.PartMut.{put_mid, post_of}
@@ -8,62 +8,72 @@ use Rattle.listings.specs.Listing.{Listing, total, count}
 use Rattle.listings.specs.ListingText.{Within}
 use Rattle.listing_laws.specs.CutLaws.{meant_within}
 use Rattle.program_files.specs.Inputs.{meaning}
-use Rattle.basic.specs.Judge.{judged_of}
-use Rattle.reader.specs.Answer.{listed_of}
+use Rattle.basic.specs.Judge.{judged_of, told_of}
+use Rattle.reader.specs.Answer.{Numbered, by_number, listed_of}
 use Rattle.listings.specs.Read.{Answer, listing, refusal, start}
-use Rattle.listings.specs.Rows.{Content, end_row, stmts_row, module_row, line_row, to_row, simple_row, cond_row}
-use Rattle.listings.specs.Records.{args_of}
-use Rattle.listing_laws.specs.Contents.{contents}
+use Rattle.listings.specs.Rows.{Content}
 use Rattle.listing_laws.specs.RowsTaken.{Leads, listing_steps}
 use Rattle.program_files.specs.Program.{read_program, action}
 use Rattle.program_laws.specs.Accepted.{program_within, program_plain}
 use Rattle.basic.specs.Cursors.{tokens_at}
 use Rattle.basic.specs.Actions.{fuel, args_in}
-use Rattle.basic.specs.Rows.{contents_from, RowIs, SimpleIs, First, Yields, StartsRows}
+use Rattle.basic.specs.Rows.{contents_from, RowIs, StartsRows}
 use Rattle.basic.specs.RowsAre.{rows_are_lem}
 use Rattle.basic.specs.declared.cursors.Cursor.{Cursor}
-use Rattle.basic.specs.declared.judge.Judged.{Judged}
-use Rattle.basic.specs.declared.judge.Judged.TheVariants as judged
+use Rattle.basic.specs.declared.judge.Counts.{Counts}
+use Rattle.layout.specs.Refusals.{number_of}
+use Rattle.layout.specs.declared.refusals.Refusal.{Refusal}
 use Rattle.basic.specs.declared.sources.Source.{Source}
-use Rattle.basic.specs.declared.sources.Sourced.{Sourced}
 use Rattle.basic.specs.declared.sources.FileRow.{FileRow}
 use Rattle.basic.specs.declared.sources.FileRow.TheVariants as file
 use Rattle.reader.specs.CodedRows.{cond_number}
 use Rattle.reader.specs.Machine.{as_state}
-use Rattle.reader.specs.Fill.{add_entries, Operands, no_operands, Says, operands_of, written_row, outside_walk}
-use Rattle.reader.specs.Holds.{Holds}
+use Rattle.reader.specs.Fill.{add_entries, Operands, no_operands, Says, outside_walk}
 use Rattle.reader.specs.FillSteps.{Fills}
-use Rattle.reader.specs.Filling.{Zeroed, Accepts, filled_start}
-use Rattle.reader.specs.declared.listing.Listed.{Listed}
-use Rattle.reader.specs.declared.listing.Listed.TheVariants as listed
+use Rattle.reader.specs.Filling.{Zeroed, filled_start}
+use Rattle.reader.specs.declared.listing.Accepted.{Accepted}
 use Rattle.reader.specs.declared.machine.State.{State}
 use Rattle.reader.specs.declared.rows.Row.{Row}
 use Rattle.reader.specs.declared.rows.Row.TheVariants as row
 
 -- ---- what judging answers, as the reader tells it
 
-abbrev pub listed_program_of : Judged → Listed
-listed_program_of (judged.Accepted n m) = listed.Accepted false n m
-listed_program_of (judged.Refused n p) = listed.Refused n p
+abbrev pub listed_program_of : Result Counts Refusal → Result Accepted Refusal
+listed_program_of (Ok c) = Ok (record { handlers = false; lines = c.lines; stmts = c.stmts })
+listed_program_of (Err r) = Err r
 
 -- an accepted input is within the limits
 pub input_within : (b : Bool) (i : List ℕ) (L : Listing) → meaning b i ≡ listing L → Within L
 input_within true i L e = program_within i L e
 input_within false i L e = meant_within i L e
 
+program_as : (h g : Bool) (a b c d : ℕ) → h ≡ g → a ≡ b → c ≡ d
+    → ◌≡◌ {A = Result Accepted Numbered} (Ok (record { handlers = h; lines = a; stmts = c })) (Ok (record { handlers = g; lines = b; stmts = d }))
+program_as h g a b c d p q r = cc
+
+refused_as : (a b c d : ℕ) → a ≡ b → c ≡ d → ◌≡◌ {A = Result Accepted Numbered} (Err (record { number = a; place = c })) (Err (record { number = b; place = d }))
+refused_as a b c d p q = cc
+
 -- a saved program has no handlers
-pub program-listed : (f : List ℕ) (j : Judged) → j ≡ judged_of (read_program f) → listed_program_of j ≡ listed_of (read_program f)
+pub program-listed : (f : List ℕ) (j : Result Counts Refusal) → told_of j ≡ judged_of (read_program f) → by_number (listed_program_of j) ≡ listed_of (read_program f)
 unfolding judged_of listed_of
-program-listed f j e = ap listed_program_of e ∙ go (read_program f) refl
+program-listed f j e = go j (read_program f) refl e
   where
-    go : (b : Answer) → read_program f ≡ b → listed_program_of (judged_of b) ≡ listed_of b
-    go (listing L) q = ap (λ (h : Bool). listed.Accepted h (count L.lines) (total L.lines)) (sym (program_plain f L q))
-    go (refusal n p) q = refl
+    go : (j : Result Counts Refusal) (b : Answer) → read_program f ≡ b → told_of j ≡ judged_of b → by_number (listed_program_of j) ≡ listed_of b
+    go (Ok c) (listing L) q h =
+        let x : c.lines ≡ count L.lines = cc in
+        let y : c.stmts ≡ total L.lines = cc in
+        program_as false L.handlers c.lines (count L.lines) c.stmts (total L.lines) (sym (program_plain f L q)) x y
+    go (Ok c) (refusal n p) q h = absurd (cc)
+    go (Err r) (listing L) q h = absurd (cc)
+    go (Err r) (refusal n p) q h =
+        let x : number_of r.reason ≡ n = cc in
+        let y : r.place ≡ p = cc in
+        refused_as (number_of r.reason) n r.place p x y
 
 -- ---- a row of a file as one of a text
 
 abbrev pub row_by : FileRow → Row
-row_by file.Nothing = row.Refused 2 3
 row_by file.Module = row.Module false
 row_by (file.Line n) = row.Line n
 row_by (file.Simple w n b c) = row.Simple w 0
@@ -77,7 +87,6 @@ abbrev pub operands_at : List ℕ → ℕ → Cursor → Operands
 operands_at f b c = record { entries = args_in (action (fuel f c) b (tokens_at f c)); detail = 0 }
 
 abbrev pub operands_by : List ℕ → FileRow → Operands
-operands_by f file.Nothing = no_operands
 operands_by f file.Module = no_operands
 operands_by f (file.Line n) = no_operands
 operands_by f (file.Simple w n b c) = operands_at f b c
@@ -88,7 +97,6 @@ operands_by f file.End = no_operands
 
 -- the code's count is theirs
 abbrev pub RowCounted : List ℕ → FileRow → Type 0
-RowCounted f file.Nothing = Unit {0}
 RowCounted f file.Module = Unit {0}
 RowCounted f (file.Line n) = Unit {0}
 RowCounted f (file.Simple w n b c) = n ≡ length (operands_at f b c).entries
@@ -98,7 +106,6 @@ RowCounted f file.Stmts = Unit {0}
 RowCounted f file.End = Unit {0}
 
 pub file_counted : (f : List ℕ) (d : Content) (r : FileRow) → RowIs f d r → RowCounted f r
-file_counted f d file.Nothing h = tt
 file_counted f d file.Module h = tt
 file_counted f d (file.Line n) h = tt
 file_counted f d (file.Simple w n b c) h = h.count ∙ ap length (sym h.args)
@@ -112,7 +119,6 @@ says_as {r = r} {x = x} p h = subst (λ (c : Content). Says c r x) (sym p) h
 
 pub file_says : (f : List ℕ) (d : Content) (r : FileRow) → RowIs f d r → Says d (row_by r) (operands_by f r)
 unfolding cond_number
-file_says f d file.Nothing h = absurd h
 file_says f d file.Module h = says_as h (record { row = refl; operands = refl })
 file_says f d (file.Line n) h = says_as h (record { row = refl; operands = refl })
 file_says f d (file.Simple w n b c) h = says_as h.content (record { row = ap (λ (k : ℕ). row.Simple k 0) h.word; operands = operands_are h.args (sym h.detail) })
@@ -139,17 +145,6 @@ args_put a es part n room few e =
 
 -- ---- the loop
 
--- a row that is there is the first of what is due
-pub yields_first : (f : List ℕ) (s : Source) (r : Sourced) (x : FileRow) → Yields f s r x → (x ≡ file.Nothing → ⊥) → First f s r
-yields_first f s r file.Nothing y h = absurd (h refl)
-yields_first f s r file.Module y h = y
-yields_first f s r (file.Line n) y h = y
-yields_first f s r (file.Simple w n b c) y h = y
-yields_first f s r file.If y h = y
-yields_first f s r (file.To n) y h = y
-yields_first f s r file.Stmts y h = y
-yields_first f s r file.End y h = y
-
 -- an accepted file's rows lead to its listing
 rows_lead : (f : List ℕ) (L : Listing) (s : Source) → read_program f ≡ listing L → StartsRows f s → Leads start (contents_from f s) L
 rows_lead f L s e h = subst (λ (ds : List Content). Leads start ds L) (sym (h ∙ rows_are_lem f L e)) (listing_steps L (program_within f L e))
@@ -157,16 +152,6 @@ rows_lead f L s e h = subst (λ (ds : List Content). Leads start ds L) (sym (h �
 pub file_start : (f n t a : List ℕ) (z : Zeroed (read_program f) n t a) (d : Source) → StartsRows f d → (s : State) → s ≡ as_state start
     → Fills z.accepts.tree (length n) (length t) (length a) (contents_from f d) s outside_walk n t a
 file_start f n t a z d h s e = filled_start z (contents_from f d) (rows_lead f z.accepts.tree d z.accepts.reads h) s e
-
-pub yields_none : (f : List ℕ) (s : Source) (r : Sourced) (x : FileRow) → Yields f s r x → x ≡ file.Nothing → contents_from f s ≡ []
-yields_none f s r file.Nothing y h = y
-yields_none f s r file.Module y h = absurd (let z : ◌≡◌ {A = ℕ} 0 1 = cc in omega arith)
-yields_none f s r (file.Line n) y h = absurd (let z : ◌≡◌ {A = ℕ} 0 1 = cc in omega arith)
-yields_none f s r (file.Simple w n b c) y h = absurd (let z : ◌≡◌ {A = ℕ} 0 1 = cc in omega arith)
-yields_none f s r file.If y h = absurd (let z : ◌≡◌ {A = ℕ} 0 1 = cc in omega arith)
-yields_none f s r (file.To n) y h = absurd (let z : ◌≡◌ {A = ℕ} 0 1 = cc in omega arith)
-yields_none f s r file.Stmts y h = absurd (let z : ◌≡◌ {A = ℕ} 0 1 = cc in omega arith)
-yields_none f s r file.End y h = absurd (let z : ◌≡◌ {A = ℕ} 0 1 = cc in omega arith)
 
 -- by the code's row
 pub file_says_by : (f : List ℕ) (d : Content) (r : FileRow) (e : Row) → e ≡ row_by r → RowIs f d r → Says d e (operands_by f r)

@@ -5,7 +5,7 @@ use Rattle.listings.specs.Bytes.{pick}
 use Rattle.listings.specs.Rows.{malformed, invalid, parsed, Content, no_form, end_row, stmts_row, module_row, line_row, to_row, simple_row, cond_row}
 use Rattle.listings.specs.Records.{args_of, detail_of}
 use Rattle.reader.specs.Tables.{append_row}
-use Rattle.reader.specs.CodedRows.{as_row}
+use Rattle.reader.specs.CodedRows.{place_number, as_row}
 use Rattle.reader.specs.AcceptedRows.{uncounted}
 use Rattle.reader.specs.declared.machine.State.{State}
 use Rattle.reader.specs.declared.rows.Row.{Row}
@@ -60,16 +60,16 @@ branch_stmts t i false form number n = set (set (set t (i * 12 + 5) n) (i * 12 +
 
 abbrev pub end_table : List ℕ → State → Walk → List ℕ
 end_table t s w =
-    pick (eqb s.position 3) (pick (eqb s.depth 0) t (branch_stmts t (w.holder - 1) (eqb (s.open_conds % 2) 1) 1 0 s.stmts))
-    (pick (eqb s.position 4) (set t ((w.holder - 1) * 12 + 4) s.stmts) t)
+    pick (eqb (place_number s.position) 3) (pick (eqb s.depth 0) t (branch_stmts t (w.holder - 1) (eqb (s.open_conds % 2) 1) 1 0 s.stmts))
+    (pick (eqb (place_number s.position) 4) (set t ((w.holder - 1) * 12 + 4) s.stmts) t)
 
 abbrev pub outside_walk : Walk
 outside_walk = record { holder = 0; index = 0 }
 
 abbrev pub end_walk : List ℕ → State → Walk → Walk
 end_walk t s w =
-    pick (eqb s.position 3) (pick (eqb s.depth 0) outside_walk w)
-    (pick (eqb s.position 4) (record { holder = get_or t ((w.holder - 1) * 12 + 2) 0; index = get_or t ((w.holder - 1) * 12 + 3) 0 + 1 }) outside_walk)
+    pick (eqb (place_number s.position) 3) (pick (eqb s.depth 0) outside_walk w)
+    (pick (eqb (place_number s.position) 4) (record { holder = get_or t ((w.holder - 1) * 12 + 2) 0; index = get_or t ((w.holder - 1) * 12 + 3) 0 + 1 }) outside_walk)
 
 abbrev pub add_simple : List ℕ → State → Walk → ℕ → Given → List ℕ
 add_simple t s w k g = append_row t s.stmts (entry_of s w k (s.stmts + 1) g)
@@ -148,9 +148,9 @@ pub record EndReady (t : List ℕ) (s : State) (w : Walk) : Type 0 where
   pub fits : w.holder * 12 ≤ length t
   pub small : w.holder ≤ 4096
   pub most : s.stmts ≤ 4096
-  pub held : s.position ≡ 4 → 0 < w.holder
-  pub inner : s.position ≡ 3 → 0 < s.depth → 0 < w.holder
-  pub index : s.position ≡ 4 → get_or t ((w.holder - 1) * 12 + 3) 0 ≤ 4096
+  pub held : place_number s.position ≡ 4 → 0 < w.holder
+  pub inner : place_number s.position ≡ 3 → 0 < s.depth → 0 < w.holder
+  pub index : place_number s.position ≡ 4 → get_or t ((w.holder - 1) * 12 + 3) 0 ≤ 4096
 
 pub record ToReady (t : List ℕ) (s : State) (w : Walk) : Type 0 where
   pub fits : w.holder * 12 ≤ length t

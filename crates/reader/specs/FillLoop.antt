@@ -1,5 +1,5 @@
 -- The text's loop that writes: the loop over what the text's rows say. Assumes nothing.
-use Rattle.std.specs.Prelude.{◌≡◌, refl, ℕ, ◌+◌, ◌-◌, ◌≤◌, ◌<◌, length, take, drop, replicate}
+use Rattle.std.specs.Prelude.{◌≡◌, refl, ℕ, ◌+◌, ◌-◌, ◌≤◌, ◌<◌, length, take, drop}
 use Rattle.std.proofs.Common.{sym, ap, ◌∙◌, not-suc-le-zero, arith, length-append}
 use Rattle.std.proofs.Math.Path.{subst}
 use mathlib.Core.List.{List, [], ◌∷◌, ◌++◌, map}
@@ -17,7 +17,7 @@ use Rattle.listings.specs.Scan.{index_of, split-some, piece_at, next_last, next_
 use Rattle.listings.specs.Records.{line_recs, line_numbers}
 use Rattle.reader.specs.Machine.{as_state}
 use Rattle.reader.specs.Fill.{outside_walk}
-use Rattle.reader.specs.Holds.{Holds, holds_as}
+use Rattle.reader.specs.Holds.{Holds}
 use Rattle.reader.specs.FillSteps.{Fills}
 use Rattle.reader.specs.Filling.{Accepts, Zeroed, filled_start, filled_end}
 use Rattle.reader.specs.declared.machine.State.{State}

@@ -1,5 +1,5 @@
 -- The loop that writes, over what its rows say: room for all that is still to come, the invariant, and what it gives. Assumes nothing.
-use Rattle.std.specs.Prelude.{◌≡◌, refl, Bool, true, false, List, [], ◌∷◌, ℕ, ◌*◌, ◌≤◌, leb, ltb, length, replicate}
+use Rattle.std.specs.Prelude.{◌≡◌, refl, Bool, true, false, List, [], ◌∷◌, ℕ, ◌*◌, ◌≤◌, leb, ltb, length, replicate, Ok, Err}
 use Rattle.std.proofs.Common.{sym, ◌∙◌, subst, append-nil, arith}
 use Rattle.std.proofs.Math.Path.{ap}
 use Rattle.std.proofs.Math.Option.{Option, none, some}
@@ -14,7 +14,7 @@ use Rattle.listings.specs.Records.{joined, line_recs, line_numbers}
 use Rattle.listing_laws.specs.ReadingRecords.{position_recs, recs_of, open_numbers, numbers_of}
 use Rattle.listings.specs.Every.{all[]}
 use Rattle.reader.specs.CodedRows.{as_row}
-use Rattle.reader.specs.Machine.{state_at, as_state, as_step, step_row}
+use Rattle.reader.specs.Machine.{state_at, as_state, Step, numbered_step, as_step, taken_is, step_row}
 use Rattle.reader.specs.MachineLaws.{step_law, Bounded, state_bounded}
 use Rattle.reader.specs.Judge.{good_depth}
 use Rattle.reader.specs.Tables.{padded-nil}
@@ -24,8 +24,7 @@ use Rattle.reader.specs.Holds.{Holds, holds_as}
 use Rattle.reader.specs.FillLaws.{walk_at, Fits, fill_law}
 use Rattle.reader.specs.FillReady.{Long, holds_long, ready_law}
 use Rattle.reader.specs.declared.machine.State.{State}
-use Rattle.reader.specs.declared.machine.Step.{Step}
-use Rattle.reader.specs.declared.machine.Step.TheVariants.{Taken, Refused}
+use Rattle.layout.specs.declared.refusals.Reason.{Reason}
 use Rattle.reader.specs.declared.rows.Row.{Row}
 use Rattle.reader.specs.declared.fill.Walk.{Walk}
 
@@ -228,9 +227,9 @@ module _ {L : Listing} {nl ns na : ℕ} {d : Content} {ds : List Content} {s : S
   after : Next f.reading d ds L
   after = next f.ahead
 
-  steps_on : step_row s (as_row d) ≡ Taken (as_state after.reading)
+  steps_on : step_row s (as_row d) ≡ Ok (as_state after.reading)
   unfolding as_step
-  steps_on = ap (λ (z : State). step_row z (as_row d)) f.state ∙ step_law f.reading d ∙ ap as_step after.took
+  steps_on = taken_is (step_row s (as_row d)) (as_state after.reading) (ap (λ (z : State). numbered_step (step_row z (as_row d))) f.state ∙ step_law f.reading d ∙ ap as_step after.took)
 
   pub fills_formed : WellFormed (as_row d)
   fills_formed = taken_formed s (as_state after.reading) (as_row d) steps_on
@@ -245,13 +244,13 @@ module _ {L : Listing} {nl ns na : ℕ} {d : Content} {ds : List Content} {s : S
     pub fills_ready : RecordReady n t a s w e x
     fills_ready = ready_by f.reading after.reading nl ns na n t a s w f.state f.walk says after.ok f.good f.holds after.took fits_after (fits room f.good f.ahead)
 
-    stepped : {y : Step} → y ≡ step_row s e → y ≡ Taken (as_state after.reading)
+    stepped : {y : Step} → y ≡ step_row s e → y ≡ Ok (as_state after.reading)
     stepped q = q ∙ ap (step_row s) says.row ∙ taken-uncounted s (as_state after.reading) (as_row d) steps_on
 
-    pub fills_refused : {y : Step} {m : ℕ} → y ≡ step_row s e → y ≡ Refused m → ⊥
+    pub fills_refused : {y : Step} {m : Reason} → y ≡ step_row s e → y ≡ Err m → ⊥
     fills_refused q h = let z = sym (stepped q) ∙ h in let k : ◌≡◌ {A = ℕ} 0 1 = cc in omega arith
 
-    pub fills_taken : {y : Step} {v : State} {n' t' a' : List ℕ} {u : Walk} → y ≡ step_row s e → y ≡ Taken v → Recorded n t a s w e x n' t' a' u → Fills L nl ns na ds v u n' t' a'
+    pub fills_taken : {y : Step} {v : State} {n' t' a' : List ℕ} {u : Walk} → y ≡ step_row s e → y ≡ Ok v → Recorded n t a s w e x n' t' a' u → Fills L nl ns na ds v u n' t' a'
     fills_taken {v = v} q h o =
         let y = fill_by f.reading after.reading nl ns na n t a s w f.state f.walk says after.ok f.good f.holds after.took fits_after in
         let k = sym (stepped q) ∙ h in

@@ -1,5 +1,5 @@
 -- What is answered for a text, and the loop over its rows. Assumes nothing.
-use Rattle.std.specs.Prelude.{ℕ, suc, ◌+◌, ◌-◌, ◌≤◌, ◌<◌, ◌≡◌, refl, List, [], ◌∷◌, eqb, take, drop}
+use Rattle.std.specs.Prelude.{ℕ, suc, ◌+◌, ◌-◌, ◌≤◌, ◌<◌, ◌≡◌, refl, List, [], ◌∷◌, eqb, take, drop, Result, Ok, Err}
 use Rattle.std.proofs.Math.Path.{sym, ap}
 use Rattle.std.proofs.Common.{◌∙◌, subst, not-suc-le-zero, add-one, arith, le-leb, ne_eqb}
 use Rattle.std.proofs.Math.ListN.{length, length-take, length-drop}
@@ -12,20 +12,22 @@ use Rattle.listing_laws.specs.RowText.{content_text}
 use Rattle.listing_laws.specs.Shown.{open_lines, position_size, OpenOk, PositionOk, Good, Next}
 use Rattle.listing_laws.specs.ShownLaws.{row_next}
 use Rattle.listings.specs.Scan.{index_of, split-some, piece_at, next_last, next_more}
-use Rattle.reader.specs.Answer.{listed_of}
-use Rattle.reader.specs.CodedRows.{as_row}
-use Rattle.reader.specs.Machine.{open_conds, position_code, state_at, as_state, as_step, step_row}
+use Rattle.reader.specs.Answer.{by_number, listed_of}
+use Rattle.reader.specs.CodedRows.{place_number, as_row}
+use Rattle.reader.specs.Machine.{open_conds, position_code, state_at, as_state, Step, numbered_step, as_step, step_row}
 use Rattle.reader.specs.MachineLaws.{step_law, Bounded, state_bounded}
 use Rattle.reader.specs.declared.machine.State.{State}
-use Rattle.reader.specs.declared.machine.Step.{Step}
-use Rattle.reader.specs.declared.machine.Step.TheVariants.{Taken, Refused}
-use Rattle.reader.specs.declared.listing.Listed.{Listed}
-use Rattle.reader.specs.declared.listing.Listed.TheVariants as listed
+use Rattle.reader.specs.declared.listing.Accepted.{Accepted}
+use Rattle.layout.specs.Refusals.{number_of, refusal_at}
+use Rattle.layout.specs.declared.refusals.Reason.{Reason}
+use Rattle.layout.specs.declared.refusals.Reason.TheVariants as reason
+use Rattle.layout.specs.declared.refusals.Refusal.{Refusal}
 use Rattle.listing_laws.specs.ShownLaws.{good_start}
 
 -- the text ends in row i, after e bytes of it
-abbrev pub finish_state : State → ℕ → ℕ → Listed
-finish_state s i e = pick (eqb s.position 2) (pick (eqb e 0) (listed.Accepted s.handlers s.lines s.stmts) (listed.Refused 2 i)) (listed.Refused 2 i)
+abbrev pub finish_state : State → ℕ → ℕ → Result Accepted Refusal
+finish_state s i e =
+    pick (eqb (place_number s.position) 2) (pick (eqb e 0) (Ok (record { handlers = s.handlers; lines = s.lines; stmts = s.stmts })) (Err (refusal_at reason.NotAForm i))) (Err (refusal_at reason.NotAForm i))
 
 -- ---- the length of the text
 
@@ -54,15 +56,15 @@ unfolding read_rows
 rows_last r i w = refl
 
 -- an outcome, by the machine's step
-step-refused : (o : Outcome Reading) (n : ℕ) → as_step o ≡ Refused n → o ≡ refused n
+step-refused : (o : Outcome Reading) (n : ℕ) → as_step o ≡ Err n → o ≡ refused n
 unfolding as_step
-step-refused (taken r) n e = absurd (let z : ◌≡◌ {A = ℕ} 0 1 = cc in omega arith)
+step-refused (taken r) n e = cc
 step-refused (refused m) n e = let z : m ≡ n = cc in ap refused z
 
-step-taken : (o : Outcome Reading) (s : State) → as_step o ≡ Taken s → (q : Reading) × (o ≡ taken q) × (s ≡ as_state q)
+step-taken : (o : Outcome Reading) (s : State) → as_step o ≡ Ok s → (q : Reading) × (o ≡ taken q) × (s ≡ as_state q)
 unfolding as_step
 step-taken (taken r) s e = (r, refl, let z : s ≡ as_state r = cc in z)
-step-taken (refused m) s e = absurd (let z : ◌≡◌ {A = ℕ} 0 1 = cc in omega arith)
+step-taken (refused m) s e = cc
 
 -- ---- what holds from row to row
 
@@ -83,7 +85,7 @@ good_depth r ended g = omega arith
 good_depth r (in_stmts s fs) g = open_depth fs g.place.1
 good_depth r (in_cond s k bs fs) g = omega (arith, g.place.3)
 
-finish_by : (r : Reading) (i : ℕ) (p : Position) (w : List ℕ) → Good r p → finish_state (state_at r p) i (length w) ≡ listed_of (finish r i p w)
+finish_by : (r : Reading) (i : ℕ) (p : Position) (w : List ℕ) → Good r p → by_number (finish_state (state_at r p) i (length w)) ≡ listed_of (finish r i p w)
 unfolding finish listed_of state_at position_code open_lines position_size
 finish_by r i begin w g = refl
 finish_by r i in_module w g = refl
@@ -113,14 +115,14 @@ follows_bounded f = subst Bounded (sym f.state) (state_bounded f.reading (good_d
 module _ (text : List ℕ) (s : State) (i at e : ℕ) (short : length text ≤ 65536) (f : Follows text s i at) (fits : at ≤ length text)
     (found : e ≡ index_of 10 (take (length text - at) (drop at text))) where
   -- the text ends in this row
-  pub follows_last : at + e ≡ length text → finish_state s i e ≡ listed_of (read text)
+  pub follows_last : at + e ≡ length text → by_number (finish_state s i e) ≡ listed_of (read text)
   unfolding as_state
   follows_last h =
       let r = f.reading in
       let w = piece_at text at e in
       let n : length w ≡ e = length-take (at + e - at) (drop at text) ∙ omega (arith, length-drop at text) in
       let p : read_rows r i (split 10 (drop at text)) ≡ finish r i r.position w = ap (read_rows r i) (next_last 10 text at e fits found h) ∙ rows_last r i w in
-      ap (λ (z : State). finish_state z i e) f.state ∙ ap (finish_state (as_state r) i) (sym n) ∙ finish_by r i r.position w f.good
+      ap (λ (z : State). by_number (finish_state z i e)) f.state ∙ ap (λ (z : ℕ). by_number (finish_state (as_state r) i z)) (sym n) ∙ finish_by r i r.position w f.good
       ∙ ap listed_of (sym p ∙ f.rest ∙ sym (read_short text short))
 
   -- a row ended by byte 10, and the step x that it makes
@@ -128,23 +130,23 @@ module _ (text : List ℕ) (s : State) (i at e : ℕ) (short : length text ≤ 6
     pieces : split 10 (drop at text) ≡ piece_at text at e ∷ split 10 (drop (at + e + 1) text)
     pieces = (next_more 10 text at e fits found more le).1
 
-    outcome : x ≡ as_step (read_row f.reading f.reading.position (content_of (row_of (piece_at text at e))))
-    outcome = steps ∙ ap (λ (z : State). step_row z (as_row (content_of (row_of (piece_at text at e))))) f.state ∙ step_law f.reading (content_of (row_of (piece_at text at e)))
+    outcome : numbered_step x ≡ as_step (read_row f.reading f.reading.position (content_of (row_of (piece_at text at e))))
+    outcome = ap numbered_step steps ∙ ap (λ (z : State). numbered_step (step_row z (as_row (content_of (row_of (piece_at text at e)))))) f.state ∙ step_law f.reading (content_of (row_of (piece_at text at e)))
 
-    pub follows_refused : (n : ℕ) → x ≡ Refused n → listed.Refused n i ≡ listed_of (read text)
+    pub follows_refused : (n : Reason) → x ≡ Err n → by_number (Err (refusal_at n i)) ≡ listed_of (read text)
     unfolding listed_of
     follows_refused n h =
         let r = f.reading in
         let vs = split 10 (drop (at + e + 1) text) in
-        let q = step-refused (read_row r r.position (content_of (row_of (piece_at text at e)))) n (sym outcome ∙ h) in
-        let p = rows-refused r i (piece_at text at e) vs n (split-some 10 (drop (at + e + 1) text)) q in
+        let q = step-refused (read_row r r.position (content_of (row_of (piece_at text at e)))) (number_of n) (sym outcome ∙ ap numbered_step h) in
+        let p = rows-refused r i (piece_at text at e) vs (number_of n) (split-some 10 (drop (at + e + 1) text)) q in
         ap listed_of (sym (ap (read_rows r i) pieces ∙ p) ∙ f.rest ∙ sym (read_short text short))
 
-    pub follows_taken : (t : State) → x ≡ Taken t → Follows text t (i + 1) (at + e + 1)
+    pub follows_taken : (t : State) → x ≡ Ok t → Follows text t (i + 1) (at + e + 1)
     follows_taken t h =
         let r = f.reading in
         let vs = split 10 (drop (at + e + 1) text) in
-        let q = step-taken (read_row r r.position (content_of (row_of (piece_at text at e)))) t (sym outcome ∙ h) in
+        let q = step-taken (read_row r r.position (content_of (row_of (piece_at text at e)))) t (sym outcome ∙ ap numbered_step h) in
         let p = rows_taken r q.0 i (piece_at text at e) vs (split-some 10 (drop (at + e + 1) text)) q.1 in
         record {
           reading = q.0;

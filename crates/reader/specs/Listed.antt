@@ -1,5 +1,5 @@
 -- What reading an input answers and writes: the contract of the exported routine. Assumes nothing.
-use Rattle.std.specs.Prelude.{◌≡◌, refl, Bool, true, false, List, [], ◌∷◌, ℕ, ◌/◌, ◌≤◌, ◌<◌, ltb, replicate}
+use Rattle.std.specs.Prelude.{◌≡◌, refl, Bool, true, false, List, [], ◌∷◌, ℕ, ◌/◌, ◌≤◌, ◌<◌, ltb, replicate, Result, Ok, Err}
 use Rattle.std.proofs.Math.Path.{sym, ap}
 use Rattle.std.proofs.Common.{◌∙◌, subst, arith}
 use Rattle.std.proofs.Math.ListN.{length}
@@ -9,13 +9,16 @@ use Rattle.listings.specs.Listing.{Listing, total, count}
 use Rattle.listings.specs.Read.{Answer, listing, refusal, read}
 use Rattle.listings.specs.Cut.{cut_listing, cut_answer, meant}
 use Rattle.listing_laws.specs.CutLaws.{cut_count, cut_total, meant-written}
-use Rattle.reader.specs.Answer.{listed_of, was_accepted, was_refused}
+use Rattle.reader.specs.Answer.{Numbered, by_number, listed_of, was_accepted, was_refused}
 use Rattle.reader.specs.Judge.{read_long}
 use Rattle.listings.specs.Records.{line_recs, line_numbers, rec_rows, arg_rows, handler_number, counts_of, padded, fitted, answer_of, table_of}
 use Rattle.listings.specs.ListingText.{Within}
 use Rattle.reader.specs.Filling.{Zeroed, Filled}
-use Rattle.reader.specs.declared.listing.Listed.{Listed}
-use Rattle.reader.specs.declared.listing.Listed.TheVariants as listed
+use Rattle.reader.specs.declared.listing.Accepted.{Accepted}
+use Rattle.layout.specs.Refusals.{number_of, refusal_at}
+use Rattle.layout.specs.declared.refusals.Reason.{Reason}
+use Rattle.layout.specs.declared.refusals.Reason.TheVariants as reason
+use Rattle.layout.specs.declared.refusals.Refusal.{Refusal}
 
 -- ---- the contract
 
@@ -30,8 +33,8 @@ unfoldable pub arg_entries : Listing → List ℕ
 arg_entries L = arg_rows (line_recs L.lines)
 
 -- the answer and every entry, of tables with nl, ns and na entries; b: what is meant, or the refusal
-pub record RecordsWritten (b : Answer) (nl ns na : ℕ) (c l t a : List ℕ) (r : Listed) : Type 0 where
-  pub answer : r ≡ listed_of (answer_of nl ns na b)
+pub record RecordsWritten (b : Answer) (nl ns na : ℕ) (c l t a : List ℕ) (r : Result Accepted Refusal) : Type 0 where
+  pub answer : by_number r ≡ listed_of (answer_of nl ns na b)
   pub counts : c ≡ table_of counts_of (answer_of nl ns na b) 6
   pub lines : l ≡ table_of line_entries (answer_of nl ns na b) nl
   pub stmts : t ≡ table_of stmt_entries (answer_of nl ns na b) ns
@@ -47,8 +50,8 @@ listed_cut text = go (read text)
     go (refusal n p) = refl
 
 -- so what judging a text answers is told of what it means
-module _ (text : List ℕ) (v : Listed) (judged : v ≡ listed_of (read text)) where
-  is : v ≡ listed_of (meant text)
+module _ (text : List ℕ) (v : Result Accepted Refusal) (judged : by_number v ≡ listed_of (read text)) where
+  is : by_number v ≡ listed_of (meant text)
   is = judged ∙ sym (listed_cut text)
 
 -- a text that is read, or means something, is short enough
@@ -82,10 +85,10 @@ module _ (q : Answer) (counts lines stmts args : List ℕ) (h : Bool) (nl ns : �
   judged_small = (omega (arith, j.within.line_count, j.line_count), omega (arith, j.within.stmt_count, j.stmt_count))
 
   -- a table is too short
-  refuses : (n p : ℕ) → fitted (length lines) (length stmts) (length args) j.tree ≡ refusal n p → RecordsWritten q (length lines) (length stmts) (length args) counts lines stmts args (listed.Refused n p)
+  refuses : (n : Reason) (p : ℕ) → fitted (length lines) (length stmts) (length args) j.tree ≡ refusal (number_of n) p → RecordsWritten q (length lines) (length stmts) (length args) counts lines stmts args (Err (refusal_at n p))
   unfolding answer_of table_of listed_of
   refuses n p e =
-      let a : answer_of (length lines) (length stmts) (length args) q ≡ refusal n p = ap (answer_of (length lines) (length stmts) (length args)) j.reads ∙ e in
+      let a : answer_of (length lines) (length stmts) (length args) q ≡ refusal (number_of n) p = ap (answer_of (length lines) (length stmts) (length args)) j.reads ∙ e in
       record {
         answer = sym (ap listed_of a);
         counts = j.zero_counts ∙ sym (ap (λ (z : Answer). table_of counts_of z 6) a);
@@ -94,23 +97,23 @@ module _ (q : Answer) (counts lines stmts args : List ℕ) (h : Bool) (nl ns : �
         args = j.zero_args ∙ sym (ap (λ (z : Answer). table_of arg_entries z (length args)) a);
       }
 
-  pub short_lines : length lines < nl → RecordsWritten q (length lines) (length stmts) (length args) counts lines stmts args (listed.Refused 21 nl)
+  pub short_lines : length lines < nl → RecordsWritten q (length lines) (length stmts) (length args) counts lines stmts args (Err (refusal_at reason.LineTables nl))
   unfolding fitted
   short_lines b =
       let c = count j.tree.lines in
       let p : length lines < c = omega (arith, j.line_count) in
-      rw j.line_count (refuses 21 c (rw (lt-leb c (length lines) p)))
+      rw j.line_count (refuses reason.LineTables c (rw (lt-leb c (length lines) p)))
 
-  pub short_stmts : nl ≤ length lines → length stmts / 12 < ns → RecordsWritten q (length lines) (length stmts) (length args) counts lines stmts args (listed.Refused 22 ns)
+  pub short_stmts : nl ≤ length lines → length stmts / 12 < ns → RecordsWritten q (length lines) (length stmts) (length args) counts lines stmts args (Err (refusal_at reason.NodeTables ns))
   unfolding fitted
   short_stmts b c =
       let k = count j.tree.lines in
       let m = total j.tree.lines in
       let p : k ≤ length lines = omega (arith, j.line_count) in
       let y : length stmts / 12 < m = omega (arith, j.stmt_count) in
-      rw j.stmt_count (refuses 22 m (rw (le-leb k (length lines) p, lt-leb m (length stmts / 12) y)))
+      rw j.stmt_count (refuses reason.NodeTables m (rw (le-leb k (length lines) p, lt-leb m (length stmts / 12) y)))
 
-  pub short_args : nl ≤ length lines → ns ≤ length stmts / 12 → length args / 64 < ns → RecordsWritten q (length lines) (length stmts) (length args) counts lines stmts args (listed.Refused 22 ns)
+  pub short_args : nl ≤ length lines → ns ≤ length stmts / 12 → length args / 64 < ns → RecordsWritten q (length lines) (length stmts) (length args) counts lines stmts args (Err (refusal_at reason.NodeTables ns))
   unfolding fitted
   short_args b c d =
       let k = count j.tree.lines in
@@ -118,7 +121,7 @@ module _ (q : Answer) (counts lines stmts args : List ℕ) (h : Bool) (nl ns : �
       let p : k ≤ length lines = omega (arith, j.line_count) in
       let y : m ≤ length stmts / 12 = omega (arith, j.stmt_count) in
       let s : length args / 64 < m = omega (arith, j.stmt_count) in
-      rw j.stmt_count (refuses 22 m (rw (le-leb k (length lines) p, le-leb m (length stmts / 12) y, lt-leb m (length args / 64) s)))
+      rw j.stmt_count (refuses reason.NodeTables m (rw (le-leb k (length lines) p, le-leb m (length stmts / 12) y, lt-leb m (length args / 64) s)))
 
   module _ (b : nl ≤ length lines) (c : ns ≤ length stmts / 12) (d : ns ≤ length args / 64) where
     pub judged_zeroed : Zeroed q lines stmts args
@@ -145,7 +148,7 @@ module _ (q : Answer) (counts lines stmts args : List ℕ) (h : Bool) (nl ns : �
         ap (answer_of (length lines) (length stmts) (length args)) j.reads ∙ rw (le-leb k (length lines) p, le-leb m (length stmts / 12) y, le-leb m (length args / 64) s)
 
     pub judged-written : (x y z : ℕ) (k n t a : List ℕ) → x ≡ nl → y ≡ ns → z ≡ handler_number h → k ≡ x ∷ y ∷ z ∷ 0 ∷ 0 ∷ 0 ∷ [] → Filled q lines stmts args n t a
-        → RecordsWritten q (length lines) (length stmts) (length args) k n t a (listed.Accepted h nl ns)
+        → RecordsWritten q (length lines) (length stmts) (length args) k n t a (Ok (record { handlers = h; lines = nl; stmts = ns }))
     unfolding table_of listed_of line_entries stmt_entries arg_entries padded counts_of
     judged-written x y z k n t a u v s i f =
         let g = f j.tree j.reads in
@@ -157,7 +160,8 @@ module _ (q : Answer) (counts lines stmts args : List ℕ) (h : Bool) (nl ns : �
           args = g.args ∙ sym (ap (λ (o : Answer). table_of arg_entries o (length args)) fits);
         }
       where
-        answers : {v u : Bool} {a b c d : ℕ} → v ≡ u → a ≡ b → c ≡ d → listed.Accepted v a c ≡ listed.Accepted u b d
+        answers : {v u : Bool} {a b c d : ℕ} → v ≡ u → a ≡ b → c ≡ d
+            → ◌≡◌ {A = Result Accepted Numbered} (Ok (record { handlers = v; lines = a; stmts = c })) (Ok (record { handlers = u; lines = b; stmts = d }))
         answers p q r = cc
 
         counted : (x y z : ℕ) (L : Listing) → x ≡ count L.lines → y ≡ total L.lines → z ≡ handler_number L.handlers → x ∷ y ∷ z ∷ 0 ∷ 0 ∷ 0 ∷ [] ≡ padded 6 (counts_of L)
@@ -165,22 +169,22 @@ module _ (q : Answer) (counts lines stmts args : List ℕ) (h : Bool) (nl ns : �
 
 -- ---- zeroed tables of nl, ns and na entries
 
-module _ (q : Answer) (within : (L : Listing) → q ≡ listing L → Within L) (c n t a : List ℕ) (nl ns na : ℕ) (zc : c ≡ 0 ∷ 0 ∷ 0 ∷ 0 ∷ 0 ∷ 0 ∷ []) (zn : n ≡ replicate nl 0) (zt : t ≡ replicate ns 0) (za : a ≡ replicate na 0) (v : Listed) (judged : v ≡ listed_of q) where
+module _ (q : Answer) (within : (L : Listing) → q ≡ listing L → Within L) (c n t a : List ℕ) (nl ns na : ℕ) (zc : c ≡ 0 ∷ 0 ∷ 0 ∷ 0 ∷ 0 ∷ 0 ∷ []) (zn : n ≡ replicate nl 0) (zt : t ≡ replicate ns 0) (za : a ≡ replicate na 0) (v : Result Accepted Refusal) (judged : by_number v ≡ listed_of q) where
   long : (m : ℕ) (l : List ℕ) → l ≡ replicate m 0 → length l ≡ m
   long m l e = ap length e ∙ length-replicate m 0
 
   zeros : (m : ℕ) (l : List ℕ) → l ≡ replicate m 0 → l ≡ replicate (length l) 0
   zeros m l e = e ∙ ap (λ (k : ℕ). replicate k 0) (sym (long m l e))
 
-  pub zeroed_judged : (h : Bool) (l s : ℕ) → v ≡ listed.Accepted h l s → Judged q c n t a h l s
-  zeroed_judged h l s e =
-      let o = was_accepted q h l s (sym e ∙ judged) in
+  pub zeroed_judged : (x : Accepted) → v ≡ Ok x → Judged q c n t a x.handlers x.lines x.stmts
+  zeroed_judged x e =
+      let o = was_accepted q x (sym (ap by_number e) ∙ judged) in
       record { tree = o.0; reads = o.1; within = within o.0 o.1; handlers = o.2; line_count = o.3; stmt_count = o.4; zero_counts = zc; zero_lines = zeros nl n zn; zero_stmts = zeros ns t zt; zero_args = zeros na a za }
 
-  pub zeroed_refused : (m p : ℕ) → v ≡ listed.Refused m p → RecordsWritten q nl ns na c n t a (listed.Refused m p)
+  pub zeroed_refused : (r : Refusal) → v ≡ Err r → RecordsWritten q nl ns na c n t a (Err r)
   unfolding answer_of table_of listed_of
-  zeroed_refused m p e =
-      let o : answer_of nl ns na q ≡ refusal m p = ap (answer_of nl ns na) (was_refused q m p (sym e ∙ judged)) in
+  zeroed_refused r e =
+      let o : answer_of nl ns na q ≡ refusal (number_of r.reason) r.place = ap (answer_of nl ns na) (was_refused q r (sym (ap by_number e) ∙ judged)) in
       record {
         answer = sym (ap listed_of o);
         counts = zc ∙ sym (ap (λ (z : Answer). table_of counts_of z 6) o);
@@ -190,7 +194,7 @@ module _ (q : Answer) (within : (L : Listing) → q ≡ listing L → Within L) 
       }
 
   -- by the lengths of the zeroed tables
-  pub zeroed_written : (c' n' t' a' : List ℕ) (r : Listed) → RecordsWritten q (length n) (length t) (length a) c' n' t' a' r → RecordsWritten q nl ns na c' n' t' a' r
+  pub zeroed_written : (c' n' t' a' : List ℕ) (r : Result Accepted Refusal) → RecordsWritten q (length n) (length t) (length a) c' n' t' a' r → RecordsWritten q nl ns na c' n' t' a' r
   zeroed_written c' n' t' a' r w =
       subst (λ (k : ℕ). RecordsWritten q k ns na c' n' t' a' r) (long nl n zn)
       (subst (λ (k : ℕ). RecordsWritten q (length n) k na c' n' t' a' r) (long ns t zt) (subst (λ (k : ℕ). RecordsWritten q (length n) (length t) k c' n' t' a' r) (long na a za) w))

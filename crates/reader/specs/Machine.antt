@@ -1,15 +1,18 @@
 -- The row machine on numbers: the state that stands for a reading, and each step of it. Assumes nothing.
-use Rattle.std.specs.Prelude.{ℕ, ◌+◌, ◌*◌, ◌-◌, ◌/◌, ◌%◌, List, [], ◌∷◌, Bool, true, false, not, eqb, leb, ltb, length}
+use Rattle.std.specs.Prelude.{ℕ, ◌+◌, ◌*◌, ◌-◌, ◌/◌, ◌%◌, List, [], ◌∷◌, Bool, true, false, not, eqb, leb, ltb, length, ◌≡◌, Result, Ok, Err}
 use Rattle.std.proofs.Math.Option.{Option, none, some}
 use Rattle.listings.specs.Bytes.{pick}
 use Rattle.listings.specs.Listing.{BranchForm, Stmts}
 use Rattle.listings.specs.Read.{OpenCond, Branches, no_branch, one_branch, two_branches, Position, begin, in_module, ended, in_stmts, in_cond, Reading, Outcome, taken, refused}
-use Rattle.reader.specs.CodedRows.{cond_number}
+use Rattle.reader.specs.CodedRows.{place_number, cond_number}
+use Rattle.reader.specs.declared.rows.Position.{Position as Place}
+use Rattle.reader.specs.declared.rows.Position.TheVariants as at
 use Rattle.reader.specs.declared.rows.Row.{Row}
 use Rattle.reader.specs.declared.rows.Row.TheVariants as row
 use Rattle.reader.specs.declared.machine.State.{State}
-use Rattle.reader.specs.declared.machine.Step.{Step}
-use Rattle.reader.specs.declared.machine.Step.TheVariants.{Taken, Refused}
+use Rattle.layout.specs.Refusals.{number_of}
+use Rattle.layout.specs.declared.refusals.Reason.{Reason}
+use Rattle.layout.specs.declared.refusals.Reason.TheVariants as reason
 
 -- ---- the state that stands for a reading
 
@@ -38,12 +41,12 @@ branch_count no_branch = 0
 branch_count (one_branch a) = 1
 branch_count (two_branches a b) = 2
 
-unfoldable pub position_code : Position → ℕ
-position_code begin = 0
-position_code in_module = 1
-position_code ended = 2
-position_code (in_stmts s fs) = 3
-position_code (in_cond s k bs fs) = 4
+unfoldable pub position_code : Position → Place
+position_code begin = at.Begin
+position_code in_module = at.InModule
+position_code ended = at.Ended
+position_code (in_stmts s fs) = at.InStmts
+position_code (in_cond s k bs fs) = at.InCond
 
 unfoldable pub open_conds : Position → List OpenCond
 open_conds begin = []
@@ -83,58 +86,71 @@ state_at r p = record {
 unfoldable pub as_state : Reading → State
 as_state r = state_at r r.position
 
-unfoldable pub as_step : Outcome Reading → Step
-as_step (taken r) = Taken (as_state r)
-as_step (refused n) = Refused n
+-- what the machine makes of a row, or why the row is refused
+abbrev pub Step : Type 0
+Step = Result State Reason
+
+-- the same by the papers' number
+abbrev pub numbered_step : Step → Result State ℕ
+numbered_step (Ok s) = Ok s
+numbered_step (Err r) = Err (number_of r)
+
+unfoldable pub as_step : Outcome Reading → Result State ℕ
+as_step (taken r) = Ok (as_state r)
+as_step (refused n) = Err n
+
+pub taken_is : (x : Step) (s : State) → numbered_step x ≡ Ok s → x ≡ Ok s
+taken_is (Ok t) s e = let z : t ≡ s = cc in cc
+taken_is (Err r) s e = cc
 
 -- ---- the steps
 
 -- outside of all lines
-abbrev pub outside : State → ℕ → State
+abbrev pub outside : State → Place → State
 outside s p = record { position = p; handlers = s.handlers; last = s.last; lines = s.lines; stmts = s.stmts; depth = 0; open_conds = 0; word = 0; branches = 0 }
 
 -- at another position, as deep as before
-abbrev pub moved : State → ℕ → ℕ → ℕ → State
+abbrev pub moved : State → Place → ℕ → ℕ → State
 moved s p w b = record { position = p; handlers = s.handlers; last = s.last; lines = s.lines; stmts = s.stmts; depth = s.depth; open_conds = s.open_conds; word = w; branches = b }
 
 -- with one statement more
-abbrev pub one_more : State → ℕ → ℕ → State
+abbrev pub one_more : State → Place → ℕ → State
 one_more s p w = record { position = p; handlers = s.handlers; last = s.last; lines = s.lines; stmts = s.stmts + 1; depth = s.depth; open_conds = s.open_conds; word = w; branches = 0 }
 
 abbrev pub step_module : State → Bool → Step
-step_module s h = pick (eqb s.position 0) (Taken (record { position = 1; handlers = h; last = s.last; lines = s.lines; stmts = s.stmts; depth = 0; open_conds = 0; word = 0; branches = 0 })) (Refused 2)
+step_module s h = pick (eqb (place_number s.position) 0) (Ok (record { position = at.InModule; handlers = h; last = s.last; lines = s.lines; stmts = s.stmts; depth = 0; open_conds = 0; word = 0; branches = 0 })) (Err reason.NotAForm)
 
 abbrev pub step_line : State → ℕ → Step
 step_line s n =
-    pick (eqb s.position 1)
+    pick (eqb (place_number s.position) 1)
     (pick (leb s.last n)
     (pick (ltb s.lines 1024)
-    (Taken (record { position = 3; handlers = s.handlers; last = n + 1; lines = s.lines + 1; stmts = s.stmts; depth = 0; open_conds = 0; word = 0; branches = 0 }))
-    (Refused 5))
-    (Refused 4))
-    (Refused 2)
+    (Ok (record { position = at.InStmts; handlers = s.handlers; last = n + 1; lines = s.lines + 1; stmts = s.stmts; depth = 0; open_conds = 0; word = 0; branches = 0 }))
+    (Err reason.TooManyLines))
+    (Err reason.LineOrder))
+    (Err reason.NotAForm)
 
 abbrev pub step_simple : State → ℕ → Step
 step_simple s n =
-    pick (eqb s.position 3)
+    pick (eqb (place_number s.position) 3)
     (pick (ltb s.stmts 4096)
     (pick (leb s.depth 16)
     (pick (leb n 64)
-    (Taken (one_more s 3 0))
-    (Refused 8))
-    (Refused 7))
-    (Refused 6))
-    (Refused 2)
+    (Ok (one_more s at.InStmts 0))
+    (Err reason.TooWide))
+    (Err reason.TooDeep))
+    (Err reason.TooManyStatements))
+    (Err reason.NotAForm)
 
 abbrev pub step_cond : State → ℕ → Step
 step_cond s k =
-    pick (eqb s.position 3)
+    pick (eqb (place_number s.position) 3)
     (pick (ltb s.stmts 4096)
     (pick (leb s.depth 16)
-    (Taken (one_more s 4 k))
-    (Refused 7))
-    (Refused 6))
-    (Refused 2)
+    (Ok (one_more s at.InCond k))
+    (Err reason.TooDeep))
+    (Err reason.TooManyStatements))
+    (Err reason.NotAForm)
 
 -- may one more branch follow; word 0 is IF, 1 IFELSE, 2 RCOMP
 abbrev pub may_branch : ℕ → ℕ → Bool
@@ -146,41 +162,41 @@ is_complete w b = pick (eqb b 1) (not (eqb w 1)) (pick (eqb b 2) (not (eqb w 0))
 
 abbrev pub step_stmts : State → Step
 step_stmts s =
-    pick (eqb s.position 4)
+    pick (eqb (place_number s.position) 4)
     (pick (may_branch s.word s.branches)
-    (Taken (record { position = 3; handlers = s.handlers; last = s.last; lines = s.lines; stmts = s.stmts; depth = s.depth + 1; open_conds = s.word * 2 + s.branches + 8 * s.open_conds; word = 0; branches = 0 }))
-    (Refused 2))
-    (Refused 2)
+    (Ok (record { position = at.InStmts; handlers = s.handlers; last = s.last; lines = s.lines; stmts = s.stmts; depth = s.depth + 1; open_conds = s.word * 2 + s.branches + 8 * s.open_conds; word = 0; branches = 0 }))
+    (Err reason.NotAForm))
+    (Err reason.NotAForm)
 
 abbrev pub step_to : State → Step
 step_to s =
-    pick (eqb s.position 4)
+    pick (eqb (place_number s.position) 4)
     (pick (may_branch s.word s.branches)
-    (Taken (moved s 4 s.word (s.branches + 1)))
-    (Refused 2))
-    (Refused 2)
+    (Ok (moved s at.InCond s.word (s.branches + 1)))
+    (Err reason.NotAForm))
+    (Err reason.NotAForm)
 
 -- "2 not a form allowed here": a number or name is judged only where its row is due, that of a branch only where one may follow; outside of branches word and branches are 0
-abbrev pub step_refused : State → ℕ → ℕ → Step
-step_refused s n p = pick (eqb s.position p) (pick (may_branch s.word s.branches) (Refused n) (Refused 2)) (Refused 2)
+abbrev pub step_refused : State → Reason → Place → Step
+step_refused s r p = pick (eqb (place_number s.position) (place_number p)) (pick (may_branch s.word s.branches) (Err r) (Err reason.NotAForm)) (Err reason.NotAForm)
 
 -- `)` after statements: a line ends, or the innermost IF goes on
 abbrev pub end_of_stmts : State → Step
 end_of_stmts s =
     pick (eqb s.depth 0)
-    (Taken (outside s 1))
-    (Taken (record { position = 4; handlers = s.handlers; last = s.last; lines = s.lines; stmts = s.stmts; depth = s.depth - 1; open_conds = s.open_conds / 8; word = (s.open_conds % 8) / 2; branches = (s.open_conds % 8) % 2 + 1 }))
+    (Ok (outside s at.InModule))
+    (Ok (record { position = at.InCond; handlers = s.handlers; last = s.last; lines = s.lines; stmts = s.stmts; depth = s.depth - 1; open_conds = s.open_conds / 8; word = (s.open_conds % 8) / 2; branches = (s.open_conds % 8) % 2 + 1 }))
 
 abbrev pub step_end : State → Step
 step_end s =
-    pick (eqb s.position 3) (end_of_stmts s)
-    (pick (eqb s.position 4)
+    pick (eqb (place_number s.position) 3) (end_of_stmts s)
+    (pick (eqb (place_number s.position) 4)
     (pick (is_complete s.word s.branches)
-    (Taken (moved s 3 0 0))
-    (Refused 2))
-    (pick (eqb s.position 1)
-    (Taken (outside s 2))
-    (Refused 2)))
+    (Ok (moved s at.InStmts 0 0))
+    (Err reason.NotAForm))
+    (pick (eqb (place_number s.position) 1)
+    (Ok (outside s at.Ended))
+    (Err reason.NotAForm)))
 
 abbrev pub step_row : State → Row → Step
 step_row s (row.Refused n p) = step_refused s n p

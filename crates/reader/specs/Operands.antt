@@ -1,6 +1,7 @@
 -- The arguments of a statement's row, word by word, as they are written. Assumes nothing.
-use Rattle.std.specs.Prelude.{◌≡◌, refl, Bool, true, false, eqb, take, drop, set}
-use Rattle.std.proofs.Common.{sym, ◌∙◌, not-suc-le-zero, add-one, arith, length-append, length-set, length-drop, take-append-drop, take-suc-set, drop-set-lt, drop-drop, take_at, ne_eqb}
+use Rattle.std.specs.Prelude.{◌≡◌, refl, Bool, true, false, take, drop, set, Option, Some, None, Result, Ok, Err}
+use Rattle.std.specs.Option.{unwrap_or}
+use Rattle.std.proofs.Common.{sym, ◌∙◌, not-suc-le-zero, add-one, arith, length-append, length-set, length-drop, take-append-drop, take-suc-set, drop-set-lt, drop-drop, take_at}
 use Rattle.std.proofs.Math.Path.{ap, subst}
 use mathlib.Core.List.{List, [], ◌∷◌, ◌++◌, map, append_assoc}
 use Rattle.std.proofs.Math.Option.{none, some}
@@ -11,7 +12,7 @@ use Rattle.listings.specs.Bytes.{bytes, same, pick, decimal}
 use Rattle.listings.specs.Listing.{Name, Tier, static, framed, dispatched, Mark, orphan, Slot, goto, gosub, runto, ongoto, ongosub, Simple, jump, on, for, next, block, bare}
 use Rattle.listings.specs.Rows.{split, Parse, malformed, invalid, parsed, parse_number, parse_name, is_name, is_capital, opening_words, content_of, row_of, simple_row, Counted}
 use Rattle.listings.specs.ListingText.{spaced_words, closed_form, block_word, bare_word, simple_word, simple_args, simple_text, tier_word, mark_word, slot_word, SimpleOk, NumbersOk, SlotsOk}
-use Rattle.listings.specs.WordTable.{words, forms, first, word_index, kind, kind_of, kind_at}
+use Rattle.listings.specs.WordTable.{words, forms, first, word_index}
 use Rattle.listings.specs.Tests.{both_true}
 use Rattle.listing_laws.specs.NumberText.{number_text}
 use Rattle.listing_laws.specs.WordText.{in_word, is_token, are_tokens, token_lacks, tokens_lack, name_text}
@@ -23,10 +24,10 @@ use Rattle.tokens.specs.Names.{as_key}
 use Rattle.listings.specs.Cut.{cut_name, cut_slot, cut_simple}
 use Rattle.listings.specs.Records.{name_key, slot_key, args_of, tier_number, mark_number, detail_of}
 use Rattle.reader.specs.declared.operands.Given.{Given}
-use Rattle.tokens.specs.declared.numbers.ParsedNumber.{ParsedNumber}
-use Rattle.tokens.specs.declared.numbers.ParsedNumber.TheVariants as number
-use Rattle.tokens.specs.declared.names.NameKey.{NameKey}
-use Rattle.tokens.specs.declared.names.NameKey.TheVariants as key
+use Rattle.tokens.specs.Kinds.{form_kind, opened_kind}
+use Rattle.tokens.specs.declared.words.Kind.{Kind}
+use Rattle.tokens.specs.declared.words.Kind.TheVariants as kind
+use Rattle.layout.specs.declared.refusals.Reason.{Reason}
 
 -- ---- one word
 
@@ -55,16 +56,31 @@ mark_entry w = pick (same (bytes "orphan") w) 1 0
 
 -- ---- the words of a row
 
+-- FOR's, NEXT's or of any other word
+unfoldable pub by_kind : {A : Type 0} → A → A → A → Option Kind → A
+by_kind f n o None = o
+by_kind f n o (Some kind.Module) = o
+by_kind f n o (Some kind.Line) = o
+by_kind f n o (Some kind.To) = o
+by_kind f n o (Some kind.Stmts) = o
+by_kind f n o (Some kind.Cond) = o
+by_kind f n o (Some kind.Bare) = o
+by_kind f n o (Some kind.Number) = o
+by_kind f n o (Some kind.Numbers) = o
+by_kind f n o (Some kind.Run) = o
+by_kind f n o (Some kind.For) = f
+by_kind f n o (Some kind.Next) = n
+
 -- the words after the opening one, of kind g: FOR's first, NEXT's but the first as names, all others as numbers
-unfoldable pub entries_of : ℕ → List (List ℕ) → List ℕ
-entries_of g ws = pick (eqb g 9) (map (entry_by true) (take 1 ws)) (pick (eqb g 10) (map (entry_by true) (drop 1 ws)) (map (entry_by false) ws))
+unfoldable pub entries_of : Option Kind → List (List ℕ) → List ℕ
+entries_of g ws = by_kind (map (entry_by true) (take 1 ws)) (map (entry_by true) (drop 1 ws)) (map (entry_by false) ws) g
 
 unfoldable pub head_mark : List (List ℕ) → ℕ
 head_mark [] = 0
 head_mark (w ∷ ws) = mark_entry w
 
-unfoldable pub details_of : ℕ → List (List ℕ) → ℕ
-details_of g ws = pick (eqb g 9) (tier_entry (join 32 (drop 1 ws))) (pick (eqb g 10) (head_mark ws) 0)
+unfoldable pub details_of : Option Kind → List (List ℕ) → ℕ
+details_of g ws = by_kind (tier_entry (join 32 (drop 1 ws))) (head_mark ws) 0 g
 
 -- the number of a row's opening word
 unfoldable pub opening_word : List (List ℕ) → ℕ
@@ -73,11 +89,11 @@ opening_word (w ∷ ws) = word_index w
 
 unfoldable pub row_entries : List (List ℕ) → List ℕ
 row_entries [] = []
-row_entries (w ∷ ws) = entries_of (kind_at (word_index w)) ws
+row_entries (w ∷ ws) = entries_of (opened_kind (word_index w)) ws
 
 unfoldable pub row_detail : List (List ℕ) → ℕ
 row_detail [] = 0
-row_detail (w ∷ ws) = details_of (kind_at (word_index w)) ws
+row_detail (w ∷ ws) = details_of (opened_kind (word_index w)) ws
 
 -- what was written at the start of a part, and what is answered
 pub record Put (es : List ℕ) (d : ℕ) (t t' : List ℕ) (r : Given) : Type 0 where
@@ -87,13 +103,12 @@ pub record Put (es : List ℕ) (d : ℕ) (t t' : List ℕ) (r : Given) : Type 0 
 
 -- ---- laws for the code
 
-abbrev pub number_answer : ParsedNumber → ℕ
-number_answer (number.Refused k) = 0
-number_answer (number.Value n) = n
+abbrev pub number_answer : Result ℕ Reason → ℕ
+number_answer (Err r) = 0
+number_answer (Ok n) = n
 
-abbrev pub key_answer : NameKey → ℕ
-key_answer (key.Refused n) = 0
-key_answer (key.Key k) = k
+abbrev pub key_answer : Option ℕ → ℕ
+key_answer k = unwrap_or k 0
 
 pub number_answer_lem : (p : Parse ℕ) → number_answer (as_number p) ≡ number_entry p
 unfolding number_entry
@@ -165,6 +180,40 @@ nil_tier : tier_entry [] ≡ 0
 unfolding tier_entry bytes same
 nil_tier = refl
 
+-- an opening word alone comes to nothing, whatever its kind
+none-entries : (g : Option Kind) → entries_of g [] ≡ []
+unfolding entries_of by_kind
+none-entries None = refl
+none-entries (Some kind.Module) = refl
+none-entries (Some kind.Line) = refl
+none-entries (Some kind.To) = refl
+none-entries (Some kind.Stmts) = refl
+none-entries (Some kind.Cond) = refl
+none-entries (Some kind.Bare) = refl
+none-entries (Some kind.Number) = refl
+none-entries (Some kind.Numbers) = refl
+none-entries (Some kind.Run) = refl
+none-entries (Some kind.For) = refl
+none-entries (Some kind.Next) = refl
+
+none_detail : (g : Option Kind) → details_of g [] ≡ 0
+unfolding details_of by_kind join head_mark
+none_detail None = refl
+none_detail (Some kind.Module) = refl
+none_detail (Some kind.Line) = refl
+none_detail (Some kind.To) = refl
+none_detail (Some kind.Stmts) = refl
+none_detail (Some kind.Cond) = refl
+none_detail (Some kind.Bare) = refl
+none_detail (Some kind.Number) = refl
+none_detail (Some kind.Numbers) = refl
+none_detail (Some kind.Run) = refl
+none_detail (Some kind.For) = nil_tier
+none_detail (Some kind.Next) = refl
+
+pub put_by : {es fs : List ℕ} {d b : ℕ} (t t' : List ℕ) (r : Given) → es ≡ fs → d ≡ b → Put es d t t' r → Put fs b t t' r
+put_by t t' r e q g = record { count = g.count ∙ ap length e; detail = g.detail ∙ q; table = g.table ∙ ap (λ (l : List ℕ). l ++ drop (length l) t) e }
+
 -- a part's words again
 rest-join : (s : List ℕ) (e : ℕ) → join 32 (split 32 (after s e)) ≡ after s e
 rest-join s e = join-split 32 (after s e)
@@ -201,35 +250,30 @@ module _ (s : List ℕ) (e : ℕ) (found : e ≡ index_of 32 s) where
       (sym (split-first 32 s e found q)) (record { count = g.count; detail = p; table = g.table })
 
   pub row_alone : (t : List ℕ) → e ≡ length s → Put (row_entries (split 32 s)) (row_detail (split 32 s)) t t (record { count = 0; detail = 0 })
-  unfolding row_entries row_detail entries_of details_of head_mark join
+  unfolding row_entries row_detail
   row_alone t q =
       subst (λ (ws : List (List ℕ)). Put (row_entries ws) (row_detail ws) t t (record { count = 0; detail = 0 })) (sym (split_alone 32 s e found q))
-      (go (eqb k 9) (eqb k 10))
+      (put_by t t _ (sym (none-entries k)) (sym (none_detail k)) (put_none t 0 0 refl))
     where
-      k : ℕ
-      k = kind_at (word_index (take (e - 0) (drop 0 s)))
+      k : Option Kind
+      k = opened_kind (word_index (take (e - 0) (drop 0 s)))
 
-      go : (a b : Bool) → Put (pick a [] (pick b [] [])) (pick a (tier_entry []) (pick b 0 0)) t t (record { count = 0; detail = 0 })
-      go true b = put_none t _ 0 (sym nil_tier)
-      go false true = put_none t _ 0 refl
-      go false false = put_none t _ 0 refl
-
-  module _ (t t' : List ℕ) (r : Given) (k : ℕ) (more : e < length s) (is : k ≡ kind_at (opening_word (split 32 s))) where
-    kind-first : k ≡ kind_at (word_index (take (e - 0) (drop 0 s)))
+  module _ (t t' : List ℕ) (r : Given) (k : Option Kind) (more : e < length s) (is : k ≡ opened_kind (opening_word (split 32 s))) where
+    kind-first : k ≡ opened_kind (word_index (take (e - 0) (drop 0 s)))
     unfolding opening_word
-    kind-first = is ∙ ap (λ (ws : List (List ℕ)). kind_at (opening_word ws)) (split-first 32 s e found more)
+    kind-first = is ∙ ap (λ (ws : List (List ℕ)). opened_kind (opening_word ws)) (split-first 32 s e found more)
 
     -- what a kind's words come to is what the row comes to
     pub row_words : Put (entries_of k (split 32 (after s e))) (details_of k (split 32 (after s e))) t t' r → Put (row_entries (split 32 s)) (row_detail (split 32 s)) t t' r
     unfolding row_entries row_detail
     row_words g =
         subst (λ (ws : List (List ℕ)). Put (row_entries ws) (row_detail ws) t t' r) (sym (split-first 32 s e found more))
-        (subst (λ (n : ℕ). Put (entries_of n (split 32 (after s e))) (details_of n (split 32 (after s e))) t t' r) kind-first g)
+        (subst (λ (n : Option Kind). Put (entries_of n (split 32 (after s e))) (details_of n (split 32 (after s e))) t t' r) kind-first g)
 
     pub row_room : (n : ℕ) → length (row_entries (split 32 s)) ≤ n → length (entries_of k (split 32 (after s e))) ≤ n
     unfolding row_entries
     row_room n h =
-        let q : row_entries (split 32 s) ≡ entries_of k (split 32 (after s e)) = ap row_entries (split-first 32 s e found more) ∙ ap (λ (g : ℕ). entries_of g (split 32 (after s e))) (sym kind-first) in
+        let q : row_entries (split 32 s) ≡ entries_of k (split 32 (after s e)) = ap row_entries (split-first 32 s e found more) ∙ ap (λ (g : Option Kind). entries_of g (split 32 (after s e))) (sym kind-first) in
         omega (arith, ap length q)
 
 -- by the kind
@@ -237,30 +281,38 @@ first_one : (f : List ℕ → ℕ) (ws : List (List ℕ)) → 0 < length ws → 
 first_one f [] h = absurd (not-suc-le-zero h)
 first_one f (w ∷ ws) h = refl
 
-pub entries_for : (ws : List (List ℕ)) (k : ℕ) → k ≡ 9 → (map (entry_by true) (take 1 ws) ≡ entries_of k ws) × (tier_entry (join 32 (drop 1 ws)) ≡ details_of k ws)
-unfolding entries_of details_of
+pub entries_for : (ws : List (List ℕ)) (k : Option Kind) → k ≡ Some kind.For → (map (entry_by true) (take 1 ws) ≡ entries_of k ws) × (tier_entry (join 32 (drop 1 ws)) ≡ details_of k ws)
+unfolding entries_of details_of by_kind
 entries_for ws k e = (rw e, rw e)
 
-pub entries_next : (ws : List (List ℕ)) (k : ℕ) → k ≡ 10 → (map (entry_by true) (drop 1 ws) ≡ entries_of k ws) × (head_mark ws ≡ details_of k ws)
-unfolding entries_of details_of
+pub entries_next : (ws : List (List ℕ)) (k : Option Kind) → k ≡ Some kind.Next → (map (entry_by true) (drop 1 ws) ≡ entries_of k ws) × (head_mark ws ≡ details_of k ws)
+unfolding entries_of details_of by_kind
 entries_next ws k e = (rw e, rw e)
 
-pub entries-numbers : (ws : List (List ℕ)) (k : ℕ) → (k ≡ 9 → ⊥) → (k ≡ 10 → ⊥) → (map (entry_by false) ws ≡ entries_of k ws) × (0 ≡ details_of k ws)
-unfolding entries_of details_of
-entries-numbers ws k p q = (rw (ne_eqb k 9 p, ne_eqb k 10 q), rw (ne_eqb k 9 p, ne_eqb k 10 q))
+pub entries-numbers : (ws : List (List ℕ)) (k : Option Kind) → (k ≡ Some kind.For → ⊥) → (k ≡ Some kind.Next → ⊥) → (map (entry_by false) ws ≡ entries_of k ws) × (0 ≡ details_of k ws)
+unfolding entries_of details_of by_kind
+entries-numbers ws None p q = (refl, refl)
+entries-numbers ws (Some kind.Module) p q = (refl, refl)
+entries-numbers ws (Some kind.Line) p q = (refl, refl)
+entries-numbers ws (Some kind.To) p q = (refl, refl)
+entries-numbers ws (Some kind.Stmts) p q = (refl, refl)
+entries-numbers ws (Some kind.Cond) p q = (refl, refl)
+entries-numbers ws (Some kind.Bare) p q = (refl, refl)
+entries-numbers ws (Some kind.Number) p q = (refl, refl)
+entries-numbers ws (Some kind.Numbers) p q = (refl, refl)
+entries-numbers ws (Some kind.Run) p q = (refl, refl)
+entries-numbers ws (Some kind.For) p q = absurd (p refl)
+entries-numbers ws (Some kind.Next) p q = absurd (q refl)
 
 -- the room for what is written
-pub for_room : (l : List ℕ) (k n : ℕ) → k ≡ 9 → length (entries_of k (split 32 l)) ≤ n → 1 ≤ n
+pub for_room : (l : List ℕ) (k : Option Kind) (n : ℕ) → k ≡ Some kind.For → length (entries_of k (split 32 l)) ≤ n → 1 ≤ n
 for_room l k n e h = omega (arith, ap length (entries_for (split 32 l) k e).0, first_one (entry_by true) (split 32 l) (split-some 32 l))
 
-pub slots_room : (l : List ℕ) (k n : ℕ) → k ≡ 10 → length (entries_of k (split 32 l)) ≤ n → length (drop 1 (split 32 l)) ≤ n
+pub slots_room : (l : List ℕ) (k : Option Kind) (n : ℕ) → k ≡ Some kind.Next → length (entries_of k (split 32 l)) ≤ n → length (drop 1 (split 32 l)) ≤ n
 slots_room l k n e h = omega (arith, ap length (entries_next (split 32 l) k e).0, length-map (drop 1 (split 32 l)) (entry_by true))
 
-pub numbers_room : (l : List ℕ) (k n : ℕ) → (k ≡ 9 → ⊥) → (k ≡ 10 → ⊥) → length (entries_of k (split 32 l)) ≤ n → length (split 32 l) ≤ n
+pub numbers_room : (l : List ℕ) (k : Option Kind) (n : ℕ) → (k ≡ Some kind.For → ⊥) → (k ≡ Some kind.Next → ⊥) → length (entries_of k (split 32 l)) ≤ n → length (split 32 l) ≤ n
 numbers_room l k n p q h = omega (arith, ap length (entries-numbers (split 32 l) k p q).0, length-map (split 32 l) (entry_by false))
-
-pub put_by : {es fs : List ℕ} {d b : ℕ} (t t' : List ℕ) (r : Given) → es ≡ fs → d ≡ b → Put es d t t' r → Put fs b t t' r
-put_by t t' r e q g = record { count = g.count ∙ ap length e; detail = g.detail ∙ q; table = g.table ∙ ap (λ (l : List ℕ). l ++ drop (length l) t) e }
 
 -- ---- the words of a statement come to its arguments, names cut
 
@@ -300,27 +352,8 @@ mark_entry_lem orphan = refl
 
 -- to unfold this is to unfold what finds the kind of an opening word
 opened : Unit {0}
-unfolding row_entries row_detail entries_of details_of simple_word simple_args args_of detail_of SimpleOk kind_at kind_of kind forms opening_words word_index words first same bytes
+unfolding row_entries row_detail entries_of details_of simple_word simple_args args_of detail_of SimpleOk opened_kind form_kind by_kind forms opening_words word_index words first same bytes
 opened = tt
-
--- an opening word alone comes to nothing, whatever its kind
-none-entries : (g : ℕ) → entries_of g [] ≡ []
-unfolding entries_of
-none-entries g = go (eqb g 9) (eqb g 10)
-  where
-    go : (a b : Bool) → ◌≡◌ {A = List ℕ} (pick a [] (pick b [] [])) []
-    go true b = refl
-    go false true = refl
-    go false false = refl
-
-none_detail : (g : ℕ) → details_of g [] ≡ 0
-unfolding details_of join head_mark
-none_detail g = go (eqb g 9) (eqb g 10)
-  where
-    go : (a b : Bool) → pick a (tier_entry []) (pick b 0 0) ≡ 0
-    go true b = nil_tier
-    go false true = refl
-    go false false = refl
 
 pub simple_entries : (o : Simple) → SimpleOk o → row_entries (simple_word o ∷ simple_args o) ≡ args_of (cut_simple o)
 unfolding opened cut_simple
@@ -331,8 +364,8 @@ simple_entries (on ongoto ns) h = numbers-entries ns h
 simple_entries (on ongosub ns) h = numbers-entries ns h
 simple_entries (for v t) h = rw (name_entry v h)
 simple_entries (next m ss) h = slots-entries ss h
-simple_entries (block w) h = none-entries (kind_at (word_index (block_word w)))
-simple_entries (bare w) h = none-entries (kind_at (word_index (bare_word w)))
+simple_entries (block w) h = none-entries (opened_kind (word_index (block_word w)))
+simple_entries (bare w) h = none-entries (opened_kind (word_index (bare_word w)))
 
 pub simple_detail : (o : Simple) → row_detail (simple_word o ∷ simple_args o) ≡ detail_of (cut_simple o)
 unfolding opened cut_simple join head_mark
@@ -343,8 +376,8 @@ simple_detail (on ongoto ns) = refl
 simple_detail (on ongosub ns) = refl
 simple_detail (for v t) = tier_entry_lem t
 simple_detail (next m ss) = mark_entry_lem m
-simple_detail (block w) = none_detail (kind_at (word_index (block_word w)))
-simple_detail (bare w) = none_detail (kind_at (word_index (bare_word w)))
+simple_detail (block w) = none_detail (opened_kind (word_index (block_word w)))
+simple_detail (bare w) = none_detail (opened_kind (word_index (bare_word w)))
 
 -- ---- a statement's row without its brackets
 

@@ -6,25 +6,20 @@ ghost use Rattle.reader.specs.Filling.{Zeroed, Filled};
 ghost use Rattle.reader.specs.FileLoop.{row_by, operands_by, operands_at, RowCounted};
 
 use super::fill::{Walk, add_simple, write_row};
-use super::machine::{State, Step, start_state, step_row};
+use super::machine::{State, start_state, step_row};
 use super::operands::Given;
-use super::rows::{IN_STMTS, Row};
+use super::rows::Row;
 use basic::actions::put_args;
 use basic::cursors::Cursor;
 use basic::rows::{first_row, row_at};
 use basic::sources::FileRow;
 use layout::columns::ARG_ENTRIES;
-use layout::widths::wide;
 
 // A row of a file, as one of a text; how many arguments it has is not asked again.
 fn row_of_file(r: FileRow) -> Row
     ensures { result ≡ row_by r }
 {
     match r {
-        FileRow::Nothing => Row::Refused {
-            number: 2,
-            due: IN_STMTS,
-        },
         FileRow::Module => Row::Module(false),
         FileRow::Line(n) => Row::Line(n),
         FileRow::Simple {
@@ -33,7 +28,7 @@ fn row_of_file(r: FileRow) -> Row
             byte: _,
             at: _,
         } => Row::Simple {
-            word: wide(word),
+            word: usize::from(word),
             count: 0,
         },
         FileRow::If => Row::Cond(0),
@@ -82,7 +77,7 @@ fn write_file_row(
         return write_row(lines, stmts, s, w, row, none);
     };
     put_file_args(file, byte, at, args, s.stmts);
-    add_simple(stmts, s, w, wide(word), Given { count, detail: 0 })
+    add_simple(stmts, s, w, usize::from(word), Given { count, detail: 0 })
 }
 
 // The rows of an accepted file.
@@ -96,17 +91,11 @@ pub(crate) fn fill_program(file: &[u8], lines: &mut [u16], stmts: &mut [u16], ar
         index: 0,
     };
     let mut due = first_row();
-    loop {
-        let r = row_at(file, due);
-        if let FileRow::Nothing = r.row {
-            return;
-        }
+    while let Some(r) = row_at(file, due) {
         let row = row_of_file(r.row);
         match step_row(s, row) {
-            Step::Refused(_) => {
-                return;
-            }
-            Step::Taken(n) => {
+            Err(_) => return,
+            Ok(n) => {
                 w = write_file_row(file, r.row, lines, stmts, args, s, w, row);
                 s = n;
             }

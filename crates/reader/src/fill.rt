@@ -5,15 +5,14 @@ ghost use Rattle.reader.specs.Filling.{Zeroed, Filled};
 ghost use Rattle.reader.specs.Fill.{entry_of, branch_stmts, end_table, end_walk, outside_walk, added_walk, inside_walk, add_simple, add_cond, OperandsPut, Wrote, Recorded, Ready, EndReady, ToReady, AddReady, HasRoom, RecordReady};
 ghost use Rattle.reader.specs.RowOperands.{operands_in, row_operands, IsStatement, RowReady};
 
-use super::machine::{State, Step, start_state, step_row};
+use super::machine::{State, is_at, start_state, step_row};
 use super::operands::{Given, put_operands};
-use super::rows::{IN_COND, IN_STMTS, Row, accepted_row};
-use super::tables::{Entry, append, fetch, narrow, store};
+use super::rows::{Position, Row, accepted_row};
+use super::tables::{Entry, append, fetch, store};
 use layout::columns::{
     ARG_ENTRIES, END, FORM1, FORM2, HOLDER, INDEX, NUMBER1, NUMBER2, SECOND, STMTS_BRANCH,
     TO_BRANCH,
 };
-use layout::widths::wide;
 use tokens::scan::find;
 
 // In which IF the next statement stands (one more than its node, or 0), and the number it gets there.
@@ -28,7 +27,7 @@ fn node_of(holder: u16) -> usize
     requires { 0 < holder }
     ensures { result ≡ holder - 1 }
 {
-    wide(holder) - 1
+    usize::from(holder) - 1
 }
 
 // The index of the next statement of the same holder.
@@ -49,7 +48,7 @@ fn end_branch(t: &mut [u16], i: usize, second: bool, form: u16, number: u16, n: 
         store(t, i, NUMBER2, number);
         return;
     }
-    store(t, i, SECOND, narrow(n));
+    store(t, i, SECOND, n as u16);
     store(t, i, FORM1, form);
     store(t, i, NUMBER1, number);
 }
@@ -59,7 +58,7 @@ fn end_row(t: &mut [u16], s: State, w: Walk) -> Walk
     requires { EndReady t.old s w }
     ensures { (result ≡ end_walk t.old s w) × (t.new ≡ end_table t.old s w) }
 {
-    if s.position == IN_STMTS {
+    if is_at(s, Position::InStmts) {
         if s.depth == 0 {
             return Walk {
                 holder: 0,
@@ -76,11 +75,11 @@ fn end_row(t: &mut [u16], s: State, w: Walk) -> Walk
         );
         return w;
     }
-    if s.position == IN_COND {
+    if is_at(s, Position::InCond) {
         let i = node_of(w.holder);
         let h = fetch(t, i, HOLDER);
         let k = fetch(t, i, INDEX);
-        store(t, i, END, narrow(s.stmts));
+        store(t, i, END, s.stmts as u16);
         return Walk {
             holder: h,
             index: next_index(k),
@@ -107,12 +106,12 @@ fn record_entry(s: State, w: Walk, word: usize, end: usize, g: Given) -> Entry
     ensures { result ≡ entry_of s w word end g }
 {
     Entry {
-        word: narrow(word),
-        line: narrow(s.lines - 1),
+        word: word as u16,
+        line: (s.lines - 1) as u16,
         holder: w.holder,
         index: w.index,
-        end: narrow(end),
-        count: narrow(g.count),
+        end: end as u16,
+        count: g.count as u16,
         detail: g.detail,
     }
 }
@@ -140,7 +139,7 @@ fn add_cond(stmts: &mut [u16], s: State, w: Walk, k: usize) -> Walk
     };
     append(stmts, s.stmts, record_entry(s, w, k + 2, 0, none));
     Walk {
-        holder: narrow(s.stmts + 1),
+        holder: (s.stmts + 1) as u16,
         index: 0,
     }
 }
@@ -170,7 +169,7 @@ pub(crate) fn write_row(
     ensures { Wrote lines.old stmts.old s w row given lines.new stmts.new result }
 {
     match row {
-        Row::Refused { number: _, due: _ } => w,
+        Row::Refused { reason: _, due: _ } => w,
         Row::End => end_row(stmts, s, w),
         Row::Stmts => w,
         Row::Module(_) => Walk {
@@ -237,10 +236,8 @@ pub(crate) fn fill(text: &[u8], lines: &mut [u16], stmts: &mut [u16], args: &mut
         }
         let row = accepted_row(&text[at..to]);
         match step_row(s, row) {
-            Step::Refused(_) => {
-                return;
-            }
-            Step::Taken(n) => {
+            Err(_) => return,
+            Ok(n) => {
                 w = write_text_row(&text[at..to], lines, stmts, args, s, w, row);
                 s = n;
             }

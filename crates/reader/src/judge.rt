@@ -1,47 +1,36 @@
 // The judge: a whole text, accepted or refused.
 ghost use Rattle.std.specs.Prelude.{◌≡◌};
 ghost use Rattle.listings.specs.Read.{read};
-ghost use Rattle.reader.specs.Answer.{listed_of};
+ghost use Rattle.reader.specs.Answer.{by_number, listed_of};
 ghost use Rattle.reader.specs.Judge.{finish_state};
 
-use super::listing::Listed;
-use super::machine::{State, Step, start_state, step_row};
-use super::rows::{ENDED, row_of};
+use super::listing::Accepted;
+use super::machine::{State, is_at, start_state, step_row};
+use super::rows::{Position, row_of};
 use layout::limits::MAX_BYTES;
+use layout::refusals::{Reason, Refusal};
 use tokens::scan::find;
 
 // The text ends in row i, after e bytes of it.
-fn finish(s: State, i: usize, e: usize) -> Listed
+fn finish(s: State, i: usize, e: usize) -> Result<Accepted, Refusal>
     ensures { result ≡ finish_state s i e }
 {
-    if s.position == ENDED {
-        if e == 0 {
-            return Listed::Accepted {
-                handlers: s.handlers,
-                lines: s.lines,
-                stmts: s.stmts,
-            };
-        }
-        return Listed::Refused {
-            number: 2,
-            place: i,
-        };
+    if is_at(s, Position::Ended) && e == 0 {
+        return Ok(Accepted {
+            handlers: s.handlers,
+            lines: s.lines,
+            stmts: s.stmts,
+        });
     }
-    Listed::Refused {
-        number: 2,
-        place: i,
-    }
+    Err(Reason::NotAForm.at(i))
 }
 
 // "The first bad row decides": the rows one after the other.
-pub(crate) fn judge(text: &[u8]) -> Listed
-    ensures { result ≡ listed_of (read text.now) }
+pub(crate) fn judge(text: &[u8]) -> Result<Accepted, Refusal>
+    ensures { by_number result ≡ listed_of (read text.now) }
 {
     if MAX_BYTES < text.len() {
-        return Listed::Refused {
-            number: 1,
-            place: 0,
-        };
+        return Err(Reason::TextTooLong.at(0));
     }
     let mut s = start_state();
     let mut at: usize = 0;
@@ -53,15 +42,8 @@ pub(crate) fn judge(text: &[u8]) -> Listed
             return finish(s, i, e);
         }
         match step_row(s, row_of(&text[at..to])) {
-            Step::Refused(n) => {
-                return Listed::Refused {
-                    number: n,
-                    place: i,
-                };
-            }
-            Step::Taken(t) => {
-                s = t;
-            }
+            Err(reason) => return Err(reason.at(i)),
+            Ok(t) => s = t,
         }
         at = to + 1;
         i += 1;

@@ -1,9 +1,8 @@
 // Reads an input, a listing's text or a saved program: judges the whole of it, then, where the tables can hold it, writes its records.
-ghost use Rattle.std.specs.Prelude.{◌≡◌, length};
+ghost use Rattle.std.specs.Prelude.{◌≡◌, length, replicate};
 ghost use Rattle.listings.specs.Cut.{meant};
-ghost use Rattle.listings.specs.Records.{handler_number};
 ghost use Rattle.program_files.specs.Inputs.{meaning};
-ghost use Rattle.reader.specs.Answer.{listed_of};
+ghost use Rattle.reader.specs.Answer.{by_number, listed_of};
 ghost use Rattle.reader.specs.Filling.{Zeroed, Filled};
 ghost use Rattle.reader.specs.Listed.{Judged as JudgedInput, RecordsWritten};
 ghost use Rattle.reader.specs.FileLoop.{listed_program_of};
@@ -11,52 +10,34 @@ ghost use Rattle.reader.specs.FileLoop.{listed_program_of};
 use super::file_rows::fill_program;
 use super::fill::fill;
 use super::judge::judge;
-use super::tables::{narrow32, put_counts};
-use basic::judge::{Judged, judge_program};
+use super::tables::put_counts;
+use basic::judge::{Counts, judge_program};
 use layout::columns::{ARG_ENTRIES, STMT_ENTRIES};
-use layout::zeroing::{zero16, zero64};
+use layout::refusals::{Reason, Refusal};
 
-// handlers: whether ON KEY, ON ERROR or RESUME occurs; how many lines and statements. Or document 01's number and place.
-#[derive(Drop)]
-pub enum Listed {
-    Accepted {
-        handlers: bool,
-        lines: usize,
-        stmts: usize,
-    },
-    Refused {
-        number: u8,
-        place: usize,
-    },
-}
-
-// The handlers as the counts have them.
-fn handler_number(handlers: bool) -> u32
-    ensures { result ≡ handler_number handlers }
-{
-    if handlers {
-        return 1;
-    }
-    0
+// What an accepted input means: whether ON KEY, ON ERROR or RESUME occurs; how many lines and statements.
+#[derive(Clone, Copy, Debug, PartialEq, Eq)]
+pub struct Accepted {
+    pub handlers: bool,
+    pub lines: usize,
+    pub stmts: usize,
 }
 
 // What judging a program answers, as the reader tells it: a program has no handlers.
-fn listed_program(j: Judged) -> Listed
+fn listed_program(j: Result<Counts, Refusal>) -> Result<Accepted, Refusal>
     ensures { result ≡ listed_program_of j }
 {
-    match j {
-        Judged::Refused { number, place } => Listed::Refused { number, place },
-        Judged::Accepted { lines, stmts } => Listed::Accepted {
-            handlers: false,
-            lines,
-            stmts,
-        },
-    }
+    let c = j?;
+    Ok(Accepted {
+        handlers: false,
+        lines: c.lines,
+        stmts: c.stmts,
+    })
 }
 
 // An input, accepted or refused.
-fn judge_input(program: bool, input: &[u8]) -> Listed
-    ensures { result ≡ listed_of (meaning program input.now) }
+fn judge_input(program: bool, input: &[u8]) -> Result<Accepted, Refusal>
+    ensures { by_number result ≡ listed_of (meaning program input.now) }
 {
     if program {
         return listed_program(judge_program(input));
@@ -76,7 +57,16 @@ fn fill_input(program: bool, input: &[u8], lines: &mut [u16], stmts: &mut [u16],
     fill(input, lines, stmts, args);
 }
 
-// An accepted input with so many lines and statements, into zeroed tables.
+// The tables become zero.
+fn clear_tables(lines: &mut [u16], stmts: &mut [u16], args: &mut [u64])
+    ensures { (lines.new ≡ replicate (length lines.old) 0) × (stmts.new ≡ replicate (length stmts.old) 0) × (args.new ≡ replicate (length args.old) 0) }
+{
+    lines.fill(0);
+    stmts.fill(0);
+    args.fill(0);
+}
+
+// An accepted input, into zeroed tables.
 fn write_listing(
     program: bool,
     input: &[u8],
@@ -84,38 +74,25 @@ fn write_listing(
     lines: &mut [u16],
     stmts: &mut [u16],
     args: &mut [u64],
-    handlers: bool,
-    nl: usize,
-    ns: usize,
-) -> Listed
-    requires { JudgedInput (meaning program input.now) counts.old lines.old stmts.old args.old handlers nl ns }
+    a: Accepted,
+) -> Result<Accepted, Refusal>
+    requires { JudgedInput (meaning program input.now) counts.old lines.old stmts.old args.old a.handlers a.lines a.stmts }
     ensures { RecordsWritten (meaning program input.now) (length lines.old) (length stmts.old) (length args.old) counts.new lines.new stmts.new args.new result }
 {
-    if lines.len() < nl {
-        return Listed::Refused {
-            number: 21,
-            place: nl,
-        };
+    if lines.len() < a.lines {
+        return Err(Reason::LineTables.at(a.lines));
     }
-    if stmts.len() / STMT_ENTRIES < ns {
-        return Listed::Refused {
-            number: 22,
-            place: ns,
-        };
-    }
-    if args.len() / ARG_ENTRIES < ns {
-        return Listed::Refused {
-            number: 22,
-            place: ns,
-        };
+    if stmts.len() / STMT_ENTRIES < a.stmts || args.len() / ARG_ENTRIES < a.stmts {
+        return Err(Reason::NodeTables.at(a.stmts));
     }
     fill_input(program, input, lines, stmts, args);
-    put_counts(counts, narrow32(nl), narrow32(ns), handler_number(handlers));
-    Listed::Accepted {
-        handlers,
-        lines: nl,
-        stmts: ns,
-    }
+    put_counts(
+        counts,
+        a.lines as u32,
+        a.stmts as u32,
+        u32::from(a.handlers),
+    );
+    Ok(a)
 }
 
 // program: whether the input is a saved program and no text. counts: lines, statements, handlers. lines: a number each. stmts: 12 entries a statement, args: 64.
@@ -127,21 +104,13 @@ pub fn read_input(
     lines: &mut [u16],
     stmts: &mut [u16],
     args: &mut [u64],
-) -> Listed
+) -> Result<Accepted, Refusal>
     ensures { RecordsWritten (meaning program input.now) (length lines.old) (length stmts.old) (length args.old) counts.new lines.new stmts.new args.new result }
 {
     put_counts(counts, 0, 0, 0);
-    zero16(lines);
-    zero16(stmts);
-    zero64(args);
-    match judge_input(program, input) {
-        Listed::Refused { number, place } => Listed::Refused { number, place },
-        Listed::Accepted {
-            handlers,
-            lines: nl,
-            stmts: ns,
-        } => write_listing(program, input, counts, lines, stmts, args, handlers, nl, ns),
-    }
+    clear_tables(lines, stmts, args);
+    let a = judge_input(program, input)?;
+    write_listing(program, input, counts, lines, stmts, args, a)
 }
 
 // The same of a text.
@@ -151,7 +120,7 @@ pub fn read_listing(
     lines: &mut [u16],
     stmts: &mut [u16],
     args: &mut [u64],
-) -> Listed
+) -> Result<Accepted, Refusal>
     ensures { RecordsWritten (meant text.now) (length lines.old) (length stmts.old) (length args.old) counts.new lines.new stmts.new args.new result }
 {
     read_input(false, text, counts, lines, stmts, args)

@@ -2,12 +2,12 @@
 ghost use Rattle.std.specs.Prelude.{◌≡◌, true, map, ◌≤◌, length, take, drop};
 ghost use Rattle.listings.specs.Rows.{split};
 ghost use Rattle.listing_laws.specs.RowForms.{join};
-ghost use Rattle.reader.specs.Operands.{number_answer, key_answer, entry_by, tier_entry, mark_entry, head_mark, opening_word, row_entries, row_detail, Put};
+ghost use Rattle.reader.specs.Operands.{entry_by, tier_entry, mark_entry, head_mark, entries_of, details_of, opening_word, row_entries, row_detail, Put};
 
-use tokens::names::{NameKey, key_of};
-use tokens::numbers::{ParsedNumber, number};
+use tokens::names::key_of;
+use tokens::numbers::number;
 use tokens::scan::{equal, find};
-use tokens::words::{FOR, NEXT, kind_of};
+use tokens::words::{Kind, kind_of};
 
 // How many arguments a statement has, and FOR's tier or NEXT's mark.
 #[derive(Drop)]
@@ -16,41 +16,17 @@ pub(crate) struct Given {
     pub(crate) detail: u16,
 }
 
-// As wide as an argument.
-fn wide_argument(x: u16) -> u64
-    ensures { result ≡ x }
-{
-    x as u64
-}
-
-// The value of a word that is known to be a number.
-fn number_answer(p: ParsedNumber) -> u64
-    ensures { result ≡ number_answer p }
-{
-    match p {
-        ParsedNumber::Refused(_) => 0,
-        ParsedNumber::Value(v) => wide_argument(v),
-    }
-}
-
-// 0 for `*`: no name has that key.
-fn key_answer(k: NameKey) -> u64
-    ensures { result ≡ key_answer k }
-{
-    match k {
-        NameKey::Refused(_) => 0,
-        NameKey::Key(v) => v,
-    }
-}
-
-// An argument as it is stored: a slot's key or a number.
+// An argument as it is stored: a slot's key, or 0 for `*`, since no name has that key; or a number.
 fn operand_of(slots: bool, w: &[u8]) -> u64
     ensures { result ≡ entry_by slots w.now }
 {
     if slots {
-        return key_answer(key_of(w));
+        return key_of(w).unwrap_or(0);
     }
-    number_answer(number(w))
+    match number(w) {
+        Ok(v) => u64::from(v),
+        Err(_) => 0,
+    }
 }
 
 // A tier as it is stored; `static` is 0.
@@ -139,6 +115,18 @@ fn put_next(s: &[u8], part: &mut [u64]) -> Given
     }
 }
 
+// The words after an opening word of this kind.
+fn put_kind(kind: Kind, s: &[u8], part: &mut [u64]) -> Given
+    requires { length (entries_of (Some kind) (split 32 s.now)) ≤ length part.old }
+    ensures { Put (entries_of (Some kind) (split 32 s.now)) (details_of (Some kind) (split 32 s.now)) part.old part.new result }
+{
+    match kind {
+        Kind::For => put_for(s, part),
+        Kind::Next => put_next(s, part),
+        _ => put_words(s, false, part),
+    }
+}
+
 // The arguments among the words of s, a row without its brackets; word: the number of its opening word.
 pub(crate) fn put_operands(word: usize, s: &[u8], part: &mut [u64]) -> Given
     requires { (word ≡ opening_word (split 32 s.now)) × (length (row_entries (split 32 s.now)) ≤ length part.old) }
@@ -151,13 +139,9 @@ pub(crate) fn put_operands(word: usize, s: &[u8], part: &mut [u64]) -> Given
             detail: 0,
         };
     }
-    let k = kind_of(word);
-    let from = e + 1;
-    if k == FOR {
-        return put_for(&s[from..], part);
+    let words = &s[e + 1..];
+    match kind_of(word) {
+        Some(kind) => put_kind(kind, words, part),
+        None => put_words(words, false, part),
     }
-    if k == NEXT {
-        return put_next(&s[from..], part);
-    }
-    put_words(&s[from..], false, part)
 }

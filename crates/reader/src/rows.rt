@@ -1,33 +1,30 @@
 // What a row says, wherever it stands.
 ghost use Rattle.std.specs.Prelude.{◌≡◌, ◌-◌, ◌<◌};
 ghost use Rattle.listings.specs.Rows.{split, module_content, form_row, row_of, content_of};
-ghost use Rattle.listings.specs.WordTable.{kind_at};
-ghost use Rattle.reader.specs.CodedRows.{as_row, refused_row, simple_by, to_by_number, line_by_number, args_row, bare_row, words_end};
+ghost use Rattle.tokens.specs.Kinds.{opened_kind};
+ghost use Rattle.reader.specs.CodedRows.{as_row, simple_by, to_by_number, line_by_number, closed_args, opened_args, args_row, closed_bare, opened_bare, bare_row, words_end};
 ghost use Rattle.reader.specs.AcceptedRows.{WellFormed, uncounted};
 
-use tokens::arguments::{ArgCheck, are_words, check_kind, single_number};
-use tokens::numbers::ParsedNumber;
+use layout::refusals::Reason;
+use tokens::arguments::{are_words, check_kind, single_number};
 use tokens::scan::{equal, find};
-use tokens::words::{
-    BARE, COND, LINE, MODULE, NUMBERS, RUN, STMTS, TO, candidate, kind_of, word_of,
-};
+use tokens::words::{Kind, candidate, kind_of, word_of};
 
 // Where a row stands.
-pub(crate) const BEGIN: u8 = 0;
+#[derive(Clone, Copy, Debug, PartialEq, Eq)]
+pub(crate) enum Position {
+    Begin,
+    InModule,
+    Ended,
+    InStmts,
+    InCond,
+}
 
-pub(crate) const IN_MODULE: u8 = 1;
-
-pub(crate) const ENDED: u8 = 2;
-
-pub(crate) const IN_STMTS: u8 = 3;
-
-pub(crate) const IN_COND: u8 = 4;
-
-// Refused: document 01's number where such a row is due, elsewhere 2. What is no form is 2 wherever it stands; its due is IN_STMTS.
+// Refused: for this reason where such a row is due, elsewhere as no form. What is no form is that wherever it stands; its due is InStmts.
 // word: the number of the opening word; count: how many numbers or slots. Cond: 0 IF, 1 IFELSE, 2 RCOMP.
 #[derive(Clone, Copy)]
 pub(crate) enum Row {
-    Refused { number: u8, due: u8 },
+    Refused { reason: Reason, due: Position },
     End,
     Stmts,
     Module(bool),
@@ -37,52 +34,48 @@ pub(crate) enum Row {
     Cond(usize),
 }
 
-// A statement's row, or the refusal of its arguments.
-fn simple_row(k: usize, t: ArgCheck) -> Row
-    ensures { result ≡ simple_by k t }
-{
-    if t.refusal == 0 {
-        return Row::Simple {
-            word: k,
-            count: t.count,
-        };
-    }
-    Row::Refused {
-        number: t.refusal,
-        due: IN_STMTS,
-    }
-}
+// No form, wherever it stands.
+pub(crate) const NO_FORM: Row = Row::Refused {
+    reason: Reason::NotAForm,
+    due: Position::InStmts,
+};
 
-// A row with a number that is refused.
-fn refused_row(number: u8, due: u8) -> Row
-    ensures { result ≡ refused_row number due }
+// A statement's row by how many numbers or slots it lists.
+fn simple_row(k: usize, count: Result<usize, Reason>) -> Row
+    ensures { result ≡ simple_by k count }
 {
-    if number == 2 {
-        return Row::Refused {
-            number: 2,
-            due: IN_STMTS,
-        };
+    match count {
+        Ok(count) => Row::Simple { word: k, count },
+        Err(reason) => Row::Refused {
+            reason,
+            due: Position::InStmts,
+        },
     }
-    Row::Refused { number, due }
 }
 
 // A `to` row by its number.
-fn to_row(n: ParsedNumber) -> Row
+fn to_row(n: Result<u16, Reason>) -> Row
     ensures { result ≡ to_by_number n }
 {
     match n {
-        ParsedNumber::Refused(k) => refused_row(k, IN_COND),
-        ParsedNumber::Value(v) => Row::To(v),
+        Ok(v) => Row::To(v),
+        Err(reason) => Row::Refused {
+            reason,
+            due: Position::InCond,
+        },
     }
 }
 
 // A line's row by its number.
-fn line_row(n: ParsedNumber) -> Row
+fn line_row(n: Result<u16, Reason>) -> Row
     ensures { result ≡ line_by_number n }
 {
     match n {
-        ParsedNumber::Refused(k) => refused_row(k, IN_MODULE),
-        ParsedNumber::Value(v) => Row::Line(v),
+        Ok(v) => Row::Line(v),
+        Err(reason) => Row::Refused {
+            reason,
+            due: Position::InModule,
+        },
     }
 }
 
@@ -91,10 +84,7 @@ fn module_row(s: &[u8]) -> Row
     ensures { result ≡ as_row (module_content (split 32 s.now)) }
 {
     if find(s, 32) < s.len() {
-        return Row::Refused {
-            number: 2,
-            due: IN_STMTS,
-        };
+        return NO_FORM;
     }
     if equal(b"0", s) {
         return Row::Module(false);
@@ -102,75 +92,77 @@ fn module_row(s: &[u8]) -> Row
     if equal(b"1", s) {
         return Row::Module(true);
     }
-    Row::Refused {
-        number: 2,
-        due: IN_STMTS,
+    NO_FORM
+}
+
+// A closed form with words after its opening word.
+fn closed_args(kind: Kind, k: usize, s: &[u8]) -> Row
+    ensures { result ≡ closed_args kind k (split 32 s.now) }
+{
+    match kind {
+        Kind::To => to_row(single_number(s)),
+        _ => simple_row(k, check_kind(kind, s)),
+    }
+}
+
+// One that is not closed on its row.
+fn opened_args(kind: Kind, s: &[u8]) -> Row
+    ensures { result ≡ opened_args kind (split 32 s.now) }
+{
+    match kind {
+        Kind::Module => module_row(s),
+        Kind::Line => line_row(single_number(s)),
+        _ => NO_FORM,
     }
 }
 
 // A form with words after its opening word.
 fn args_row(k: usize, closed: bool, s: &[u8]) -> Row
-    ensures { result ≡ args_row (kind_at k) k closed (split 32 s.now) }
+    ensures { result ≡ args_row (opened_kind k) k closed (split 32 s.now) }
 {
-    let kind = kind_of(k);
+    let Some(kind) = kind_of(k) else {
+        return NO_FORM;
+    };
     if closed {
-        if kind == TO {
-            return to_row(single_number(s));
-        }
-        return simple_row(k, check_kind(kind, s));
+        return closed_args(kind, k, s);
     }
-    if kind == MODULE {
-        return module_row(s);
-    }
-    if kind == LINE {
-        return line_row(single_number(s));
-    }
-    Row::Refused {
-        number: 2,
-        due: IN_STMTS,
+    opened_args(kind, s)
+}
+
+// A closed form of its opening word alone, without the number that `to` needs.
+fn closed_bare(kind: Kind, k: usize) -> Row
+    ensures { result ≡ closed_bare kind k }
+{
+    match kind {
+        Kind::To => to_row(Err(Reason::NotAForm)),
+        Kind::Bare | Kind::Numbers | Kind::Run => Row::Simple { word: k, count: 0 },
+        _ => NO_FORM,
     }
 }
 
-// IF, IFELSE and RCOMP are the opening words 2 to 4.
-fn cond_row(k: usize) -> Row
-    ensures { result ≡ Row.Cond (k - 2) }
+// One that is not closed on its row. IF, IFELSE and RCOMP are the opening words 2 to 4.
+fn opened_bare(kind: Kind, k: usize) -> Row
+    ensures { result ≡ opened_bare kind k }
 {
-    if k < 2 {
-        return Row::Cond(0);
+    match kind {
+        Kind::Line => line_row(Err(Reason::NotAForm)),
+        Kind::Stmts => Row::Stmts,
+        Kind::Cond => Row::Cond(k.saturating_sub(2)),
+        _ => NO_FORM,
     }
-    Row::Cond(k - 2)
 }
 
 // A form of its opening word alone.
 fn bare_row(k: usize, closed: bool) -> Row
-    ensures { result ≡ bare_row (kind_at k) k closed }
+    ensures { result ≡ bare_row (opened_kind k) k closed }
 {
-    let kind = kind_of(k);
+    let Some(kind) = kind_of(k) else {
+        return NO_FORM;
+    };
     if closed {
-        if kind == BARE {
-            return Row::Simple { word: k, count: 0 };
-        }
-        if kind == NUMBERS {
-            return Row::Simple { word: k, count: 0 };
-        }
-        if kind == RUN {
-            return Row::Simple { word: k, count: 0 };
-        }
-        return Row::Refused {
-            number: 2,
-            due: IN_STMTS,
-        };
+        return closed_bare(kind, k);
     }
-    if kind == STMTS {
-        return Row::Stmts;
-    }
-    if kind == COND {
-        return cond_row(k);
-    }
-    Row::Refused {
-        number: 2,
-        due: IN_STMTS,
-    }
+    opened_bare(kind, k)
 }
 
 // What stands between the brackets; closed: the row had its closing one.
@@ -178,13 +170,12 @@ fn form_row(s: &[u8], closed: bool) -> Row
     ensures { result ≡ as_row (content_of (form_row closed (split 32 s.now))) }
 {
     if !are_words(s) {
-        return Row::Refused {
-            number: 2,
-            due: IN_STMTS,
-        };
+        return NO_FORM;
     }
     let e = find(s, 32);
-    let k = word_of(&s[0..e]);
+    let Some(k) = word_of(&s[0..e]) else {
+        return NO_FORM;
+    };
     if e == s.len() {
         return bare_row(k, closed);
     }
@@ -209,19 +200,13 @@ pub(crate) fn row_of(s: &[u8]) -> Row
 {
     let n = s.len();
     if n == 0 {
-        return Row::Refused {
-            number: 2,
-            due: IN_STMTS,
-        };
+        return NO_FORM;
     }
     if s[0] != 40 {
         if equal(s, b")") {
             return Row::End;
         }
-        return Row::Refused {
-            number: 2,
-            due: IN_STMTS,
-        };
+        return NO_FORM;
     }
     let last = n - 1;
     let closed = s[last] == 41;
@@ -231,20 +216,19 @@ pub(crate) fn row_of(s: &[u8]) -> Row
 
 // A row of an accepted text is in form: its words are not judged again, nor counted.
 fn accepted_args(k: usize, closed: bool, s: &[u8]) -> Row
-    requires { WellFormed (args_row (kind_at k) k closed (split 32 s.now)) }
-    ensures { result ≡ uncounted (args_row (kind_at k) k closed (split 32 s.now)) }
+    requires { WellFormed (args_row (opened_kind k) k closed (split 32 s.now)) }
+    ensures { result ≡ uncounted (args_row (opened_kind k) k closed (split 32 s.now)) }
 {
-    let kind = kind_of(k);
-    if closed {
-        if kind == TO {
-            return to_row(single_number(s));
-        }
-        return Row::Simple { word: k, count: 0 };
+    let Some(kind) = kind_of(k) else {
+        return NO_FORM;
+    };
+    if !closed {
+        return opened_args(kind, s);
     }
-    if kind == MODULE {
-        return module_row(s);
+    match kind {
+        Kind::To => to_row(single_number(s)),
+        _ => Row::Simple { word: k, count: 0 },
     }
-    line_row(single_number(s))
 }
 
 // Its opening word needs no comparing either: it is the one that it can be.

@@ -69,19 +69,3 @@ pub(crate) fn fetch(t: &[u16], i: usize, c: usize) -> u16
 {
     t[i * STMT_ENTRIES + c]
 }
-
-// An index as an entry.
-pub(crate) fn narrow(x: usize) -> u16
-    requires { x < 65536 }
-    ensures { result ≡ x }
-{
-    x as u16
-}
-
-// An index as a used count.
-pub(crate) fn narrow32(x: usize) -> u32
-    requires { x < 65536 }
-    ensures { result ≡ x }
-{
-    x as u32
-}

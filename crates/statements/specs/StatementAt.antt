@@ -1,17 +1,10 @@
 -- The statement at a path and the statement of a node, read from any tables. Assumes nothing.
-use Rattle.std.specs.Prelude.{ℕ, zero, suc, ◌*◌, List, [], ◌∷◌, Bool, false, ◌||◌, eqb, ltb, leb, length, get_or}
+use Rattle.std.specs.Prelude.{ℕ, zero, suc, ◌*◌, List, [], ◌∷◌, Bool, false, Option, Some, None, ◌||◌, eqb, ltb, leb, length, get_or}
 use Rattle.listings.specs.Bytes.{pick}
 use Rattle.layout.specs.Layout.{if_word, ifelse_word, rcomp_word, stmt_entries}
 use Rattle.tables.specs.Columns.{word_of, holder_of, index_of, line_of}
 use Rattle.graph.specs.Questions.{Reply, answer, refused}
 use Rattle.statements.specs.StatementWords.{no_statement_word}
-use Rattle.statements.specs.declared.statement.Stated.{Stated}
-use Rattle.statements.specs.declared.statement.Stated.TheVariants as stated
-
--- document 01's number and place for each refusal; a node and its opening word's number
-unfoldable pub stated_of : Reply (ℕ × ℕ) → Stated
-stated_of (answer d) = stated.Stmt d.0 d.1
-stated_of (refused n p) = stated.Refused n p
 
 -- "25 a used count or a record that the call reads points outside its table (place 0)": n statements, each with its entries
 unfoldable pub if_rows : {A : Type 0} → ℕ → List ℕ → Reply A → Reply A
@@ -43,6 +36,11 @@ first_from t (suc k) i = pick (t i) (suc i) (first_from t k (suc i))
 
 unfoldable pub child_at : (stmts : List ℕ) (n line h p : ℕ) → ℕ
 child_at stmts n line h p = first_from (stands_at stmts line h p) n 0
+
+-- a node or none as the search gives it, in these numbers
+abbrev pub one_more : Option ℕ → ℕ
+one_more None = 0
+one_more (Some i) = suc i
 
 -- "26 no statement at the path asked": h is one more than a node, or 0
 unfoldable pub stmt_at : List ℕ → ℕ → Reply (ℕ × ℕ)
@@ -87,6 +85,10 @@ no_statement_in lines stmts n i = pick (ltb i n) (pick (ltb (length stmts) (n * 
 unfoldable pub unless_refused : {A : Type 0} → ℕ → Reply A → Reply A
 unless_refused zero r = r
 unless_refused (suc c) r = refused (suc c) 0
+
+-- whether there is a refusal, and nothing else is answered
+abbrev pub refused_by : ℕ → Reply (Unit {0})
+refused_by c = unless_refused c (answer tt)
 
 -- "24 node id not below the node count (place: the id)"
 unfoldable pub node_statement : (counts stmts : List ℕ) (i : ℕ) → Reply (ℕ × ℕ)

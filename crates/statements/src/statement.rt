@@ -1,32 +1,29 @@
 // The statement at a path, and a node's statement. Nothing is assumed of the tables.
 ghost use Rattle.std.specs.Prelude.{◌≡◌, ◌+◌, ◌*◌, ◌≤◌, ◌<◌, length};
+ghost use Rattle.tables.specs.Told.{told};
 ghost use Rattle.statements.specs.StatementWords.{no_statement_word};
-ghost use Rattle.statements.specs.StatementAt.{stated_of, branching_word, record_outside, stands_at, child_at, statement_from, stmt_at, path_statement, climb as climbed, no_statement, no_statement_in, node_statement};
+ghost use Rattle.statements.specs.StatementAt.{branching_word, record_outside, stands_at, one_more, child_at, statement_from, stmt_at, path_statement, climb as climbed, no_statement, no_statement_in, refused_by, node_statement};
 
 use layout::columns::{HOLDER, INDEX, LINE, STMT_ENTRIES, WORD};
 use layout::limits::MAX_DEPTH;
-use layout::widths::{count_of, wide};
+use layout::refusals::{Reason, Refusal};
+use layout::widths::count_of;
 use layout::words::{IF, IFELSE, LINE as LINE_WORD, MODULE, PLAIN, RCOMP, STMTS, TO};
 
-// A statement by its node id and the number of its opening word, or document 01's number and place.
-#[derive(Drop)]
-pub enum Stated {
-    Stmt { node: usize, word: usize },
-    Refused { number: u8, place: usize },
-}
-
 // Whether a statement with this opening word holds others.
+#[tactic(auto, unfolding(crate::specs::StatementAt::branching_word))]
 fn is_branching(word: u16) -> bool
     ensures { result ≡ branching_word word }
 {
-    word == IF || (word == IFELSE || word == RCOMP)
+    matches!(word, IF | IFELSE | RCOMP)
 }
 
 // Whether no statement opens with this word: PLAIN is the last of the 28.
+#[tactic(auto, unfolding(crate::specs::StatementWords::no_statement_word))]
 fn no_statement_word(word: u16) -> bool
     ensures { result ≡ no_statement_word word }
 {
-    word == MODULE || (word == LINE_WORD || (word == TO || (word == STMTS || PLAIN < word)))
+    matches!(word, MODULE | LINE_WORD | TO | STMTS) || PLAIN < word
 }
 
 // Whether the record of node i points outside: its word opens no statement, or its line index is none of so many lines.
@@ -35,10 +32,7 @@ fn record_outside(lines: usize, stmts: &[u16], i: usize) -> bool
     ensures { result ≡ record_outside lines stmts.now i }
 {
     let row = i * STMT_ENTRIES;
-    if no_statement_word(stmts[row + WORD]) {
-        return true;
-    }
-    lines <= wide(stmts[row + LINE])
+    no_statement_word(stmts[row + WORD]) || lines <= usize::from(stmts[row + LINE])
 }
 
 // Whether node i has that number under its holder, which is one more than an IF, or 0 for the line.
@@ -47,169 +41,143 @@ fn stands_at(stmts: &[u16], i: usize, line: usize, holder: usize, index: u16) ->
     ensures { result ≡ stands_at stmts.now line holder index i }
 {
     let row = i * STMT_ENTRIES;
-    if wide(stmts[row + HOLDER]) != holder {
+    if usize::from(stmts[row + HOLDER]) != holder {
         return false;
     }
     if stmts[row + INDEX] != index {
         return false;
     }
-    if holder == 0 {
-        return wide(stmts[row + LINE]) == line;
+    match holder.checked_sub(1) {
+        None => usize::from(stmts[row + LINE]) == line,
+        Some(held) => is_branching(stmts[held * STMT_ENTRIES + WORD]),
     }
-    is_branching(stmts[(holder - 1) * STMT_ENTRIES + WORD])
 }
 
-// One more than the first of n nodes that stands there, or 0.
-fn find(stmts: &[u16], n: usize, line: usize, holder: usize, index: u16) -> usize
+// The first of n nodes that stands there.
+fn find(stmts: &[u16], n: usize, line: usize, holder: usize, index: u16) -> Option<usize>
     requires { (n * 12 ≤ length stmts.now) × (holder ≤ n) }
-    ensures { result ≡ child_at stmts.now n line holder index }
+    ensures { one_more result ≡ child_at stmts.now n line holder index }
 {
-    let mut i: usize = 0;
-    while i < n {
-        if stands_at(stmts, i, line, holder, index) {
-            return i + 1;
-        }
-        i += 1;
-    }
-    0
+    (0..n).find(|&i| stands_at(stmts, i, line, holder, index))
 }
 
-// The statement of the node `at - 1`, if `at` is not 0.
-fn state(stmts: &[u16], at: usize) -> Stated
+// The node `at - 1` and the number of its opening word, if `at` is not 0.
+fn state(stmts: &[u16], at: usize) -> Result<(usize, usize), Refusal>
     requires { at * 12 ≤ length stmts.now }
-    ensures { result ≡ stated_of (stmt_at stmts.now at) }
+    ensures { told result ≡ stmt_at stmts.now at }
 {
-    if at == 0 {
-        return Stated::Refused {
-            number: 26,
-            place: 0,
-        };
+    match at.checked_sub(1) {
+        None => Err(Reason::NoStatement.at(0)),
+        Some(node) => Ok((node, usize::from(stmts[node * STMT_ENTRIES + WORD]))),
     }
-    let node = at - 1;
-    let word = wide(stmts[node * STMT_ENTRIES + WORD]);
-    Stated::Stmt { node, word }
 }
 
 // Down from the line, number by number; each record is read before what it holds.
-fn follow(lines: usize, stmts: &[u16], n: usize, line: usize, path: &[u16]) -> Stated
+fn follow(
+    lines: usize,
+    stmts: &[u16],
+    n: usize,
+    line: usize,
+    path: &[u16],
+) -> Result<(usize, usize), Refusal>
     requires { n * 12 ≤ length stmts.now }
-    ensures { result ≡ stated_of (statement_from lines stmts.now n line 0 path.now) }
+    ensures { told result ≡ statement_from lines stmts.now n line 0 path.now }
 {
     let mut at: usize = 0;
-    let mut k: usize = 0;
-    while k < path.len() {
-        at = find(stmts, n, line, at, path[k]);
-        if at == 0 {
-            return Stated::Refused {
-                number: 26,
-                place: 0,
-            };
+    for &index in path {
+        let Some(node) = find(stmts, n, line, at, index) else {
+            return Err(Reason::NoStatement.at(0));
+        };
+        if record_outside(lines, stmts, node) {
+            return Err(Reason::Outside.at(0));
         }
-        if record_outside(lines, stmts, at - 1) {
-            return Stated::Refused {
-                number: 25,
-                place: 0,
-            };
-        }
-        k += 1;
+        at = node + 1;
     }
     state(stmts, at)
 }
 
-// The statement at a path: a line index and numbers.
-pub fn ask_path(counts: &[u32; 6], stmts: &[u16], line: usize, path: &[u16]) -> Stated
-    ensures { result ≡ stated_of (path_statement counts.now stmts.now line path.now) }
+// The statement at a path, a line index and numbers: its node and the number of its opening word.
+pub fn ask_path(
+    counts: &[u32; 6],
+    stmts: &[u16],
+    line: usize,
+    path: &[u16],
+) -> Result<(usize, usize), Refusal>
+    ensures { told result ≡ path_statement counts.now stmts.now line path.now }
 {
     let lines = count_of(counts[0]);
     let n = count_of(counts[1]);
     if stmts.len() < n * STMT_ENTRIES {
-        return Stated::Refused {
-            number: 25,
-            place: 0,
-        };
+        return Err(Reason::Outside.at(0));
     }
     if lines <= line {
-        return Stated::Refused {
-            number: 26,
-            place: 0,
-        };
+        return Err(Reason::NoStatement.at(0));
     }
     follow(lines, stmts, n, line, path)
 }
 
-// 0 if a record with that holder gives a path, else document 01's number. Up from holder to holder, `MAX_DEPTH` of them at most.
-fn climb(lines: usize, stmts: &[u16], n: usize, holder: usize) -> u8
+// Whether a record with that holder gives a path, or the refusal. Up from holder to holder, `MAX_DEPTH` of them at most.
+fn climb(lines: usize, stmts: &[u16], n: usize, holder: usize) -> Result<(), Refusal>
     requires { n * 12 ≤ length stmts.now }
-    ensures { result ≡ climbed lines stmts.now n 16 holder }
+    ensures { told result ≡ refused_by (climbed lines stmts.now n 16 holder) }
 {
     let mut at = holder;
     let mut left: usize = MAX_DEPTH;
-    while at != 0 {
-        if n < at {
-            return 25;
-        }
-        let node = at - 1;
-        if record_outside(lines, stmts, node) {
-            return 25;
-        }
-        if left == 0 {
-            return 26;
+    while let Some(node) = at.checked_sub(1) {
+        if n <= node || record_outside(lines, stmts, node) {
+            return Err(Reason::Outside.at(0));
         }
         let row = node * STMT_ENTRIES;
-        if !is_branching(stmts[row + WORD]) {
-            return 26;
+        if left == 0 || !is_branching(stmts[row + WORD]) {
+            return Err(Reason::NoStatement.at(0));
         }
-        at = wide(stmts[row + HOLDER]);
+        at = usize::from(stmts[row + HOLDER]);
         left -= 1;
     }
-    0
+    Ok(())
 }
 
-// 0 if the record of a node is a statement's and has a path, else document 01's number.
-fn record_number(lines: usize, stmts: &[u16], n: usize, node: usize) -> u8
+// Whether the record of a node is a statement's and has a path, or the refusal.
+fn check_record(lines: usize, stmts: &[u16], n: usize, node: usize) -> Result<(), Refusal>
     requires { (node < n) × (n * 12 ≤ length stmts.now) }
-    ensures { result ≡ no_statement lines stmts.now n node }
+    ensures { told result ≡ refused_by (no_statement lines stmts.now n node) }
 {
     if record_outside(lines, stmts, node) {
-        return 25;
+        return Err(Reason::Outside.at(0));
     }
-    climb(lines, stmts, n, wide(stmts[node * STMT_ENTRIES + HOLDER]))
+    climb(
+        lines,
+        stmts,
+        n,
+        usize::from(stmts[node * STMT_ENTRIES + HOLDER]),
+    )
 }
 
-// The same of any node of any table: 25 where n statements have no record of it there. By division, so that no product can wrap.
-pub fn no_statement(lines: usize, stmts: &[u16], n: usize, node: usize) -> u8
-    ensures { result ≡ no_statement_in lines stmts.now n node }
+// The same of any node of any table: refused 25 where n statements have no record of it there. By division, so that no product can wrap.
+pub fn no_statement(lines: usize, stmts: &[u16], n: usize, node: usize) -> Result<(), Refusal>
+    ensures { told result ≡ refused_by (no_statement_in lines stmts.now n node) }
 {
-    if n <= node {
-        return 25;
+    if n <= node || stmts.len() / STMT_ENTRIES < n {
+        return Err(Reason::Outside.at(0));
     }
-    if stmts.len() / STMT_ENTRIES < n {
-        return 25;
-    }
-    record_number(lines, stmts, n, node)
+    check_record(lines, stmts, n, node)
 }
 
-// A node's statement: the node itself, if its record has a path.
-pub fn ask_statement(counts: &[u32; 6], stmts: &[u16], node: usize) -> Stated
-    ensures { result ≡ stated_of (node_statement counts.now stmts.now node) }
+// A node's statement, if its record has a path: the node itself, and the number of its opening word.
+pub fn ask_statement(
+    counts: &[u32; 6],
+    stmts: &[u16],
+    node: usize,
+) -> Result<(usize, usize), Refusal>
+    ensures { told result ≡ node_statement counts.now stmts.now node }
 {
     let n = count_of(counts[1]);
     if n <= node {
-        return Stated::Refused {
-            number: 24,
-            place: node,
-        };
+        return Err(Reason::NoNode.at(node));
     }
     if stmts.len() < n * STMT_ENTRIES {
-        return Stated::Refused {
-            number: 25,
-            place: 0,
-        };
+        return Err(Reason::Outside.at(0));
     }
-    let number = record_number(count_of(counts[0]), stmts, n, node);
-    if number != 0 {
-        return Stated::Refused { number, place: 0 };
-    }
-    let word = wide(stmts[node * STMT_ENTRIES + WORD]);
-    Stated::Stmt { node, word }
+    check_record(count_of(counts[0]), stmts, n, node)?;
+    Ok((node, usize::from(stmts[node * STMT_ENTRIES + WORD])))
 }

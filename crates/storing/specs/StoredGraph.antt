@@ -2,19 +2,25 @@
 use Prim.Native.Nat.{ℕ, zero, suc, ◌*◌, ◌≤◌, ◌<◌}
 use Rattle.std.proofs.Math.Path.{◌≡◌, refl}
 use Rattle.std.proofs.Common.{sym, ap, ◌∙◌, arith}
-use Rattle.std.specs.Prelude.{Bool, ◌&&◌, leb, set, take, drop}
+use Rattle.std.specs.Prelude.{Result, Ok, Err, Bool, ◌&&◌, leb, set, take, drop}
 use Rattle.std.proofs.Math.Bool.{true, false}
 use mathlib.Core.List.{List, [], ◌∷◌, ◌++◌}
 use borrow.Author.Tests.{leb-true, le-leb, lt-leb, eqb-true, eq-eqb}
 use Rattle.std.proofs.Math.Dec.{eqb}
 use Rattle.std.proofs.Math.ListN.{length, get_or}
 use Rattle.layout.specs.Layout.{return_word, list_entries}
+use Rattle.layout.specs.Refusals.{refusal_at}
+use Rattle.layout.specs.declared.refusals.Reason.TheVariants as reason
+use Rattle.layout.specs.declared.refusals.Refusal.{Refusal}
 use Rattle.listings.specs.Bytes.{pick}
 use Rattle.listings.specs.Tests.{both_true}
 use Rattle.listings.specs.Every.{All, all[], all∷, all_append}
+use Rattle.graph.specs.Questions.{Reply}
+use Rattle.graph.specs.Questions as reply
 use Rattle.graph_laws.specs.EdgeBounds.{Ids, add_all-ids}
 use Rattle.tables.specs.Columns.{succ_part, call_word, word_of}
 use Rattle.tables.specs.Readable.{every_below, ids_below, lists_readable, ListsRead, both_so, every_at, every_all, lists_read, read_lists}
+use Rattle.tables.specs.Told.{told}
 use Rattle.passes.specs.Sets.{members_of}
 use Rattle.passes.specs.ReturnSets.{set_of}
 use Rattle.passes.specs.Clearing.{SetsCleared, ClearAnswered}
@@ -27,8 +33,6 @@ use Rattle.storing.specs.Predecessors.{sources_of, IdLists}
 use Rattle.storing.specs.PredecessorLists.{Ready, Written, stored_successors}
 use Rattle.storing.specs.JoinedReturns.{set_readable, ids_all, ids-read, read-ids}
 use Rattle.storing.specs.FinalLists.{return_list, call_list, final_list, final_size, WritesReady, WritesDone, CountsReady, jump_ids, sizes_are}
-use Rattle.storing.specs.declared.write_graph.Stored.{Stored}
-use Rattle.storing.specs.declared.write_graph.Stored.TheVariants as stored
 
 -- ---- "25 a used count or a record that the call reads points outside its table"
 
@@ -49,10 +53,10 @@ unfoldable pub final_lists : (handlers : Bool) (stmts args falls links : List �
 final_lists handlers stmts args falls links n lists scratch returns targets = lists_to (final_list handlers stmts args falls links lists scratch returns targets) n
 
 -- the answer: document 01's 25 and 23, or so many edges
-unfoldable pub stored_of : (readable fits : Bool) (edges : ℕ) → Stored
-stored_of false fits edges = stored.Refused 25 0
-stored_of true false edges = stored.Refused 23 edges
-stored_of true true edges = stored.Written edges
+unfoldable pub stored_of : (readable fits : Bool) (edges : ℕ) → Reply ℕ
+stored_of false fits edges = reply.refused 25 0
+stored_of true false edges = reply.refused 23 edges
+stored_of true true edges = reply.answer edges
 
 -- the lists ls and their predecessors in the tables; the rest of each is as it was
 pub record GraphStored (stmts args : List ℕ) (n rows : ℕ) (counts lists : List ℕ) (targets : ℕ) (succ pred : List ℕ) (ls : List (List ℕ)) (counts' args' lists' succ' pred' : List ℕ) : Type 0 where
@@ -69,9 +73,9 @@ pub record NothingStored (counts args lists succ pred counts' args' lists' succ'
   pub succ_are : succ' ≡ succ
   pub pred_are : pred' ≡ pred
 
-abbrev pub TablesAnswered : Stored → (stmts args : List ℕ) (n rows : ℕ) (counts lists : List ℕ) (targets : ℕ) (succ pred : List ℕ) (ls : List (List ℕ)) (counts' args' lists' succ' pred' : List ℕ) → Type 0
-TablesAnswered (stored.Written edges) stmts args n rows counts lists targets succ pred ls counts' args' lists' succ' pred' = GraphStored stmts args n rows counts lists targets succ pred ls counts' args' lists' succ' pred'
-TablesAnswered (stored.Refused number place) stmts args n rows counts lists targets succ pred ls counts' args' lists' succ' pred' = NothingStored counts args lists succ pred counts' args' lists' succ' pred'
+abbrev pub TablesAnswered : Result ℕ Refusal → (stmts args : List ℕ) (n rows : ℕ) (counts lists : List ℕ) (targets : ℕ) (succ pred : List ℕ) (ls : List (List ℕ)) (counts' args' lists' succ' pred' : List ℕ) → Type 0
+TablesAnswered (Ok edges) stmts args n rows counts lists targets succ pred ls counts' args' lists' succ' pred' = GraphStored stmts args n rows counts lists targets succ pred ls counts' args' lists' succ' pred'
+TablesAnswered (Err refusal) stmts args n rows counts lists targets succ pred ls counts' args' lists' succ' pred' = NothingStored counts args lists succ pred counts' args' lists' succ' pred'
 
 -- the lists and their predecessors, total edges in all
 pub record EdgesStored (n : ℕ) (lists lists' succ succ' pred pred' : List ℕ) (ls : List (List ℕ)) (total : ℕ) : Type 0 where
@@ -80,12 +84,12 @@ pub record EdgesStored (n : ℕ) (lists lists' succ succ' pred pred' : List ℕ)
   pub succ_are : succ' ≡ joined_lists ls ++ drop (length (joined_lists ls)) succ
   pub pred_are : pred' ≡ joined_lists (sources_of ls) ++ drop (length (joined_lists ls)) pred
 
-pub record StoredAnswered (readable : Bool) (stmts args : List ℕ) (n rows : ℕ) (counts lists : List ℕ) (targets : ℕ) (succ pred : List ℕ) (ls : List (List ℕ)) (counts' args' lists' succ' pred' : List ℕ) (r : Stored) : Type 0 where
-  pub answer : r ≡ stored_of readable (edges_fit (length (joined_lists ls)) (length succ) (length pred)) (length (joined_lists ls))
+pub record StoredAnswered (readable : Bool) (stmts args : List ℕ) (n rows : ℕ) (counts lists : List ℕ) (targets : ℕ) (succ pred : List ℕ) (ls : List (List ℕ)) (counts' args' lists' succ' pred' : List ℕ) (r : Result ℕ Refusal) : Type 0 where
+  pub answer : told r ≡ stored_of readable (edges_fit (length (joined_lists ls)) (length succ) (length pred)) (length (joined_lists ls))
   pub tables : TablesAnswered r stmts args n rows counts lists targets succ pred ls counts' args' lists' succ' pred'
 
 -- on all tables
-abbrev pub GraphAnswered : (handlers : Bool) (stmts args falls links : List ℕ) (n rows : ℕ) (counts lists scratch returns : List ℕ) (targets : ℕ) (succ pred counts' args' lists' succ' pred' : List ℕ) → Stored → Type 0
+abbrev pub GraphAnswered : (handlers : Bool) (stmts args falls links : List ℕ) (n rows : ℕ) (counts lists scratch returns : List ℕ) (targets : ℕ) (succ pred counts' args' lists' succ' pred' : List ℕ) → Result ℕ Refusal → Type 0
 GraphAnswered handlers stmts args falls links n rows counts lists scratch returns targets succ pred counts' args' lists' succ' pred' r =
     StoredAnswered (graph_readable handlers stmts args falls links n rows lists scratch returns targets) stmts args n rows counts lists targets succ pred (final_lists handlers stmts args falls links n lists scratch returns targets) counts' args' lists' succ' pred' r
 
@@ -313,24 +317,24 @@ module _ (edges s p : ℕ) (ls : List (List ℕ)) (e : edges ≡ length (joined_
   pub fits_all : x ≡ true → EdgesFit (length (joined_lists ls)) s p
   fits_all y = rw (← e) (edges_fit_lem edges s p (sym t ∙ y))
 
-  told : (y : Bool) → x ≡ y → stored_of true y edges ≡ stored_of true (edges_fit (length (joined_lists ls)) s p) (length (joined_lists ls))
-  told y z = rw (← e, ← t, z)
+  tested : (y : Bool) → x ≡ y → stored_of true y edges ≡ stored_of true (edges_fit (length (joined_lists ls)) s p) (length (joined_lists ls))
+  tested y z = rw (← e, ← t, z)
 
-  pub answered-fits : x ≡ true → stored.Written edges ≡ stored_of true (edges_fit (length (joined_lists ls)) s p) (length (joined_lists ls))
+  pub answered-fits : x ≡ true → told (Ok edges) ≡ stored_of true (edges_fit (length (joined_lists ls)) s p) (length (joined_lists ls))
   unfolding stored_of
-  answered-fits y = told true y
+  answered-fits y = tested true y
 
-  pub answered_many : x ≡ false → stored.Refused 23 edges ≡ stored_of true (edges_fit (length (joined_lists ls)) s p) (length (joined_lists ls))
+  pub answered_many : {r : Refusal} → r ≡ refusal_at reason.EdgeTables edges → x ≡ false → told (Err r) ≡ stored_of true (edges_fit (length (joined_lists ls)) s p) (length (joined_lists ls))
   unfolding stored_of
-  answered_many y = told false y
+  answered_many q y = rw q (tested false y)
 
-pub answered-outside : (fits : Bool) (edges : ℕ) → stored.Refused 25 0 ≡ stored_of false fits edges
+pub answered-outside : (fits : Bool) (edges : ℕ) {r : Refusal} → r ≡ refusal_at reason.Outside 0 → told (Err r) ≡ stored_of false fits edges
 unfolding stored_of
-answered-outside fits edges = refl
+answered-outside fits edges q = rw q
 
 pub nothing : (counts args lists succ pred : List ℕ) → NothingStored counts args lists succ pred counts args lists succ pred
 nothing counts args lists succ pred = record { counts_are = refl; args_are = refl; lists_are = refl; succ_are = refl; pred_are = refl }
 
-pub answered_as : {a b : Bool} {stmts args : List ℕ} {n rows : ℕ} {counts lists : List ℕ} {targets : ℕ} {succ pred : List ℕ} {ls : List (List ℕ)} {counts' args' lists' succ' pred' : List ℕ} {r : Stored} → a ≡ b
+pub answered_as : {a b : Bool} {stmts args : List ℕ} {n rows : ℕ} {counts lists : List ℕ} {targets : ℕ} {succ pred : List ℕ} {ls : List (List ℕ)} {counts' args' lists' succ' pred' : List ℕ} {r : Result ℕ Refusal} → a ≡ b
     → StoredAnswered a stmts args n rows counts lists targets succ pred ls counts' args' lists' succ' pred' r → StoredAnswered b stmts args n rows counts lists targets succ pred ls counts' args' lists' succ' pred' r
 answered_as e t = rw (← e) t

@@ -7,7 +7,6 @@ ghost use Rattle.storing.specs.FinalLists.{final_size, SizeReady, SizeIs, Counts
 use crate::growing::put_jump;
 use layout::columns::{ARG_ENTRIES, LIST_ENTRIES, STMT_ENTRIES, SUCC_COUNT};
 use layout::limits::MAX_EDGES;
-use layout::widths::wide;
 use layout::words::RETURN;
 use tables::calls::is_call;
 use walks::sets::size_of;
@@ -39,7 +38,7 @@ fn list_size(
     if is_call(word) {
         return put_jump(stmts, falls, links, i, buffer);
     }
-    wide(lists[i * LIST_ENTRIES + SUCC_COUNT])
+    usize::from(lists[i * LIST_ENTRIES + SUCC_COUNT])
 }
 
 // The edges of all n nodes.
@@ -58,12 +57,10 @@ pub(crate) fn count_lists(
     ensures { result ≡ sum_to (final_size handlers stmts.now args.now falls.now links.now lists.now targets) n }
 {
     let mut sum: usize = 0;
-    let mut i: usize = 0;
-    while i < n {
+    for i in 0..n {
         sum += list_size(
             handlers, stmts, args, falls, links, i, lists, targets, buffer,
         );
-        i += 1;
     }
     sum
 }
@@ -72,11 +69,5 @@ pub(crate) fn count_lists(
 pub fn edges_fit(edges: usize, succ: usize, pred: usize) -> bool
     ensures { result ≡ edges_fit edges succ pred }
 {
-    if succ < edges {
-        return false;
-    }
-    if pred < edges {
-        return false;
-    }
-    edges <= MAX_EDGES
+    edges <= succ && edges <= pred && edges <= MAX_EDGES
 }

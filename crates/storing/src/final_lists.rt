@@ -11,6 +11,7 @@ use tables::calls::is_call;
 use walks::sets::members;
 
 // Where RETURN i leads goes into the buffer: with handlers all return targets, without them the members of its set.
+#[tactic(auto, unfolding(crate::specs::FinalLists::return_list))]
 fn return_list(
     handlers: bool,
     args: &[u64],
@@ -83,13 +84,11 @@ pub(crate) fn write_lists(
     ensures { WritesDone handlers stmts.now args.now falls.now links.now n lists.old lists.new scratch.now returns.now targets succ.old succ.new result }
 {
     let mut at: usize = 0;
-    let mut i: usize = 0;
-    while i < n {
+    for i in 0..n {
         at = write_list(
             handlers, stmts, args, falls, links, i, at, lists, scratch, returns, targets, succ,
             buffer,
         );
-        i += 1;
     }
     at
 }

@@ -7,7 +7,6 @@ ghost use Rattle.storing.specs.AddWithin.{AddedIn, jump_readable, jump_read};
 
 use layout::columns::{ARG_ENTRIES, COUNT, FALL_ENTRIES, STMT_ENTRIES};
 use layout::limits::MAX_ARGS;
-use layout::widths::wide;
 use layout::words::ONGOTO;
 use tables::lists::holds;
 
@@ -15,14 +14,10 @@ use tables::lists::holds;
 pub fn add_edge(part: &mut [u16], n: usize, t: u16) -> usize
     ensures { AddedIn part.old n part.new result (decode t) }
 {
-    if t == 0 {
+    let Some(a) = t.checked_sub(1) else {
         return n;
-    }
-    if part.len() <= n {
-        return n;
-    }
-    let a = t - 1;
-    if holds(&part[..n], a) {
+    };
+    if part.len() <= n || holds(&part[..n], a) {
         return n;
     }
     part[n] = a;
@@ -34,28 +29,21 @@ pub fn add_targets(row: &[u16], part: &mut [u16], n: usize) -> usize
     ensures { AddedIn part.old n part.new result (each decode row.now) }
 {
     let mut r = n;
-    let mut k: usize = 0;
-    while k < row.len() {
-        r = add_edge(part, r, row[k]);
-        k += 1;
+    for &t in row {
+        r = add_edge(part, r, t);
     }
     r
 }
 
 // Whether node i's record, its links and where it falls can be read. By division, so that no i is too large.
+#[tactic(auto, unfolding(crate::specs::AddWithin::jump_readable))]
 fn jump_readable(stmts: &[u16], falls: &[u16], links: &[u16], i: usize) -> bool
     ensures { result ≡ jump_readable stmts.now falls.now links.now i }
 {
-    if stmts.len() / STMT_ENTRIES <= i {
-        return false;
-    }
-    if falls.len() / FALL_ENTRIES <= i {
-        return false;
-    }
-    if links.len() / ARG_ENTRIES <= i {
-        return false;
-    }
-    wide(stmts[i * STMT_ENTRIES + COUNT]) <= MAX_ARGS
+    i < stmts.len() / STMT_ENTRIES
+        && i < falls.len() / FALL_ENTRIES
+        && i < links.len() / ARG_ENTRIES
+        && usize::from(stmts[i * STMT_ENTRIES + COUNT]) <= MAX_ARGS
 }
 
 // The targets of GOTO, GOSUB or ON i, and then where an ON falls.
@@ -70,7 +58,7 @@ pub(crate) fn put_jump(
     ensures { AddedIn part.old 0 part.new result (jump_edges stmts.now falls.now links.now i) }
 {
     let at = i * ARG_ENTRIES;
-    let end = at + wide(stmts[i * STMT_ENTRIES + COUNT]);
+    let end = at + usize::from(stmts[i * STMT_ENTRIES + COUNT]);
     let r = add_targets(&links[at..end], part, 0);
     if stmts[i * STMT_ENTRIES] < ONGOTO {
         return r;
@@ -79,6 +67,7 @@ pub(crate) fn put_jump(
 }
 
 // The same on any tables: nothing where node i cannot be read. A RETURN has no target here.
+#[tactic(auto, unfolding(crate::specs::AddWithin::jump_read, crate::specs::AddWithin::jump_readable))]
 pub fn add_jump(stmts: &[u16], falls: &[u16], links: &[u16], i: usize, part: &mut [u16]) -> usize
     ensures { AddedIn part.old 0 part.new result (jump_read stmts.now falls.now links.now i) }
 {

@@ -6,17 +6,14 @@ ghost use Rattle.storing.specs.Predecessors.{Emptied, Countable, Counted, Starte
 ghost use Rattle.storing.specs.PredecessorLists.{FillReady, FilledTo, Ready, Written};
 
 use layout::columns::{LIST_ENTRIES, PRED_COUNT, PRED_START, SUCC_COUNT};
-use layout::widths::wide;
 
 // No edge counts yet.
 fn clear_counts(lists: &mut [u16], nodes: usize)
     requires { (nodes ≤ 4096) × (nodes * 4 ≤ length lists.old) }
     ensures { Emptied nodes nodes lists.old lists.new }
 {
-    let mut m: usize = 0;
-    while m < nodes {
+    for m in 0..nodes {
         lists[m * LIST_ENTRIES + PRED_COUNT] = 0;
-        m += 1;
     }
 }
 
@@ -25,11 +22,8 @@ fn count_edges(succ: &[u16], edges: usize, lists: &mut [u16], nodes: usize)
     requires { Countable nodes edges succ.now lists.old }
     ensures { Counted nodes edges succ.now lists.old lists.new }
 {
-    let mut m: usize = 0;
-    while m < edges {
-        let at = wide(succ[m]) * LIST_ENTRIES + PRED_COUNT;
-        lists[at] = lists[at] + 1;
-        m += 1;
+    for &v in &succ[..edges] {
+        lists[usize::from(v) * LIST_ENTRIES + PRED_COUNT] += 1;
     }
 }
 
@@ -39,14 +33,12 @@ fn set_starts(lists: &mut [u16], nodes: usize)
     ensures { Started nodes lists.old lists.new }
 {
     let mut start: u16 = 0;
-    let mut m: usize = 0;
-    while m < nodes {
+    for m in 0..nodes {
         let row = m * LIST_ENTRIES;
         let count = lists[row + PRED_COUNT];
         lists[row + PRED_START] = start;
         lists[row + PRED_COUNT] = 0;
         start += count;
-        m += 1;
     }
 }
 
@@ -55,14 +47,12 @@ fn fill_list(list: &[u16], lists: &mut [u16], nodes: usize, pred: &mut [u16], no
     requires { Fillable nodes list.now lists.old pred.old }
     ensures { Placed nodes node list.now lists.old lists.new pred.old pred.new }
 {
-    let mut m: usize = 0;
-    while m < list.len() {
-        let row = wide(list[m]) * LIST_ENTRIES;
+    for &v in list {
+        let row = usize::from(v) * LIST_ENTRIES;
         let count = lists[row + PRED_COUNT];
-        let at = wide(lists[row + PRED_START]) + wide(count);
+        let at = usize::from(lists[row + PRED_START]) + usize::from(count);
         pred[at] = node;
         lists[row + PRED_COUNT] = count + 1;
-        m += 1;
     }
 }
 
@@ -71,14 +61,11 @@ fn fill_lists(succ: &[u16], lists: &mut [u16], nodes: usize, pred: &mut [u16])
     requires { FillReady nodes succ.now lists.old pred.old }
     ensures { FilledTo nodes nodes succ.now lists.old lists.new pred.old pred.new }
 {
-    let mut left: usize = nodes;
-    while 0 < left {
-        let j = nodes - left;
+    for j in 0..nodes {
         let row = j * LIST_ENTRIES;
-        let start = wide(lists[row]);
-        let end = start + wide(lists[row + SUCC_COUNT]);
+        let start = usize::from(lists[row]);
+        let end = start + usize::from(lists[row + SUCC_COUNT]);
         fill_list(&succ[start..end], lists, nodes, pred, j as u16);
-        left -= 1;
     }
 }
 

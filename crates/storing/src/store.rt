@@ -6,18 +6,13 @@ ghost use Rattle.storing.specs.Appending.{append_fits, AppendAnswered};
 
 use layout::columns::{LIST_ENTRIES, SUCC_COUNT};
 use layout::limits::MAX_NUMBER;
-use layout::widths::wide;
 
 // The first count entries of a list go to the front of the part; what stands behind them stays.
 pub(crate) fn store_list(part: &mut [u16], list: &[u16], count: usize)
     requires { (count ≤ length list.now) × (count ≤ length part.old) }
     ensures { part.new ≡ take count list.now ++ drop count part.old }
 {
-    let mut i: usize = 0;
-    while i < count {
-        part[i] = list[i];
-        i += 1;
-    }
+    part[..count].copy_from_slice(&list[..count]);
 }
 
 // A node's list goes behind those stored before it, from entry `at` on, and its row says where; the answer is where the next list begins.
@@ -39,22 +34,18 @@ pub(crate) fn put_list(
 }
 
 // Whether the node has a row, and a list of so many entries fits the table from `at` on. By division and difference, so that no number is too large.
+#[tactic(auto, unfolding(crate::specs::Appending::append_fits))]
 fn append_fits(node: usize, at: usize, count: usize, lists: &[u16], succ: &[u16]) -> bool
     ensures { result ≡ append_fits node at count lists.now succ.now }
 {
-    if lists.len() / LIST_ENTRIES <= node {
-        return false;
-    }
-    if succ.len() < at {
-        return false;
-    }
-    if succ.len() - at < count {
-        return false;
-    }
-    at + count <= MAX_NUMBER
+    node < lists.len() / LIST_ENTRIES
+        && at <= succ.len()
+        && count <= succ.len() - at
+        && at + count <= MAX_NUMBER
 }
 
 // The same on any tables: where the list does not fit, nothing changes, and the answer is `at`.
+#[tactic(auto, unfolding(crate::specs::Appending::append_fits))]
 pub fn append_list(
     lists: &mut [u16],
     succ: &mut [u16],
@@ -83,7 +74,7 @@ pub(crate) fn move_list(
     ensures { Appended node at (succ_count lists.old node) (take (succ_count lists.old node) (drop (succ_start lists.old node) from.now)) lists.old lists.new succ.old succ.new result }
 {
     let row = node * LIST_ENTRIES;
-    let start = wide(lists[row]);
-    let count = wide(lists[row + SUCC_COUNT]);
+    let start = usize::from(lists[row]);
+    let count = usize::from(lists[row + SUCC_COUNT]);
     put_list(lists, succ, node, at, &from[start..], count)
 }

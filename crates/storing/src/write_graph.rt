@@ -7,21 +7,9 @@ use crate::final_lists::write_lists;
 use crate::predecessors::write_predecessors;
 use crate::readable::graph_readable;
 use layout::limits::MAX_STMTS;
+use layout::refusals::{Reason, Refusal};
+use layout::zeroing::all_of;
 use walks::clearing::clear_sets;
-
-// How many edges the graph has, which is in the tables; or document 01's number and place.
-#[derive(Drop)]
-pub enum Stored {
-    Written { edges: usize },
-    Refused { number: u8, place: usize },
-}
-
-// Room for one list.
-fn no_list() -> [u16; MAX_STMTS]
-    ensures { length result ≡ 4096 }
-{
-    [0u16; MAX_STMTS]
-}
 
 // The successor lists, then the predecessor lists; how many edges there are.
 fn write_edges(
@@ -106,27 +94,24 @@ fn write_fitting(
     succ: &mut [u16],
     pred: &mut [u16],
     buffer: &mut [u16],
-) -> Stored
+) -> Result<usize, Refusal>
     requires { (rows ≤ 1024) × GraphRead handlers stmts.now args.old falls.now links.now n lists.old scratch.now returns.now targets × (length buffer.old ≡ 4096) }
     ensures { StoredAnswered true stmts.now args.old n rows counts.old lists.old targets succ.old pred.old (final_lists handlers stmts.now args.old falls.now links.now n lists.old scratch.now returns.now targets) counts.new args.new lists.new succ.new pred.new result }
 {
     let edges = count_lists(
         handlers, stmts, args, falls, links, n, lists, targets, buffer,
     );
-    if edges_fit(edges, succ.len(), pred.len()) {
-        write_tables(
-            handlers, stmts, args, falls, links, n, rows, counts, lists, scratch, returns, targets,
-            succ, pred, buffer,
-        );
-        return Stored::Written { edges };
+    if !edges_fit(edges, succ.len(), pred.len()) {
+        return Err(Reason::EdgeTables.at(edges));
     }
-    Stored::Refused {
-        number: 23,
-        place: edges,
-    }
+    write_tables(
+        handlers, stmts, args, falls, links, n, rows, counts, lists, scratch, returns, targets,
+        succ, pred, buffer,
+    );
+    Ok(edges)
 }
 
-// The graph of n nodes and so many rows of entries goes into its tables: a RETURN's list from the return targets or its set, a call's from its
+// The graph of n nodes and so many rows of entries goes into its tables; how many edges it has. A RETURN's list from the return targets or its set, a call's from its
 // targets, any other's from scratch, where its row says. Refused 25 where the tables cannot be read, 23 where the edges do not fit; then
 // nothing is written.
 pub fn write_graph(
@@ -144,11 +129,11 @@ pub fn write_graph(
     targets: usize,
     succ: &mut [u16],
     pred: &mut [u16],
-) -> Stored
+) -> Result<usize, Refusal>
     ensures { GraphAnswered handlers stmts.now args.old falls.now links.now n rows counts.old lists.old scratch.now returns.now targets succ.old pred.old counts.new args.new lists.new succ.new pred.new result }
 {
-    let mut buffer = no_list();
-    if graph_readable(
+    let mut buffer = all_of::<u16, MAX_STMTS>(0);
+    if !graph_readable(
         handlers,
         stmts,
         args,
@@ -162,26 +147,23 @@ pub fn write_graph(
         targets,
         &mut buffer,
     ) {
-        return write_fitting(
-            handlers,
-            stmts,
-            args,
-            falls,
-            links,
-            n,
-            rows,
-            counts,
-            lists,
-            scratch,
-            returns,
-            targets,
-            succ,
-            pred,
-            &mut buffer,
-        );
+        return Err(Reason::Outside.at(0));
     }
-    Stored::Refused {
-        number: 25,
-        place: 0,
-    }
+    write_fitting(
+        handlers,
+        stmts,
+        args,
+        falls,
+        links,
+        n,
+        rows,
+        counts,
+        lists,
+        scratch,
+        returns,
+        targets,
+        succ,
+        pred,
+        &mut buffer,
+    )
 }

@@ -2,3 +2,5 @@ pub mod Columns
 pub mod EntryRows
 pub mod Stores
 pub mod Readable
+pub mod Words
+pub mod Told

@@ -1,7 +1,11 @@
 -- Whether tables can be read, whoever wrote them: "25 a used count or a record that the call reads points outside its table". Assumes nothing.
-use Rattle.std.specs.Prelude.{ℕ, zero, suc, ◌+◌, ◌-◌, ◌*◌, ◌≤◌, ◌<◌, ◌≡◌, refl, Bool, true, false, ◌&&◌, List, ◌⊎◌, leb, length, get_or, take, drop}
-use Rattle.std.proofs.Common.{sym, ◌∙◌, inl, inr, ⊎_elim}
+use Rattle.std.specs.Prelude.{ℕ, zero, suc, ◌+◌, ◌-◌, ◌*◌, ◌≤◌, ◌<◌, ◌≡◌, refl, Bool, true, false, ◌&&◌, List, [], ◌∷◌, map, leb, length, get_or, take, drop}
+use Rattle.std.specs.List.{list_all, range_with_len}
+use Rattle.std.proofs.Common.{sym, ◌∙◌, add-one, zero-add, take_all}
+use Rattle.std.proofs.lemmas.List.Folds.{list_all_more, list_all-map, list_all-append}
+use Rattle.std.proofs.lemmas.List.FromFn.{map-range_with_len_more}
 use Rattle.std.proofs.Math.Path.{ap}
+use Rattle.std.proofs.Math.Bool.{and-true}
 use Rattle.std.proofs.Math.Decide.{ℕ_discrete}
 use native.Mathlib.Omega.{arith}
 use borrow.Author.Tests.{ltb-true, leb-true, lt-ltb, le-leb, lt-leb}
@@ -66,7 +70,28 @@ unfolding every_below
 every_all f zero h = refl
 every_all f (suc m) h = both_so (every_below f m) (f m) (every_all f m (λ i lt. h i (omega arith))) (h m (omega arith))
 
+-- the same of the entries of a list, one after the other
+pub every_entry : (p : ℕ → Bool) (l : List ℕ) (i : ℕ) → i ≤ length l → list_all p (take i l) ≡ every_below (λ k. p (get_or l k 0)) i
+unfolding every_below
+every_entry p l zero h = refl
+every_entry p l (suc i) h = ap (λ (k : ℕ). list_all p (take k l)) (sym (add-one i)) ∙ list_all_more p l i 0 (omega arith) ∙ ap (λ (b : Bool). b && p (get_or l i 0)) (every_entry p l i (omega arith))
+
+-- and of a range
+pub every_number : (f : ℕ → Bool) (n : ℕ) → list_all f (range_with_len 0 n) ≡ every_below f n
+unfolding every_below
+every_number f n = sym (list_all-map (λ b. b) f (range_with_len 0 n)) ∙ go n
+  where
+    go : (n : ℕ) → list_all (λ b. b) (map f (range_with_len 0 n)) ≡ every_below f n
+    go zero = refl
+    go (suc n) =
+        ap (λ (k : ℕ). list_all (λ b. b) (map f (range_with_len 0 k))) (sym (add-one n)) ∙ ap (list_all (λ b. b)) (map-range_with_len_more f 0 n n (zero-add n))
+        ∙ list_all-append (λ b. b) (map f (range_with_len 0 n)) (f n ∷ []) ∙ ap (λ (b : Bool). b && (f n && true)) (go n) ∙ ap (λ (b : Bool). every_below f n && b) (and-true (f n))
+
 -- ---- lists
+
+pub ids_all : (n : ℕ) (l : List ℕ) → list_all (λ x. ltb x n) l ≡ ids_below n l
+unfolding ids_below
+ids_all n l = ap (list_all (λ x. ltb x n)) (sym (take_all (length l) l (omega arith))) ∙ every_entry (λ x. ltb x n) l (length l) (omega arith)
 
 module _ (lists edges : List ℕ) (n : ℕ) where
   pub lists_read : lists_readable lists edges n ≡ true → ListsRead lists edges n

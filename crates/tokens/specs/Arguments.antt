@@ -1,48 +1,66 @@
--- The words after a form's opening word, as the code judges them: the lowest number that refuses one of them, and how many there are. Assumes nothing.
-use Rattle.std.specs.Prelude.{ℕ, zero, suc, ◌+◌, ◌-◌, ◌≤◌, ◌<◌, ◌≡◌, refl, List, [], ◌∷◌, ◌⊎◌, Bool, true, false, ◌&&◌, ◌||◌, not, eqb, ltb, length, get_or, take, drop}
-use Rattle.std.proofs.Common.{sym, ◌∙◌, inl, inr, arith, not-suc-le-zero, add-one, length-drop, drop_of_length-le}
+-- The words after a form's opening word, as the code judges them: why one of them is refused, by the lowest number, and how many there are. Assumes nothing.
+use Rattle.std.specs.Prelude.{ℕ, suc, ◌+◌, ◌-◌, ◌≤◌, ◌<◌, ◌≡◌, refl, List, [], ◌∷◌, Bool, true, false, ◌&&◌, ◌||◌, not, eqb, ltb, length, get_or, take, drop, Result, Ok, Err}
+use Rattle.std.specs.Result.{result_and}
+use Rattle.std.proofs.Common.{sym, ◌∙◌, arith, not-suc-le-zero, add-one, length-drop, drop_of_length-le}
 use Rattle.std.proofs.Math.Path.{ap}
 use Rattle.std.proofs.Math.Option.{none, some}
 use Rattle.std.proofs.Math.Seq.{drop-cons}
-use borrow.Author.Tests.{ne_eqb, eqb-true, ltb-true, ltb-false, lt-ltb, le-ltb}
+use borrow.Author.Tests.{eqb-true, ltb-true, ltb-false, lt-ltb, le-ltb}
 use Rattle.listings.specs.Bytes.{same, pick}
 use Rattle.listings.specs.Listing.{for}
 use Rattle.listings.specs.Rows.{split, on_first, all, is_word, are_words, Parse, malformed, invalid, parsed, refusal_of, map_parse, with_parse, parse_number, parse_numbers, parse_name, parse_slot, parse_slots, parse_tier, parse_mark, single, for_stmt}
 use Rattle.listings.specs.Scan.{index_of, same_sym, split_last, split_more, split-some, rest_all, after, split_alone, split-first}
+use Rattle.layout.specs.Refusals.{number_of}
+use Rattle.layout.specs.declared.refusals.Reason.{Reason}
+use Rattle.layout.specs.declared.refusals.Reason.TheVariants as reason
 use Rattle.tokens.specs.Numbers.{as_number}
-use Rattle.tokens.specs.declared.numbers.ParsedNumber.{ParsedNumber}
-use Rattle.tokens.specs.declared.numbers.ParsedNumber.TheVariants.{Refused, Value}
-use Rattle.tokens.specs.declared.arguments.ArgCheck.{ArgCheck}
+use Rattle.tokens.specs.declared.words.Kind.{Kind}
+use Rattle.tokens.specs.declared.words.Kind.TheVariants as kind
 
--- ---- document 01's numbers
+-- ---- why a word is refused
 
--- of the code's answer: 0 for a value
-abbrev pub number_refusal : ParsedNumber → ℕ
-number_refusal (Refused k) = k
-number_refusal (Value n) = 0
+abbrev pub Verdict : Type 0
+Verdict = Result (Unit {0}) Reason
+
+-- of what was read: why there is no value, if there is none
+abbrev pub verdict : {A : Type 0} → Parse A → Verdict
+verdict malformed = Err reason.NotAForm
+verdict invalid = Err reason.BadWord
+verdict (parsed a) = Ok tt
 
 -- of a slot, or of a number
-unfoldable pub refusal_by : Bool → List ℕ → ℕ
-refusal_by true w = refusal_of (parse_slot w)
-refusal_by false w = refusal_of (parse_number w)
+unfoldable pub refusal_by : Bool → List ℕ → Verdict
+refusal_by true w = verdict (parse_slot w)
+refusal_by false w = verdict (parse_number w)
 
--- "within it, the lowest number": of two refusals, where 0 is none
-unfoldable pub lowest : ℕ → ℕ → ℕ
-lowest zero b = b
-lowest (suc a) zero = suc a
-lowest (suc a) (suc b) = pick (ltb b a) (suc b) (suc a)
+-- "within it, the lowest number": of two refusals; the second answer where none is refused
+unfoldable pub lowest : {A B : Type 0} → Result A Reason → Result B Reason → Result B Reason
+lowest (Ok a) b = b
+lowest (Err r) (Ok b) = Err r
+lowest (Err r) (Err s) = pick (ltb (number_of s) (number_of r)) (Err s) (Err r)
 
-unfoldable pub lowest_of : (List ℕ → ℕ) → List (List ℕ) → ℕ
-lowest_of f [] = 0
+unfoldable pub lowest_of : (List ℕ → Verdict) → List (List ℕ) → Verdict
+lowest_of f [] = Ok tt
 lowest_of f (w ∷ ws) = lowest (f w) (lowest_of f ws)
 
-pub number_refusal_lem : (g : Parse ℕ) → number_refusal (as_number g) ≡ refusal_of g
-number_refusal_lem malformed = refl
-number_refusal_lem invalid = refl
-number_refusal_lem (parsed n) = refl
+-- the number is the definition's
+pub verdict_number : {A : Type 0} (g : Parse A) (r : Reason) → verdict g ≡ Err r → number_of r ≡ refusal_of g
+verdict_number malformed r e = let z : reason.NotAForm ≡ r = cc in ap number_of (sym z)
+verdict_number invalid r e = let z : reason.BadWord ≡ r = cc in ap number_of (sym z)
+verdict_number (parsed a) r e = cc
+
+pub number_verdict : (g : Parse ℕ) → result_and (as_number g) (Ok tt) ≡ verdict g
+number_verdict malformed = refl
+number_verdict invalid = refl
+number_verdict (parsed n) = refl
+
+pub number_counted : (g : Parse ℕ) (n : ℕ) → result_and (as_number g) (Ok n) ≡ result_and (verdict g) (Ok n)
+number_counted malformed n = refl
+number_counted invalid n = refl
+number_counted (parsed m) n = refl
 
 -- two words are refused by the lower number
-pub refusal_with : {A B C : Type 0} (f : A → B → C) (a : Parse A) (b : Parse B) → refusal_of (with_parse f a b) ≡ lowest (refusal_of a) (refusal_of b)
+pub refusal_with : {A B C : Type 0} (f : A → B → C) (a : Parse A) (b : Parse B) → verdict (with_parse f a b) ≡ lowest (verdict a) (verdict b)
 unfolding with_parse lowest
 refusal_with f malformed malformed = refl
 refusal_with f malformed invalid = refl
@@ -54,57 +72,83 @@ refusal_with f (parsed a) malformed = refl
 refusal_with f (parsed a) invalid = refl
 refusal_with f (parsed a) (parsed b) = refl
 
-pub numbers_refusal : (ws : List (List ℕ)) → refusal_of (parse_numbers ws) ≡ lowest_of (refusal_by false) ws
+pub numbers_refusal : (ws : List (List ℕ)) → verdict (parse_numbers ws) ≡ lowest_of (refusal_by false) ws
 unfolding parse_numbers lowest_of refusal_by
 numbers_refusal [] = refl
-numbers_refusal (w ∷ ws) = refusal_with (λ n ns. n ∷ ns) (parse_number w) (parse_numbers ws) ∙ ap (lowest (refusal_of (parse_number w))) (numbers_refusal ws)
+numbers_refusal (w ∷ ws) = refusal_with (λ n ns. n ∷ ns) (parse_number w) (parse_numbers ws) ∙ ap (lowest (verdict (parse_number w))) (numbers_refusal ws)
 
-pub slots_refusal : (ws : List (List ℕ)) → refusal_of (parse_slots ws) ≡ lowest_of (refusal_by true) ws
+pub slots_refusal : (ws : List (List ℕ)) → verdict (parse_slots ws) ≡ lowest_of (refusal_by true) ws
 unfolding parse_slots lowest_of refusal_by
 slots_refusal [] = refl
-slots_refusal (w ∷ ws) = refusal_with (λ s ss. s ∷ ss) (parse_slot w) (parse_slots ws) ∙ ap (lowest (refusal_of (parse_slot w))) (slots_refusal ws)
+slots_refusal (w ∷ ws) = refusal_with (λ s ss. s ∷ ss) (parse_slot w) (parse_slots ws) ∙ ap (lowest (verdict (parse_slot w))) (slots_refusal ws)
 
-pub lowest-none : (g : ℕ) → lowest 0 g ≡ g
+lowest_of_none : (a : Verdict) → lowest a (Ok tt) ≡ a
 unfolding lowest
-lowest-none g = refl
+lowest_of_none (Ok u) = refl
+lowest_of_none (Err r) = refl
 
-pub lowest_of_none : (a : ℕ) → lowest a 0 ≡ a
+pub lowest_second : (A B : Type 0) (r s : Reason) → number_of s < number_of r → lowest {A = A} {B = B} (Err r) (Err s) ≡ Err s
 unfolding lowest
-lowest_of_none zero = refl
-lowest_of_none (suc a) = refl
+lowest_second A B r s h = rw (lt-ltb (number_of s) (number_of r) h)
 
-pub lowest_second : (a b : ℕ) → 0 < b → b < a → lowest a b ≡ b
+pub lowest-first : (A B : Type 0) (r s : Reason) → number_of r ≤ number_of s → lowest {A = A} {B = B} (Err r) (Err s) ≡ Err r
 unfolding lowest
-lowest_second zero b h l = absurd (omega arith)
-lowest_second (suc a) zero h l = absurd (omega arith)
-lowest_second (suc a) (suc b) h l = rw (lt-ltb b a (omega arith))
+lowest-first A B r s h = rw (le-ltb (number_of s) (number_of r) h)
 
-pub lowest-first : (a b : ℕ) → 0 < a → a ≤ b → lowest a b ≡ a
+lowest_assoc : (a b c : Verdict) → lowest (lowest a b) c ≡ lowest a (lowest b c)
 unfolding lowest
-lowest-first zero b h l = absurd (omega arith)
-lowest-first (suc a) zero h l = absurd (omega arith)
-lowest-first (suc a) (suc b) h l = rw (le-ltb b a (omega arith))
-
-lowest_assoc : (a b c : ℕ) → lowest (lowest a b) c ≡ lowest a (lowest b c)
-unfolding lowest
-lowest_assoc zero b c = refl
-lowest_assoc (suc a) zero c = refl
-lowest_assoc (suc a) (suc b) zero = lowest_of_none (lowest (suc a) (suc b))
-lowest_assoc (suc a) (suc b) (suc c) = go (ltb b a) (ltb c b) refl refl
+lowest_assoc (Ok u) b c = refl
+lowest_assoc (Err r) (Ok u) c = refl
+lowest_assoc (Err r) (Err s) (Ok u) = lowest_of_none (lowest {A = Unit {0}} (Err r) (Err s))
+lowest_assoc (Err r) (Err s) (Err t) = go (ltb b a) (ltb c b) refl refl
   where
-    go : (x y : Bool) → ltb b a ≡ x → ltb c b ≡ y → lowest (pick x (suc b) (suc a)) (suc c) ≡ lowest (suc a) (pick y (suc c) (suc b))
+    a : ℕ
+    a = number_of r
+
+    b : ℕ
+    b = number_of s
+
+    c : ℕ
+    c = number_of t
+
+    r₀ : Verdict
+    r₀ = Err r
+
+    s₀ : Verdict
+    s₀ = Err s
+
+    t₀ : Verdict
+    t₀ = Err t
+
+    go : (x y : Bool) → ltb b a ≡ x → ltb c b ≡ y → lowest (pick x s₀ r₀) t₀ ≡ lowest r₀ (pick y t₀ s₀)
     go true true p q = rw (q, lt-ltb c a (omega (arith, ltb-true b a p, ltb-true c b q)))
     go true false p q = rw (q, p)
     go false true p q = refl
     go false false p q = rw (p, le-ltb c a (omega (arith, ltb-false b a p, ltb-false c b q)))
 
-pub lowest_last : (f : List ℕ → ℕ) (g : ℕ) (w : List ℕ) → lowest g (lowest_of f (w ∷ [])) ≡ lowest g (f w)
+pub lowest_last : (f : List ℕ → Verdict) (g : Verdict) (w : List ℕ) → lowest g (lowest_of f (w ∷ [])) ≡ lowest g (f w)
 unfolding lowest_of
 lowest_last f g w = ap (lowest g) (lowest_of_none (f w))
 
-pub lowest_next : (f : List ℕ → ℕ) (g : ℕ) (w : List ℕ) (ws : List (List ℕ)) → lowest (lowest g (f w)) (lowest_of f ws) ≡ lowest g (lowest_of f (w ∷ ws))
+pub lowest_next : (f : List ℕ → Verdict) (g : Verdict) (w : List ℕ) (ws : List (List ℕ)) → lowest (lowest g (f w)) (lowest_of f ws) ≡ lowest g (lowest_of f (w ∷ ws))
 unfolding lowest_of
 lowest_next f g w ws = lowest_assoc g (f w) (lowest_of f ws)
+
+pub lowest_counted : (a b : Verdict) (n : ℕ) → result_and (lowest a b) (Ok n) ≡ lowest a (result_and b (Ok n))
+unfolding lowest
+lowest_counted (Ok u) b n = refl
+lowest_counted (Err r) (Ok u) n = refl
+lowest_counted (Err r) (Err s) n = go (ltb (number_of s) (number_of r))
+  where
+    r₀ : Verdict
+    r₀ = Err r
+
+    s₀ : Verdict
+    s₀ = Err s
+
+    go : (t : Bool) → result_and (pick t s₀ r₀) (Ok n) ≡ pick t (Err s) (Err r)
+    go true = refl
+    go false = refl
 
 -- ---- words
 
@@ -144,19 +188,35 @@ words_both (b ∷ l) = go (eqb b 32) refl (words_both l)
 pub words_from_lem : (l : List ℕ) → words_from true l ≡ are_words (split 32 l)
 words_from_lem l = (words_both l).0
 
+-- a bracket, or a space where nothing of a piece was seen
+abbrev pub breaks : ℕ → Bool → Bool
+breaks b fresh = eqb b 40 || eqb b 41 || (eqb b 32 && fresh)
+
 module _ (fresh : Bool) (s : List ℕ) (i : ℕ) (inside : i < length s) where
-  pub words_bracket : (get_or s i 0 ≡ 40) ⊎ (get_or s i 0 ≡ 41) → words_from fresh (drop i s) ≡ false
-  unfolding words_from
-  words_bracket (inl h) = rw (drop-cons s i 0 inside, h)
-  words_bracket (inr h) = rw (drop-cons s i 0 inside, h)
+  words_step : (x y z f : Bool) (k m : Bool) → (x || y || (z && f) ≡ true → not (x || y) && pick z (not f && k) m ≡ false) × (x || y || (z && f) ≡ false → not (x || y) && pick z (not f && k) m ≡ pick z k m)
+  words_step true y z f k m = (λ h. refl, λ h. cc)
+  words_step false true z f k m = (λ h. refl, λ h. cc)
+  words_step false false true true k m = (λ h. refl, λ h. cc)
+  words_step false false true false k m = (λ h. cc, λ h. refl)
+  words_step false false false f k m = (λ h. cc, λ h. refl)
 
-  pub words_space : get_or s i 0 ≡ 32 → words_from fresh (drop i s) ≡ not fresh && words_from true (drop (i + 1) s)
-  unfolding words_from
-  words_space h = rw (add-one, drop-cons s i 0 inside, h)
+  words_after : (z : Bool) (l : List ℕ) → pick z (words_from true l) (words_from false l) ≡ words_from z l
+  words_after true l = refl
+  words_after false l = refl
 
-  pub words-other : (get_or s i 0 ≡ 40 → ⊥) → (get_or s i 0 ≡ 41 → ⊥) → (get_or s i 0 ≡ 32 → ⊥) → words_from fresh (drop i s) ≡ words_from false (drop (i + 1) s)
+  pub words_stop : breaks (get_or s i 0) fresh ≡ true → words_from fresh (drop i s) ≡ false
   unfolding words_from
-  words-other h k m = rw (add-one, drop-cons s i 0 inside, ne_eqb (get_or s i 0) 40 h, ne_eqb (get_or s i 0) 41 k, ne_eqb (get_or s i 0) 32 m)
+  words_stop h =
+      let b = get_or s i 0 in
+      let l = drop (suc i) s in
+      rw (drop-cons s i 0 inside) ((words_step (eqb b 40) (eqb b 41) (eqb b 32) fresh (words_from true l) (words_from false l)).0 h)
+
+  pub words_on : breaks (get_or s i 0) fresh ≡ false → words_from fresh (drop i s) ≡ words_from (eqb (get_or s i 0) 32) (drop (i + 1) s)
+  unfolding words_from
+  words_on h =
+      let b = get_or s i 0 in
+      let l = drop (suc i) s in
+      rw (add-one, drop-cons s i 0 inside) ((words_step (eqb b 40) (eqb b 41) (eqb b 32) fresh (words_from true l) (words_from false l)).1 h ∙ words_after (eqb b 32) l)
 
 pub words_end_lem : (fresh : Bool) (s : List ℕ) (i : ℕ) → length s ≤ i → words_from fresh (drop i s) ≡ not fresh
 unfolding words_from
@@ -181,70 +241,67 @@ pub slot_star : (w : List ℕ) → same (42 ∷ []) w ≡ true → parse_slot w 
 unfolding parse_slot
 slot_star w h = rw (same_sym w (42 ∷ []) ∙ h)
 
-pub slot-name : (w : List ℕ) → same (42 ∷ []) w ≡ false → refusal_of (parse_slot w) ≡ refusal_of (parse_name w)
+pub slot-name : (w : List ℕ) → same (42 ∷ []) w ≡ false → verdict (parse_slot w) ≡ verdict (parse_name w)
 unfolding parse_slot map_parse
 slot-name w h = rw (same_sym w (42 ∷ []) ∙ h) (go (parse_name w))
   where
-    go : (g : Parse (List ℕ)) → refusal_of (map_parse some g) ≡ refusal_of g
+    go : (g : Parse (List ℕ)) → verdict (map_parse some g) ≡ verdict g
     go malformed = refl
     go invalid = refl
     go (parsed a) = refl
 
 -- ---- the words of a closed form
 
-unfoldable pub arg_check : ℕ → ℕ → ArgCheck
-arg_check g n = record { refusal = g; count = n }
+unfoldable pub check_for : List (List ℕ) → Result ℕ Reason
+check_for ws = result_and (verdict (for_stmt ws)) (Ok 0)
 
-pub check_is : {g h n m : ℕ} → g ≡ h → n ≡ m → arg_check g n ≡ arg_check h m
-check_is p q = cc
-
-unfoldable pub check_for : List (List ℕ) → ArgCheck
-check_for ws = arg_check (refusal_of (for_stmt ws)) 0
-
-unfoldable pub check_next : List (List ℕ) → ArgCheck
-check_next [] = arg_check 2 0
-check_next (w ∷ ws) = arg_check (lowest (refusal_of (parse_mark w)) (lowest_of (refusal_by true) ws)) (length ws)
+unfoldable pub check_next : List (List ℕ) → Result ℕ Reason
+check_next [] = Err reason.NotAForm
+check_next (w ∷ ws) = lowest (verdict (parse_mark w)) (result_and (lowest_of (refusal_by true) ws) (Ok (length ws)))
 
 -- by the kind of the opening word
-unfoldable pub check_kind : ℕ → List (List ℕ) → ArgCheck
-unfolding arg_check
-check_kind g ws =
-    pick (eqb g 6) (arg_check (refusal_of (single ws)) 0)
-    (pick (eqb g 8) (arg_check (refusal_of (single ws)) 0)
-    (pick (eqb g 7) (arg_check (lowest_of (refusal_by false) ws) (length ws))
-    (pick (eqb g 9) (check_for ws)
-    (pick (eqb g 10) (check_next ws)
-    (arg_check 2 0)))))
+unfoldable pub check_kind : Kind → List (List ℕ) → Result ℕ Reason
+check_kind kind.Number ws = result_and (verdict (single ws)) (Ok 0)
+check_kind kind.Run ws = result_and (verdict (single ws)) (Ok 0)
+check_kind kind.Numbers ws = result_and (lowest_of (refusal_by false) ws) (Ok (length ws))
+check_kind kind.For ws = check_for ws
+check_kind kind.Next ws = check_next ws
+check_kind kind.Module ws = Err reason.NotAForm
+check_kind kind.Line ws = Err reason.NotAForm
+check_kind kind.To ws = Err reason.NotAForm
+check_kind kind.Stmts ws = Err reason.NotAForm
+check_kind kind.Cond ws = Err reason.NotAForm
+check_kind kind.Bare ws = Err reason.NotAForm
 
 -- ---- a name and a tier
 
-for_one : (w : List ℕ) → check_for (w ∷ []) ≡ arg_check 2 0
+for_one : (w : List ℕ) → check_for (w ∷ []) ≡ Err reason.NotAForm
 unfolding check_for for_stmt
 for_one w = refl
 
-for_many : (w v : List ℕ) (ws : List (List ℕ)) → 0 < length ws → check_for (w ∷ v ∷ ws) ≡ arg_check 2 0
+for_many : (w v : List ℕ) (ws : List (List ℕ)) → 0 < length ws → check_for (w ∷ v ∷ ws) ≡ Err reason.NotAForm
 unfolding check_for for_stmt
 for_many w v [] h = absurd (not-suc-le-zero h)
 for_many w v (u ∷ ws) h = refl
 
-for_two : (w v : List ℕ) → check_for (w ∷ v ∷ []) ≡ arg_check (lowest (refusal_of (parse_name w)) (refusal_of (parse_tier v))) 0
+for_two : (w v : List ℕ) → check_for (w ∷ v ∷ []) ≡ result_and (lowest (verdict (parse_name w)) (verdict (parse_tier v))) (Ok 0)
 unfolding check_for for_stmt
-for_two w v = ap (λ (g : ℕ). arg_check g 0) (refusal_with (λ n t. (for n t, 0)) (parse_name w) (parse_tier v))
+for_two w v = ap (λ (g : Verdict). result_and g (Ok 0)) (refusal_with (λ n t. (for n t, 0)) (parse_name w) (parse_tier v))
 
-pub for_alone : (s : List ℕ) (e : ℕ) → e ≡ index_of 32 s → e ≡ length s → check_for (split 32 s) ≡ arg_check 2 0
+pub for_alone : (s : List ℕ) (e : ℕ) → e ≡ index_of 32 s → e ≡ length s → check_for (split 32 s) ≡ Err reason.NotAForm
 for_alone s e f h = ap check_for (split_alone 32 s e f h) ∙ for_one (take (e - 0) (drop 0 s))
 
 module _ (s : List ℕ) (e d : ℕ) (found : e ≡ index_of 32 s) (more : e < length s) (found₂ : d ≡ index_of 32 (after s e)) where
   long : length (after s e) ≡ length s - (e + 1)
   long = ap length (rest_all s (e + 1)) ∙ length-drop (e + 1) s
 
-  pub for_longer : d < length s - (e + 1) → check_for (split 32 s) ≡ arg_check 2 0
+  pub for_longer : d < length s - (e + 1) → check_for (split 32 s) ≡ Err reason.NotAForm
   for_longer h =
       let t = after s e in
       ap check_for (split-first 32 s e found more ∙ ap (λ (z : List (List ℕ)). take (e - 0) (drop 0 s) ∷ z) (split-first 32 t d found₂ (omega (arith, long))))
       ∙ for_many (take (e - 0) (drop 0 s)) (take (d - 0) (drop 0 t)) (split 32 (after t d)) (split-some 32 (after t d))
 
-  pub for_right : d ≡ length s - (e + 1) → check_for (split 32 s) ≡ arg_check (lowest (refusal_of (parse_name (take (e - 0) (drop 0 s)))) (refusal_of (parse_tier (after s e)))) 0
+  pub for_right : d ≡ length s - (e + 1) → check_for (split 32 s) ≡ result_and (lowest (verdict (parse_name (take (e - 0) (drop 0 s)))) (verdict (parse_tier (after s e)))) (Ok 0)
   for_right h =
       let t = after s e in
       ap check_for (split-first 32 s e found more ∙ ap (λ (z : List (List ℕ)). take (e - 0) (drop 0 s) ∷ z) (split_last 32 t (sym found₂ ∙ h ∙ sym long)))
@@ -253,11 +310,18 @@ module _ (s : List ℕ) (e d : ℕ) (found : e ≡ index_of 32 s) (more : e < le
 -- ---- a mark and slots
 
 module _ (s : List ℕ) (e : ℕ) (found : e ≡ index_of 32 s) where
-  pub next_alone : e ≡ length s → check_next (split 32 s) ≡ arg_check (refusal_of (parse_mark (take (e - 0) (drop 0 s)))) 0
-  unfolding check_next lowest_of
-  next_alone h = ap check_next (split_alone 32 s e found h) ∙ ap (λ (g : ℕ). arg_check g 0) (lowest_of_none (refusal_of (parse_mark (take (e - 0) (drop 0 s)))))
+  pub next_alone : e ≡ length s → check_next (split 32 s) ≡ result_and (verdict (parse_mark (take (e - 0) (drop 0 s)))) (Ok 0)
+  unfolding check_next lowest_of lowest
+  next_alone h = ap check_next (split_alone 32 s e found h) ∙ go (verdict (parse_mark (take (e - 0) (drop 0 s))))
+    where
+      none : Result ℕ Reason
+      none = Ok 0
+
+      go : (v : Verdict) → lowest v none ≡ result_and v none
+      go (Ok u) = refl
+      go (Err r) = refl
 
   pub next_slots : e < length s
-      → check_next (split 32 s) ≡ arg_check (lowest (refusal_of (parse_mark (take (e - 0) (drop 0 s)))) (lowest_of (refusal_by true) (split 32 (after s e)))) (length (split 32 (after s e)))
+      → check_next (split 32 s) ≡ lowest (verdict (parse_mark (take (e - 0) (drop 0 s)))) (result_and (lowest_of (refusal_by true) (split 32 (after s e))) (Ok (length (split 32 (after s e)))))
   unfolding check_next
   next_slots h = ap check_next (split-first 32 s e found h)

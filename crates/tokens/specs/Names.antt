@@ -1,25 +1,23 @@
 -- Names, their keys, and that a key is that of one name. Assumes nothing.
-use Rattle.std.specs.Prelude.{ℕ, zero, suc, ◌+◌, ◌*◌, ◌-◌, ◌≤◌, ◌<◌, ◌≡◌, refl, List, [], ◌∷◌, Bool, true, false, not, ◌&&◌, ◌||◌, eqb, leb, ltb, length, get_or, drop}
+use Rattle.std.specs.Prelude.{ℕ, zero, suc, ◌+◌, ◌*◌, ◌-◌, ◌≤◌, ◌<◌, ◌≡◌, refl, List, [], ◌∷◌, Bool, true, false, not, ◌&&◌, ◌||◌, eqb, leb, ltb, length, get_or, drop, Option, Some, None}
 use Rattle.std.proofs.Common.{sym, ap, ⊎_elim, arith, add-one, not-suc-le-zero, le_of_suc-le-suc, suc-add, length-drop, drop-cons, eqb-true, leb-true, le-leb, lt-ltb, le-ltb}
 use Rattle.std.proofs.lemmas.Bool.{eqb-false}
 use Rattle.listings.specs.Bytes.{same, pick}
 use Rattle.listings.specs.Listing.{Name}
-use Rattle.listings.specs.Rows.{Parse, malformed, invalid, parsed, refusal_of, all, is_digit, is_capital, name_end, is_name, parse_name}
+use Rattle.listings.specs.Rows.{Parse, malformed, invalid, parsed, all, is_digit, is_capital, name_end, is_name, parse_name}
 use Rattle.listings.specs.Tests.{not_both, both_true, either_true}
 use Rattle.listing_laws.specs.NumberText.{digit_range}
 use Rattle.listings.specs.Scan.{all-at}
-use Rattle.tokens.specs.declared.names.NameKey.{NameKey}
-use Rattle.tokens.specs.declared.names.NameKey.TheVariants.{Refused, Key}
 use Rattle.listing_laws.specs.WordText.{capital_range, same-nil}
 use Rattle.listings.specs.Records.{name_key}
 use Rattle.listings.specs.Cut.{cut_to, cut_name}
 use Rattle.listing_laws.specs.CutLaws.{name-length}
 
--- the code's answer for what was read: the key of the name, cut to two characters, or document 01's number
-abbrev pub as_key : Parse Name → NameKey
-as_key malformed = Refused (refusal_of {A = Name} malformed)
-as_key invalid = Refused (refusal_of {A = Name} invalid)
-as_key (parsed w) = Key (name_key (cut_name w))
+-- the code's answer for what was read: the key of the name, cut to two characters
+abbrev pub as_key : Parse Name → Option ℕ
+as_key malformed = None
+as_key invalid = None
+as_key (parsed w) = Some (name_key (cut_name w))
 
 pub name_invalid : (w : List ℕ) → is_name w ≡ false → parse_name w ≡ invalid
 unfolding parse_name

@@ -1,17 +1,17 @@
 -- A word as a number, as the code finds it. Assumes nothing.
-use Rattle.std.specs.Prelude.{ℕ, suc, ◌+◌, ◌*◌, ◌-◌, ◌≤◌, ◌<◌, ◌≡◌, refl, List, [], ◌∷◌, Bool, true, false, not, eqb, leb, length, get_or, drop}
+use Rattle.std.specs.Prelude.{ℕ, suc, ◌+◌, ◌*◌, ◌-◌, ◌≤◌, ◌<◌, ◌≡◌, refl, List, [], ◌∷◌, Bool, true, false, not, eqb, leb, length, get_or, drop, Result, Ok, Err}
 use Rattle.std.proofs.Common.{arith, drop-cons}
 use borrow.Author.Tests.{leb-false, le-leb, lt-leb}
 use Rattle.listings.specs.Bytes.{pick}
-use Rattle.listings.specs.Rows.{Parse, malformed, invalid, parsed, refusal_of, all, is_digit, no_leading_zero, value, parse_number}
-use Rattle.tokens.specs.declared.numbers.ParsedNumber.{ParsedNumber}
-use Rattle.tokens.specs.declared.numbers.ParsedNumber.TheVariants.{Refused, Value}
+use Rattle.listings.specs.Rows.{Parse, malformed, invalid, parsed, all, is_digit, no_leading_zero, value, parse_number}
+use Rattle.layout.specs.declared.refusals.Reason.{Reason}
+use Rattle.layout.specs.declared.refusals.Reason.TheVariants as reason
 
--- the code's answer for what was read: a value, or document 01's number
-abbrev pub as_number : Parse ℕ → ParsedNumber
-as_number malformed = Refused (refusal_of {A = ℕ} malformed)
-as_number invalid = Refused (refusal_of {A = ℕ} invalid)
-as_number (parsed n) = Value n
+-- the code's answer for what was read: a value, or why there is none
+abbrev pub as_number : Parse ℕ → Result ℕ Reason
+as_number malformed = Err reason.NotAForm
+as_number invalid = Err reason.BadWord
+as_number (parsed n) = Ok n
 
 -- the value of digits, or 65536 for any above 65535
 unfoldable pub capped_value : List ℕ → ℕ

@@ -1,51 +1,31 @@
 // A word as a number: "decimal without leading zeros, 0 to 65535".
 ghost use Rattle.std.specs.Prelude.{◌≡◌, true, ◌≤◌};
+ghost use Rattle.std.specs.List.{list_all};
 ghost use Rattle.listings.specs.Rows.{all, is_digit, no_leading_zero, parse_number};
 ghost use Rattle.tokens.specs.Numbers.{capped_value, as_number};
 
-// A value, or document 01's number: 2 for a word not all digits, 3 for a leading zero or a number above 65535.
-#[derive(Drop)]
-pub enum ParsedNumber {
-    Refused(u8),
-    Value(u16),
-}
-
-// A byte as a number, wide enough for a key or a value.
-pub(crate) fn byte_value(x: u8) -> u64
-    ensures { result ≡ x }
-{
-    x as u64
-}
+use layout::refusals::Reason;
 
 // 0 to 9.
+#[tactic(auto, unfolding(listings::specs::Rows::is_digit))]
 pub fn is_digit(b: u8) -> bool
     ensures { result ≡ is_digit b }
 {
-    48 <= b && b <= 57
+    matches!(b, b'0'..=b'9')
 }
 
 // Whether there are only digits.
 fn all_digits(w: &[u8]) -> bool
-    ensures { result ≡ all is_digit w.now }
+    ensures { result ≡ list_all is_digit w.now }
 {
-    let mut i: usize = 0;
-    while i < w.len() {
-        if !is_digit(w[i]) {
-            return false;
-        }
-        i += 1;
-    }
-    true
+    w.iter().all(|b| is_digit(*b))
 }
 
 // A single 0 is no leading zero.
 fn no_leading_zero(w: &[u8]) -> bool
     ensures { result ≡ no_leading_zero w.now }
 {
-    if w.len() < 2 {
-        return true;
-    }
-    w[0] != 48
+    w.len() < 2 || w[0] != b'0'
 }
 
 // The value of digits, or 65536 as soon as it is above 65535: digits of any length do not overflow.
@@ -54,30 +34,28 @@ fn value_of(w: &[u8]) -> u64
     ensures { (result ≡ capped_value w.now) × (result ≤ 65536) }
 {
     let mut v: u64 = 0;
-    let mut i: usize = 0;
-    while i < w.len() {
-        v = v * 10 + (byte_value(w[i]) - 48);
+    for b in w {
+        v = v * 10 + (u64::from(*b) - 48);
         if 65535 < v {
             return 65536;
         }
-        i += 1;
     }
     v
 }
 
-// What a word is where a number is due.
-pub fn number(w: &[u8]) -> ParsedNumber
+// What a word is where a number is due: no number at all where it is not all digits, a bad one with a leading zero or above 65535.
+pub fn number(w: &[u8]) -> Result<u16, Reason>
     ensures { result ≡ as_number (parse_number w.now) }
 {
     if !all_digits(w) {
-        return ParsedNumber::Refused(2);
+        return Err(Reason::NotAForm);
     }
     if !no_leading_zero(w) {
-        return ParsedNumber::Refused(3);
+        return Err(Reason::BadWord);
     }
     let n = value_of(w);
     if 65535 < n {
-        return ParsedNumber::Refused(3);
+        return Err(Reason::BadWord);
     }
-    ParsedNumber::Value(n as u16)
+    Ok(n as u16)
 }

@@ -7,11 +7,12 @@ use crate::clearing::clear_returns;
 use crate::closure::{close_rows, list_row};
 use crate::readable::calls_readable;
 use crate::regions::{join_region, list_calls};
-use crate::spans::{no_spans, span_calls};
-use crate::walk::no_work;
-use layout::widths::wide;
+use crate::spans::{SPANS_LENGTH, span_calls};
+use layout::limits::MAX_STMTS;
+use layout::zeroing::all_of;
 
-// The entry e, if it is called: its region by its closed row, listed in `work`.
+// The entry e, if it is called: its region by its closed row, listed in `work`. Only the list differs from regions::join_called; a closure
+// for it would have to take the rows, which are written meanwhile and which a walk does not read.
 fn join_by_rows(
     stmts: &[u16],
     falls: &[u16],
@@ -27,11 +28,11 @@ fn join_by_rows(
     ensures { EntryByRows stmts.now falls.now links.now n e rows.old rows.new }
 {
     let at = e * 2;
-    let end = wide(spans[at + 1]);
+    let end = usize::from(spans[at + 1]);
     if end == 0 {
         return;
     }
-    let start = wide(spans[at]);
+    let start = usize::from(spans[at]);
     let count = list_row(stmts, rows, n, e, work);
     join_region(
         stmts,
@@ -59,10 +60,8 @@ fn join_entries_by_rows(
     requires { ByRowsReady stmts.now falls.now links.now n calls.now spans.now rows.old × (length work.old ≡ 4096) }
     ensures { EntriesByRows stmts.now falls.now links.now n n rows.old rows.new }
 {
-    let mut e: usize = 0;
-    while e < n {
+    for e in 0..n {
         join_by_rows(stmts, falls, links, n, calls, spans, e, work, rows);
-        e += 1;
     }
 }
 
@@ -71,12 +70,12 @@ fn join_regions_by_rows(stmts: &[u16], falls: &[u16], links: &[u16], n: usize, r
     requires { CallsRead stmts.now falls.now links.now n × (n * 64 ≤ length rows.old) }
     ensures { EntriesByRows stmts.now falls.now links.now n n rows.old rows.new }
 {
-    let mut buffer = no_work();
+    let mut buffer = all_of::<u16, MAX_STMTS>(0);
     let count = list_calls(stmts, n, &mut buffer);
     let calls = &buffer[..count];
-    let mut spans = no_spans();
+    let mut spans = all_of::<u16, SPANS_LENGTH>(0);
     span_calls(stmts, links, calls, &mut spans);
-    let mut work = no_work();
+    let mut work = all_of::<u16, MAX_STMTS>(0);
     join_entries_by_rows(stmts, falls, links, n, calls, &spans, &mut work, rows);
 }
 

@@ -9,6 +9,7 @@ use layout::columns::{ARG_ENTRIES, STMT_ENTRIES};
 use layout::words::RETURN;
 
 // 1 where row i has node j, else 0.
+#[tactic(auto, using(passes::specs::ClosureLaws::row_bit))]
 fn row_bit(rows: &[u64], i: usize, j: usize) -> u64
     requires { (i < 4096) × (i * 64 + 64 ≤ length rows.now) × (j < 4096) }
     ensures { result ≡ bit (set_of rows.now i) j }
@@ -17,6 +18,7 @@ fn row_bit(rows: &[u64], i: usize, j: usize) -> u64
 }
 
 // Row i as a set of its own, so that the rows can change meanwhile.
+#[tactic(auto, unfolding(passes::specs::ReturnSets::set_of))]
 fn row_copy(rows: &[u64], i: usize) -> [u64; 64]
     requires { (i < 4096) × (i * 64 + 64 ≤ length rows.now) }
     ensures { result ≡ set_of rows.now i }
@@ -24,21 +26,21 @@ fn row_copy(rows: &[u64], i: usize) -> [u64; 64]
     let mut row = no_words();
     let start = i * ARG_ENTRIES;
     let end = start + 64;
-    join(&mut row, &rows[start..end]);
+    row.copy_from_slice(&rows[start..end]);
     row
 }
 
 // Joins `row`, which is row k, into row i, where that has node k.
+#[tactic(auto, using(passes::specs::ClosureLaws::row_joined))]
 fn close_row(rows: &mut [u64], i: usize, k: usize, row: &[u64; 64])
     requires { (i < 4096) × (i * 64 + 64 ≤ length rows.old) × (k < 4096) }
     ensures { RowJoined k row.now i rows.old rows.new }
 {
-    if row_bit(rows, i, k) != 1 {
-        return;
+    if row_bit(rows, i, k) == 1 {
+        let start = i * ARG_ENTRIES;
+        let end = start + 64;
+        join(&mut rows[start..end], row);
     }
-    let start = i * ARG_ENTRIES;
-    let end = start + 64;
-    join(&mut rows[start..end], row);
 }
 
 // Ways by way of node k.
@@ -47,10 +49,8 @@ fn close_round(rows: &mut [u64], n: usize, k: usize)
     ensures { RowsJoined k (set_of rows.old k) n rows.old rows.new }
 {
     let row = row_copy(rows, k);
-    let mut i: usize = 0;
-    while i < n {
+    for i in 0..n {
         close_row(rows, i, k, &row);
-        i += 1;
     }
 }
 
@@ -59,10 +59,8 @@ pub(crate) fn close_rows(rows: &mut [u64], n: usize)
     requires { (n ≤ 4096) × (n * 64 ≤ length rows.old) }
     ensures { Closed n rows.old rows.new }
 {
-    let mut k: usize = 0;
-    while k < n {
+    for k in 0..n {
         close_round(rows, n, k);
-        k += 1;
     }
 }
 

@@ -11,4 +11,3 @@ pub mod return_totals;
 pub mod sets;
 pub mod spans;
 pub mod walk;
-pub mod widths;

@@ -13,11 +13,11 @@ ghost use Rattle.passes.specs.WalkTables.{CallsRead, RegionsAnswered};
 use crate::readable::walks_readable;
 use crate::return_sets::join_returns;
 use crate::sets::{insert, no_words};
-use crate::spans::{no_spans, span_calls};
-use crate::walk::{no_work, region};
-use crate::widths::narrow;
+use crate::spans::{SPANS_LENGTH, span_calls};
+use crate::walk::region;
 use layout::columns::{ARG_ENTRIES, COUNT, FALL_ENTRIES, STMT_ENTRIES};
-use layout::widths::wide;
+use layout::limits::MAX_STMTS;
+use layout::zeroing::all_of;
 use tables::calls::is_call;
 use tables::lists::holds;
 
@@ -27,7 +27,7 @@ fn list_call(stmts: &[u16], i: usize, calls: &mut [u16], m: usize) -> usize
     ensures { Put calls.old m calls.new result (one_if (call_word (word_of stmts.now i)) i) }
 {
     if is_call(stmts[i * STMT_ENTRIES]) {
-        calls[m] = narrow(i);
+        calls[m] = i as u16;
         return m + 1;
     }
     m
@@ -39,10 +39,8 @@ pub(crate) fn list_calls(stmts: &[u16], n: usize, calls: &mut [u16]) -> usize
     ensures { Put calls.old 0 calls.new result (calls_below stmts.now n) }
 {
     let mut m: usize = 0;
-    let mut i: usize = 0;
-    while i < n {
+    for i in 0..n {
         m = list_call(stmts, i, calls, m);
-        i += 1;
     }
     m
 }
@@ -52,10 +50,9 @@ fn insert_some(set: &mut [u64], t: u16)
     requires { (length set.old ≡ 64) × (t ≤ 4096) }
     ensures { SetAdded set.old set.new (decode t) }
 {
-    if t == 0 {
-        return;
+    if let Some(a) = t.checked_sub(1) {
+        insert(set, usize::from(a));
     }
-    insert(set, wide(t) - 1);
 }
 
 // Inserts where call c goes on, if the entry e is one of its targets.
@@ -64,11 +61,10 @@ fn add_back(stmts: &[u16], falls: &[u16], links: &[u16], c: usize, e: usize, bac
     ensures { SetAdded backs.old backs.new (back_from stmts.now falls.now links.now e c) }
 {
     let at = c * ARG_ENTRIES;
-    let end = at + wide(stmts[c * STMT_ENTRIES + COUNT]);
-    if !holds(&links[at..end], narrow(e + 1)) {
-        return;
+    let end = at + usize::from(stmts[c * STMT_ENTRIES + COUNT]);
+    if holds(&links[at..end], (e + 1) as u16) {
+        insert_some(backs, falls[c * FALL_ENTRIES]);
     }
-    insert_some(backs, falls[c * FALL_ENTRIES]);
 }
 
 // Inserts where the calls go on that have the entry e among their targets.
@@ -83,10 +79,8 @@ fn add_backs(
     requires { All (CallFits stmts.now falls.now links.now) calls.now × (e < 4096) × (length backs.old ≡ 64) }
     ensures { SetAdded backs.old backs.new (each (back_from stmts.now falls.now links.now e) calls.now) }
 {
-    let mut k: usize = 0;
-    while k < calls.len() {
-        add_back(stmts, falls, links, wide(calls[k]), e, backs);
-        k += 1;
+    for &c in calls {
+        add_back(stmts, falls, links, usize::from(c), e, backs);
     }
 }
 
@@ -127,11 +121,11 @@ fn join_called(
     ensures { RegionJoined stmts.now falls.now links.now (stored_list lists.now edges.now) n e sets.old sets.new }
 {
     let at = e * 2;
-    let end = wide(spans[at + 1]);
+    let end = usize::from(spans[at + 1]);
     if end == 0 {
         return;
     }
-    let start = wide(spans[at]);
+    let start = usize::from(spans[at]);
     let count = region(lists, edges, n, e, work);
     join_region(
         stmts,
@@ -161,12 +155,10 @@ fn join_entries(
     requires { EntriesReady stmts.now falls.now links.now lists.now edges.now n calls.now spans.now sets.old × (length work.old ≡ 4096) }
     ensures { RegionsJoined stmts.now falls.now links.now (stored_list lists.now edges.now) n n sets.old sets.new }
 {
-    let mut e: usize = 0;
-    while e < n {
+    for e in 0..n {
         join_called(
             stmts, falls, links, lists, edges, n, calls, spans, e, work, sets,
         );
-        e += 1;
     }
 }
 
@@ -183,12 +175,12 @@ fn join_regions(
     requires { CallsRead stmts.now falls.now links.now n × Stored lists.now edges.now n (stored_list lists.now edges.now) × (n * 64 ≤ length sets.old) }
     ensures { SetsFound stmts.now falls.now links.now (stored_list lists.now edges.now) n sets.old sets.new }
 {
-    let mut buffer = no_work();
+    let mut buffer = all_of::<u16, MAX_STMTS>(0);
     let count = list_calls(stmts, n, &mut buffer);
     let calls = &buffer[..count];
-    let mut spans = no_spans();
+    let mut spans = all_of::<u16, SPANS_LENGTH>(0);
     span_calls(stmts, links, calls, &mut spans);
-    let mut work = no_work();
+    let mut work = all_of::<u16, MAX_STMTS>(0);
     join_entries(
         stmts, falls, links, lists, edges, n, calls, &spans, &mut work, sets,
     );

@@ -4,7 +4,6 @@ ghost use Rattle.passes.specs.ReturnSets.{ReturnsJoined};
 
 use crate::sets::join;
 use layout::columns::{ARG_ENTRIES, STMT_ENTRIES};
-use layout::widths::wide;
 use layout::words::RETURN;
 
 // Joins `backs` into the set of node i, where that is a RETURN among the n nodes.
@@ -12,15 +11,11 @@ fn join_return(stmts: &[u16], n: usize, i: usize, backs: &[u64], sets: &mut [u64
     requires { (n ≤ 4096) × (n * 12 ≤ length stmts.now) × (n * 64 ≤ length sets.old) × (length backs.now ≡ 64) }
     ensures { ReturnsJoined stmts.now n (i ∷ []) backs.now sets.old sets.new }
 {
-    if n <= i {
-        return;
+    if i < n && stmts[i * STMT_ENTRIES] == RETURN {
+        let start = i * ARG_ENTRIES;
+        let end = start + 64;
+        join(&mut sets[start..end], backs);
     }
-    if stmts[i * STMT_ENTRIES] != RETURN {
-        return;
-    }
-    let start = i * ARG_ENTRIES;
-    let end = start + 64;
-    join(&mut sets[start..end], backs);
 }
 
 // A region's calls return to `backs`: these are joined into the set of each RETURN of its list, and all other sets stay.
@@ -28,9 +23,7 @@ pub(crate) fn join_returns(stmts: &[u16], n: usize, list: &[u16], backs: &[u64],
     requires { (n ≤ 4096) × (n * 12 ≤ length stmts.now) × (n * 64 ≤ length sets.old) × (length backs.now ≡ 64) }
     ensures { ReturnsJoined stmts.now n list.now backs.now sets.old sets.new }
 {
-    let mut k: usize = 0;
-    while k < list.len() {
-        join_return(stmts, n, wide(list[k]), backs, sets);
-        k += 1;
+    for &i in list {
+        join_return(stmts, n, usize::from(i), backs, sets);
     }
 }

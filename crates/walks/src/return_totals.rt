@@ -12,6 +12,7 @@ use layout::limits::MAX_STMTS;
 use layout::words::RETURN;
 
 // How many edges node i has as a RETURN: none where it is no RETURN.
+#[tactic(auto, unfolding(passes::specs::ReturnTotals::return_size, tables::specs::Columns::word_of, passes::specs::ReturnSets::set_of))]
 fn return_size(handlers: bool, stmts: &[u16], sets: &[u64], i: usize, targets: usize) -> usize
     requires { (i < 4096) × (i * 12 + 12 ≤ length stmts.now) × (i * 64 + 64 ≤ length sets.now) }
     ensures { result ≡ pick (eqb (word_of stmts.now i) return_word) (return_size handlers targets sets.now i) 0 }
@@ -33,23 +34,19 @@ fn sum_returns(handlers: bool, stmts: &[u16], sets: &[u64], n: usize, targets: u
     ensures { result ≡ sum_where (λ i. eqb (word_of stmts.now i) return_word) (λ i. return_size handlers targets sets.now i) n }
 {
     let mut sum: usize = 0;
-    let mut i: usize = 0;
-    while i < n {
+    for i in 0..n {
         sum += return_size(handlers, stmts, sets, i, targets);
-        i += 1;
     }
     sum
 }
 
 // How many edges the RETURNs among n nodes have, of which there are at most 4,096, with at most so many targets; 0 where the tables are too short.
+#[tactic(auto, unfolding(passes::specs::ReturnTotals::return_total, passes::specs::WalkTables::sets_fit))]
 pub fn count_returns(handlers: bool, stmts: &[u16], sets: &[u64], n: usize, targets: usize) -> usize
     ensures { result ≡ return_total handlers stmts.now sets.now n targets }
 {
-    if sets_fit(stmts, sets, n) {
-        if MAX_STMTS < targets {
-            return 0;
-        }
-        return sum_returns(handlers, stmts, sets, n, targets);
+    if !sets_fit(stmts, sets, n) || MAX_STMTS < targets {
+        return 0;
     }
-    0
+    sum_returns(handlers, stmts, sets, n, targets)
 }

@@ -3,17 +3,17 @@ ghost use Rattle.std.specs.Prelude.{◌≡◌, ◌+◌, ◌%◌, ◌≤◌, ◌<
 ghost use Rattle.listings.specs.Bytes.{pick};
 ghost use Rattle.passes.specs.Sets.{inserted, joined, one_if, word_members, members_of, size_of, members_within, Put};
 
-use crate::widths::narrow;
-
-// In a function of its own, so that no other proof sees the 64 zeros.
-pub fn no_words() -> [u64; 64]
-    ensures { result ≡ replicate 64 0 }
-{
-    [0u64; 64]
-}
+use layout::zeroing::all_of;
 
 // The words of a set.
 const WORDS: usize = 64;
+
+// The empty set.
+pub fn no_words() -> [u64; 64]
+    ensures { result ≡ replicate 64 0 }
+{
+    all_of(0)
+}
 
 // The bit of an id in its word.
 pub fn bit(id: usize) -> u64
@@ -23,26 +23,23 @@ pub fn bit(id: usize) -> u64
 }
 
 // The id comes into the set, where that has a word for it.
+#[tactic(auto, unfolding(passes::specs::Sets::inserted), using(passes::specs::SetLaws::inserted_out))]
 pub fn insert(set: &mut [u64], id: usize)
     ensures { set.new ≡ inserted set.old id }
 {
     let q = id / 64;
-    if set.len() <= q {
-        return;
+    if q < set.len() {
+        set[q] |= bit(id);
     }
-    let b = bit(id);
-    set[q] = set[q] | b;
 }
 
-// All of `more` goes into `set`.
+// All of `more` goes into `set`. By places, since no clause says what a chain over `iter_mut` leaves in the set.
 pub(crate) fn join(set: &mut [u64], more: &[u64])
     requires { length more.now ≡ length set.old }
     ensures { set.new ≡ joined set.old more.now }
 {
-    let mut q: usize = 0;
-    while q < set.len() {
-        set[q] = set[q] | more[q];
-        q += 1;
+    for (q, word) in set.iter_mut().enumerate() {
+        *word |= more[q];
     }
 }
 
@@ -61,15 +58,14 @@ pub(crate) fn count_members(set: &[u64]) -> usize
     ensures { result ≡ length (members_of set.now) }
 {
     let mut n: u32 = 0;
-    let mut q: usize = 0;
-    while q < set.len() {
-        n += u64::count_ones(set[q]);
-        q += 1;
+    for &word in set {
+        n += word.count_ones();
     }
     n as usize
 }
 
 // How many members a set of 64 words has; 0 where it has not so many words.
+#[tactic(auto, unfolding(passes::specs::Sets::size_of))]
 pub fn size_of(set: &[u64]) -> usize
     ensures { result ≡ size_of set.now }
 {
@@ -87,7 +83,7 @@ fn put_if(part: &mut [u16], n: usize, i: usize, b: u64) -> usize
     if b != 1 {
         return n;
     }
-    part[n] = narrow(i);
+    part[n] = i as u16;
     n + 1
 }
 
@@ -113,22 +109,18 @@ pub(crate) fn put_members(set: &[u64], part: &mut [u16]) -> usize
     ensures { Put part.old 0 part.new result (members_of set.now) }
 {
     let mut n: usize = 0;
-    let mut q: usize = 0;
-    while q < set.len() {
-        n = put_word(part, n, q * 64, set[q]);
-        q += 1;
+    for (q, &word) in set.iter().enumerate() {
+        n = put_word(part, n, q * 64, word);
     }
     n
 }
 
 // The same for any set and any part: nothing is written where the set has not 64 words, or the part no room for all of them.
+#[tactic(auto, unfolding(passes::specs::Sets::members_within))]
 pub fn members(set: &[u64], part: &mut [u16]) -> usize
     ensures { Put part.old 0 part.new result (members_within set.now (length part.old)) }
 {
-    if set.len() != WORDS {
-        return 0;
-    }
-    if part.len() < count_members(set) {
+    if set.len() != WORDS || part.len() < count_members(set) {
         return 0;
     }
     put_members(set, part)

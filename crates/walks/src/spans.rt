@@ -8,25 +8,18 @@ ghost use Rattle.passes.specs.Prepared.{link_entries};
 ghost use Rattle.passes.specs.Regions.{TargetsFit};
 ghost use Rattle.passes.specs.Spans.{SpansGrow, Spanned, first_of};
 
-use crate::widths::narrow;
 use layout::columns::{ARG_ENTRIES, COUNT, STMT_ENTRIES};
-use layout::widths::wide;
+use layout::limits::MAX_STMTS;
 
-// In a function of its own, so that no other proof sees the zeros.
-pub(crate) fn no_spans() -> [u16; 8192]
-    ensures { result ≡ replicate 8192 0 }
-{
-    [0u16; 8192]
-}
+// How many entries the spans of all nodes have.
+pub(crate) const SPANS_LENGTH: usize = MAX_STMTS * 2;
 
 // Where a span begins that gets place k.
+#[tactic(auto, unfolding(passes::specs::Spans::first_of))]
 fn first_of(first: u16, end: u16, k: u16) -> u16
     ensures { result ≡ first_of first end k }
 {
-    if end == 0 {
-        return k;
-    }
-    first
+    if end == 0 { k } else { first }
 }
 
 // Place k, the last so far, comes into the span of the entry t - 1, where t is not 0.
@@ -34,12 +27,11 @@ fn span_some(t: u16, k: u16, spans: &mut [u16])
     requires { (t ≤ 4096) × (k < 4096) × (length spans.old ≡ 8192) }
     ensures { SpansGrow k (decode t) spans.old spans.new }
 {
-    if t == 0 {
-        return;
+    if let Some(a) = t.checked_sub(1) {
+        let at = usize::from(a) * 2;
+        spans[at] = first_of(spans[at], spans[at + 1], k);
+        spans[at + 1] = k + 1;
     }
-    let at = (wide(t) - 1) * 2;
-    spans[at] = first_of(spans[at], spans[at + 1], k);
-    spans[at + 1] = k + 1;
 }
 
 // It comes into those of the entries that a row of links names.
@@ -47,10 +39,8 @@ fn span_row(row: &[u16], k: u16, spans: &mut [u16])
     requires { All (λ (t : ℕ). t ≤ 4096) row.now × (k < 4096) × (length spans.old ≡ 8192) }
     ensures { SpansGrow k (each decode row.now) spans.old spans.new }
 {
-    let mut i: usize = 0;
-    while i < row.len() {
-        span_some(row[i], k, spans);
-        i += 1;
+    for &t in row {
+        span_some(t, k, spans);
     }
 }
 
@@ -60,7 +50,7 @@ fn span_call(stmts: &[u16], links: &[u16], c: usize, k: u16, spans: &mut [u16])
     ensures { SpansGrow k (link_entries stmts.now links.now c) spans.old spans.new }
 {
     let at = c * ARG_ENTRIES;
-    let end = at + wide(stmts[c * STMT_ENTRIES + COUNT]);
+    let end = at + usize::from(stmts[c * STMT_ENTRIES + COUNT]);
     span_row(&links[at..end], k, spans);
 }
 
@@ -69,9 +59,7 @@ pub(crate) fn span_calls(stmts: &[u16], links: &[u16], calls: &[u16], spans: &mu
     requires { All (TargetsFit stmts.now links.now) calls.now × (length calls.now ≤ 4096) × (spans.old ≡ replicate 8192 0) }
     ensures { Spanned stmts.now links.now calls.now (length calls.now) spans.new }
 {
-    let mut k: usize = 0;
-    while k < calls.len() {
-        span_call(stmts, links, wide(calls[k]), narrow(k), spans);
-        k += 1;
+    for (k, &c) in calls.iter().enumerate() {
+        span_call(stmts, links, usize::from(c), k as u16, spans);
     }
 }

@@ -2,10 +2,9 @@
 ghost use Rattle.std.specs.Prelude.{◌≡◌, false, ◌<◌, ◌≤◌, length, replicate};
 ghost use Rattle.passes.specs.Walk.{Stored, stored_list, RegionListed, Markable, ListMarked};
 
-use crate::widths::narrow;
 use layout::columns::{LIST_ENTRIES, SUCC_COUNT};
 use layout::limits::MAX_STMTS;
-use layout::widths::wide;
+use layout::zeroing::all_of;
 
 // Marks the nodes of a list, and puts those that had no mark behind the `count` nodes of `work`. A node comes there with its mark, so the
 // free marks leave room.
@@ -18,33 +17,23 @@ pub(crate) fn mark_all(
     requires { Markable 4096 list.now marks.old work.old count }
     ensures { ListMarked list.now marks.old work.old count marks.new work.new result }
 {
-    let mut k: usize = 0;
     let mut n = count;
-    while k < list.len() {
-        let w = list[k];
-        let x = wide(w);
+    for &w in list {
+        let x = usize::from(w);
         if !marks[x] {
             marks[x] = true;
             work[n] = w;
             n += 1;
         }
-        k += 1;
     }
     n
 }
 
-// In a function of its own: a caller's proof then speaks of 4,096 equal marks by their number alone.
+// No node is marked.
 pub fn no_marks() -> [bool; MAX_STMTS]
     ensures { result ≡ replicate 4096 false }
 {
-    [false; MAX_STMTS]
-}
-
-// An empty worklist with room for all nodes.
-pub(crate) fn no_work() -> [u16; MAX_STMTS]
-    ensures { length result ≡ 4096 }
-{
-    [0u16; MAX_STMTS]
+    all_of(false)
 }
 
 // Lists every node that the stored lists lead to from `from`, each once, and answers how many. The steps of the first `done` of them are
@@ -55,14 +44,15 @@ pub(crate) fn region(lists: &[u16], edges: &[u16], n: usize, from: usize, work: 
 {
     let mut marks = no_marks();
     marks[from] = true;
-    work[0] = narrow(from);
+    work[0] = from as u16;
     let mut done: usize = 0;
     let mut count: usize = 1;
+    // The list grows while it is walked, so there is no range to run over.
     while done < count {
-        let v = wide(work[done]);
+        let v = usize::from(work[done]);
         done += 1;
-        let start = wide(lists[v * LIST_ENTRIES]);
-        let end = start + wide(lists[v * LIST_ENTRIES + SUCC_COUNT]);
+        let start = usize::from(lists[v * LIST_ENTRIES]);
+        let end = start + usize::from(lists[v * LIST_ENTRIES + SUCC_COUNT]);
         count = mark_all(&edges[start..end], &mut marks, work, count);
     }
     count

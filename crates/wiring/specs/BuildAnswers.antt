@@ -19,8 +19,8 @@ use Rattle.passes.specs.Room.{room_fits, fits_room}
 use Rattle.passes.specs.TableForms.{Sizes, capacity, capacity_is, Tables, Written, AllZero}
 use Rattle.wiring.specs.GraphTables.{Writes, BuildWrote, writes_graph, writes_refusal}
 use Rattle.wiring.specs.Refusals.{ListingOf, FileOf, Gives, NumberOf, ReadAs, LinesFit, NodesFit, EdgesFit, LongEnough, Refusal, input, no_lines, no_nodes, no_edges}
-use Rattle.wiring.specs.declared.build.Built.{Built as BuiltAnswer}
-use Rattle.wiring.specs.declared.build.Built.TheVariants as answer
+use Rattle.wiring.specs.BuiltAnswer.{BuiltAnswer}
+use Rattle.wiring.specs.BuiltAnswer as answer
 
 -- ---- the definition's answer for a listing that was read, case by case
 

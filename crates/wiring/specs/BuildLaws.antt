@@ -1,5 +1,5 @@
 -- From what the reader answers to what a build answers. Assumes nothing.
-use Rattle.std.specs.Prelude.{ℕ, ◌*◌, ◌/◌, ◌≤◌, min, ◌≡◌, refl, Bool, true, false, ◌&&◌, List, leb, replicate}
+use Rattle.std.specs.Prelude.{ℕ, ◌*◌, ◌/◌, ◌≤◌, min, ◌≡◌, refl, Bool, true, false, ◌&&◌, List, leb, replicate, Result, Ok, Err}
 use Rattle.std.proofs.Common.{sym, subst, ◌∙◌, arith}
 use Rattle.std.proofs.Math.Path.{ap}
 use Rattle.std.proofs.Math.Nat.{min-le_left, min-le_right}
@@ -11,17 +11,18 @@ use Rattle.listings.specs.Read.{Answer, listing, refusal}
 use Rattle.listings.specs.Records.{line_numbers, line_recs, rec_rows, arg_rows, padded, counts_of, fitted as read_fitted, answer_of as read_answer, table_of as read_table}
 use Rattle.reader.specs.Tables.{padded-length}
 use Rattle.reader.specs.Listed.{line_entries, stmt_entries, arg_entries}
-use Rattle.reader.specs.declared.listing.Listed.{Listed}
+use Rattle.reader.specs.declared.listing.Accepted.{Accepted}
+use Rattle.layout.specs.Refusals.{number_of}
+use Rattle.layout.specs.declared.refusals.Refusal.{Refusal}
 use Rattle.reader.specs.Answer.{was_accepted, was_refused}
-use Rattle.reader.specs.declared.listing.Listed.TheVariants as listed
 use Rattle.graph.specs.Build.{Capacity, Built, graph, refused, edge_count, fitted, built_of_answer}
 use Rattle.passes.specs.HoldsListing.{HoldsListing}
 use Rattle.passes.specs.Reading.{read_by, FittingRead, Fits, ReadWithin, read_fits}
 use Rattle.passes.specs.Room.{stmt_room, StmtsFit, room_fits}
 use Rattle.passes.specs.TableForms.{Sizes, sizes_of, tables_of, capacity, capacity_is}
 use Rattle.wiring.specs.GraphTables.{Answered, edges_fitted, Zeroed, refusal_writes}
-use Rattle.wiring.specs.declared.build.Built.{Built as BuiltAnswer}
-use Rattle.wiring.specs.declared.build.Built.TheVariants as answer
+use Rattle.wiring.specs.BuiltAnswer.{BuiltAnswer}
+use Rattle.wiring.specs.BuiltAnswer as answer
 
 -- ---- the definition's answer, by the reader's
 
@@ -114,11 +115,13 @@ module _ (q : Answer) (ok : ReadWithin q) (lines stmts args entries falls links 
 
   module _ (c l t a e f k i r u p : List ℕ) (ze : Zeroed entries e) (zf : Zeroed falls f) (zk : Zeroed links k)
       (zi : Zeroed lists i) (zr : Zeroed returns r) (zu : Zeroed succ u) (zp : Zeroed pred p) where
-    pub build-refused : (n at : ℕ) → FittingRead q K N (length lines) (length stmts) (length args) c l t a (listed.Refused n at)
-        → Answered (built_of_answer (capacity S) q) S c l t a e f k i r u p (answer.Refused n at)
+    pub build-refused : (y : Refusal) → FittingRead q K N (length lines) (length stmts) (length args) c l t a (Err y)
+        → Answered (built_of_answer (capacity S) q) S c l t a e f k i r u p (answer.Refused (number_of y.reason) y.place)
     unfolding read_table
-    build-refused n at w =
-        let d = was_refused (read_by K N q) n at w.answer in
+    build-refused y w =
+        let n = number_of y.reason in
+        let at = y.place in
+        let d = was_refused (read_by K N q) y w.answer in
         let b : built_of_answer (capacity S) q ≡ refused n at = by_reading (refusal n at) d in
         rw b (refusal_writes n at S (tables_of c l t a e f k i r u p) (record {
           counts = w.counts ∙ ap (λ (z : Answer). read_table counts_of z 6) d;
@@ -134,7 +137,7 @@ module _ (q : Answer) (ok : ReadWithin q) (lines stmts args entries falls links 
           pred = zp;
         }))
 
-    module _ (h : Bool) (x n : ℕ) (w : FittingRead q K N (length lines) (length stmts) (length args) c l t a (listed.Accepted h x n)) (L₀ : Listing)
+    module _ (h : Bool) (x n : ℕ) (w : FittingRead q K N (length lines) (length stmts) (length args) c l t a (Ok (record { handlers = h; lines = x; stmts = n }))) (L₀ : Listing)
         (found : (read_by K N q ≡ listing L₀) × (h ≡ L₀.handlers) × (x ≡ count L₀.lines) × (n ≡ total L₀.lines)) where
       fits : Fits q K N L₀
       fits = read_fits q ok K N L₀ found.0
@@ -228,13 +231,13 @@ module _ (q : Answer) (ok : ReadWithin q) (lines stmts args entries falls links 
           let b : built_of_answer (capacity S) q ≡ edges_fitted (min (length succ) (length pred)) L₀ = by_reading (listing L₀) found.0 in
           rw b (subst (λ (s : Sizes). Answered (edges_fitted (min s.succ s.pred) L₀) s c' l' t' a' e' f' k' i' r' u' p' y) same_sizes (g L₀ holds found.1))
 
-    module _ (h : Bool) (x n : ℕ) (w : FittingRead q K N (length lines) (length stmts) (length args) c l t a (listed.Accepted h x n)) where
+    module _ (h : Bool) (x n : ℕ) (w : FittingRead q K N (length lines) (length stmts) (length args) c l t a (Ok (record { handlers = h; lines = x; stmts = n }))) where
       pub build_ready : GraphReady h x n c l t a e f k i r u p
-      build_ready = let g = was_accepted (read_by K N q) h x n w.answer in ready h x n w g.0 (g.1, g.2, g.3, g.4)
+      build_ready = let g = was_accepted (read_by K N q) (record { handlers = h; lines = x; stmts = n }) w.answer in ready h x n w g.0 (g.1, g.2, g.3, g.4)
 
       pub build_accepted : (c' l' t' a' e' f' k' i' r' u' p' : List ℕ) (y : BuiltAnswer) → GraphMade h x n l t a (sizes_of l t a e f k i r u p) c' l' t' a' e' f' k' i' r' u' p' y
           → Answered (built_of_answer (capacity S) q) S c' l' t' a' e' f' k' i' r' u' p' y
-      build_accepted = let g = was_accepted (read_by K N q) h x n w.answer in made h x n w g.0 (g.1, g.2, g.3, g.4)
+      build_accepted = let g = was_accepted (read_by K N q) (record { handlers = h; lines = x; stmts = n }) w.answer in made h x n w g.0 (g.1, g.2, g.3, g.4)
 
 -- ---- with the rooms and the reader's answer as they come
 
@@ -243,24 +246,24 @@ module _ (b : Answer) (ok : ReadWithin b) (lines stmts args entries falls links 
   pub rooms : (kl ≤ length lines) × (kn * 12 ≤ length stmts) × (kn * 64 ≤ length args)
   rooms = rw (ek, en) (rooms_fit b ok lines stmts args entries falls links lists returns succ pred)
 
-  module _ {c l t a e f k i r u p : List ℕ} {v : Listed} (ze : Zeroed entries e × Zeroed falls f × Zeroed links k)
+  module _ {c l t a e f k i r u p : List ℕ} {v : Result Accepted Refusal} (ze : Zeroed entries e × Zeroed falls f × Zeroed links k)
       (zi : Zeroed lists i × Zeroed returns r × Zeroed succ u × Zeroed pred p) (w : FittingRead b kl kn (length lines) (length stmts) (length args) c l t a v) where
-    pub refused-build : (n at : ℕ) → v ≡ listed.Refused n at
+    pub refused-build : (y : Refusal) → v ≡ Err y
         → Answered (built_of_answer (capacity (sizes_of lines stmts args entries falls links lists returns succ pred)) b) (sizes_of lines stmts args entries falls links lists returns succ pred)
-        c l t a e f k i r u p (answer.Refused n at)
-    refused-build n at q =
+        c l t a e f k i r u p (answer.Refused (number_of y.reason) y.place)
+    refused-build y q =
         build-refused b ok lines stmts args entries falls links lists returns succ pred c l t a e f k i r u p
-        ze.0 ze.1 ze.2 zi.0 zi.1 zi.2 zi.3 n at (rw (ek, en, q) at w)
+        ze.0 ze.1 ze.2 zi.0 zi.1 zi.2 zi.3 y (rw (ek, en, q) at w)
 
-    module _ (h : Bool) (x n : ℕ) (q : v ≡ listed.Accepted h x n) where
-      pub ready_build : GraphReady h x n c l t a e f k i r u p
+    module _ (y : Accepted) (q : v ≡ Ok y) where
+      pub ready_build : GraphReady y.handlers y.lines y.stmts c l t a e f k i r u p
       ready_build =
           build_ready b ok lines stmts args entries falls links lists returns succ pred c l t a e f k i r u p
-          ze.0 ze.1 ze.2 zi.0 zi.1 zi.2 zi.3 h x n (rw (ek, en, q) at w)
+          ze.0 ze.1 ze.2 zi.0 zi.1 zi.2 zi.3 y.handlers y.lines y.stmts (rw (ek, en, q) at w)
 
-      pub accepted_build : {c' l' t' a' e' f' k' i' r' u' p' : List ℕ} {y : BuiltAnswer} → GraphMade h x n l t a (sizes_of l t a e f k i r u p) c' l' t' a' e' f' k' i' r' u' p' y
+      pub accepted_build : {c' l' t' a' e' f' k' i' r' u' p' : List ℕ} {z : BuiltAnswer} → GraphMade y.handlers y.lines y.stmts l t a (sizes_of l t a e f k i r u p) c' l' t' a' e' f' k' i' r' u' p' z
           → Answered (built_of_answer (capacity (sizes_of lines stmts args entries falls links lists returns succ pred)) b) (sizes_of lines stmts args entries falls links lists returns succ pred)
-          c' l' t' a' e' f' k' i' r' u' p' y
-      accepted_build {c'} {l'} {t'} {a'} {e'} {f'} {k'} {i'} {r'} {u'} {p'} {y} g =
+          c' l' t' a' e' f' k' i' r' u' p' z
+      accepted_build {c'} {l'} {t'} {a'} {e'} {f'} {k'} {i'} {r'} {u'} {p'} {z} g =
           build_accepted b ok lines stmts args entries falls links lists returns succ pred c l t a e f k i r u p
-          ze.0 ze.1 ze.2 zi.0 zi.1 zi.2 zi.3 h x n (rw (ek, en, q) at w) c' l' t' a' e' f' k' i' r' u' p' y g
+          ze.0 ze.1 ze.2 zi.0 zi.1 zi.2 zi.3 y.handlers y.lines y.stmts (rw (ek, en, q) at w) c' l' t' a' e' f' k' i' r' u' p' z g

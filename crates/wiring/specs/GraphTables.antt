@@ -6,8 +6,8 @@ use Rattle.listings.specs.Listing.{Listing}
 use Rattle.listings.specs.Read.{Answer}
 use Rattle.graph.specs.Build.{Built, graph, refused, edge_count, built_of_answer}
 use Rattle.passes.specs.TableForms.{Sizes, capacity, Tables, count_table, line_table, stmt_table, arg_table, entry_table, fall_table, links_table, list_table, return_table, succ_table, pred_table, Written, AllZero}
-use Rattle.wiring.specs.declared.build.Built.{Built as BuiltAnswer}
-use Rattle.wiring.specs.declared.build.Built.TheVariants as answer
+use Rattle.wiring.specs.BuiltAnswer.{BuiltAnswer}
+use Rattle.wiring.specs.BuiltAnswer as answer
 
 -- ---- the answer
 

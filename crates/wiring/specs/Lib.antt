@@ -10,3 +10,7 @@ pub mod GraphOf
 pub mod WrittenLaws
 pub mod BuildAnswers
 pub mod Limits
+pub mod CameBefore
+pub mod FrameWords
+pub mod Places
+pub mod BuiltAnswer

@@ -1,15 +1,18 @@
 -- From the counted edges to the written graph. Assumes nothing.
-use Rattle.std.specs.Prelude.{ℕ, ◌*◌, ◌≤◌, ◌≡◌, refl, Bool, true, false, List, length}
-use Rattle.std.proofs.Common.{sym, ◌∙◌, arith}
+use Rattle.std.specs.Prelude.{Result, ℕ, ◌*◌, ◌≤◌, ◌≡◌, refl, Bool, true, false, List, length, replicate, Ok, Err}
+use Rattle.std.proofs.Common.{sym, ap, ◌∙◌, arith}
+use Rattle.layout.specs.declared.refusals.Reason.TheVariants.{EdgeTables}
+use Rattle.layout.specs.declared.refusals.Refusal.{Refusal}
+use Rattle.layout.specs.Refusals.{refusal_at}
+use Rattle.listings.specs.Bytes.{pick}
 use Rattle.listings.specs.Listing.{Listing}
 use Rattle.graph.specs.Build.{edge_count}
 use Rattle.wiring.specs.Wiring.{WireHeld, WireReady, WiringDone}
-use Rattle.passes.specs.Preparing.{FramesMade, with_frames}
+use Rattle.passes.specs.Preparing.{FramesMade, with_frames, zeros_size}
 use Rattle.wiring.specs.CountGraph.{CountReady, CountedTo, GraphCounted}
 use Rattle.wiring.specs.WriteGraph.{WriteHeld, graph_written}
 use Rattle.storing.specs.EdgesFit.{edges_fit, EdgesFit, edges_fit_lem}
 use Rattle.storing.specs.StoredGraph.{GraphAnswered}
-use Rattle.storing.specs.declared.write_graph.Stored.{Stored}
 
 -- ---- the graph
 
@@ -46,26 +49,30 @@ module _ {handlers : Bool} {c n d : ℕ} {counts stmts args entries falls links 
       → s ≡ length succ → p ≡ length pred → x ≡ edges_fit (edge_count L) s p
   same_test {L} x s p w q es ep = rw (es, ep, ← (counted w).edges_are) q
 
-  pub wired_yes : {counts' args' lists' succ' pred' : List ℕ} {answer : Stored} (x : Bool) → x ≡ edges_fit edges (length succ) (length pred) → x ≡ true → length succ' ≡ length succ
+  pub wired_yes : {counts' args' lists' succ' pred' : List ℕ} {answer : Result ℕ Refusal} (x : Bool) → x ≡ edges_fit edges (length succ) (length pred) → x ≡ true → length succ' ≡ length succ
       → length pred' ≡ length pred → n * 4 ≤ length lists₁
       → GraphAnswered handlers stmts args₁ falls links n c counts lists₁ scratch₁ returns₁ targets succ pred counts' args' lists' succ' pred' answer
-      → (L : Listing) → WireHeld L handlers c n counts stmts args entries falls links succ pred → WiringDone L args counts' args' lists' returns₁ succ' pred' true edges
+      → (L : Listing) → WireHeld L handlers c n counts stmts args entries falls links succ pred → WiringDone L args counts' args' lists' returns₁ succ' pred' (Ok tt)
   wired_yes {succ' = succ'} {pred' = pred'} x q t es ep rows f L w =
       record {
-        fits = sym t ∙ same_test x (length succ') (length pred') w q es ep;
-        counted = (counted w).edges_are;
+        answered = ap (λ (z : Bool). pick z (Ok tt) (Err (refusal_at EdgeTables (edge_count L)))) (sym t ∙ same_test x (length succ') (length pred') w q es ep);
         graph = λ e. graph_written (write_held w rows (edges_fit_lem edges (length succ) (length pred) (sym q ∙ t))) f;
       }
 
-  pub wired_no : {counts' args' lists' returns' : List ℕ} (x : Bool) → x ≡ edges_fit edges (length succ) (length pred) → x ≡ false
-      → (L : Listing) → WireHeld L handlers c n counts stmts args entries falls links succ pred → WiringDone L args counts' args' lists' returns' succ pred false edges
-  wired_no x q t L w =
-      record { fits = sym t ∙ same_test x (length succ) (length pred) w q refl refl; counted = (counted w).edges_are; graph = λ e. absurd (let z : ◌≡◌ {A = ℕ} 0 1 = cc in omega arith) }
+  pub wired_no : {counts' args' lists' returns' : List ℕ} (x : Bool) (r : Refusal) → x ≡ edges_fit edges (length succ) (length pred) → x ≡ false → r ≡ refusal_at EdgeTables edges
+      → (L : Listing) → WireHeld L handlers c n counts stmts args entries falls links succ pred → WiringDone L args counts' args' lists' returns' succ pred (Err r)
+  wired_no x r q t er L w =
+      record {
+        answered = ap Err er ∙ ap (λ (e : ℕ). Err (refusal_at EdgeTables e)) (counted w).edges_are
+            ∙ ap (λ (z : Bool). pick z (Ok tt) (Err (refusal_at EdgeTables (edge_count L)))) (sym t ∙ same_test x (length succ) (length pred) w q refl refl);
+        graph = λ e. cc;
+      }
 
 module _ {handlers : Bool} {c n d : ℕ} {counts stmts args entries falls links frames dispatched lists returns succ pred : List ℕ}
     (r : WireReady handlers c n counts stmts args entries falls links lists returns succ pred) (m : FramesMade stmts falls frames dispatched n d) where
-  pub ready_count : (scratch : List ℕ) → length scratch ≡ 36864 → (room : ℕ) → room ≡ 4096 → CountReady handlers stmts args entries falls links frames dispatched c n d lists scratch returns room
-  ready_count scratch es room eb =
+  pub ready_count : (scratch : List ℕ) (k : ℕ) → scratch ≡ replicate k 0 → k ≡ 36864 → (buffer : List ℕ) (j : ℕ) → buffer ≡ replicate j 0 → j ≡ 4096
+      → CountReady handlers stmts args entries falls links frames dispatched c n d lists scratch returns (length buffer)
+  ready_count scratch k es ek buffer j eb ej =
       record {
         listing = r.listing;
         handled = r.held.handlers_are;
@@ -74,6 +81,6 @@ module _ {handlers : Bool} {c n d : ℕ} {counts stmts args entries falls links 
         returns_fit = r.returns_fit;
         zero_lists = r.zero_lists;
         zero_returns = r.zero_returns;
-        scratch_size = es;
-        buffer_size = eb;
+        scratch_size = zeros_size k scratch es ∙ ek;
+        buffer_size = zeros_size j buffer eb ∙ ej;
       }

@@ -1,5 +1,9 @@
 -- The lists of all nodes: counted, and written where they fit. Assumes nothing.
-use Rattle.std.specs.Prelude.{ℕ, ◌*◌, ◌≤◌, min, ◌≡◌, Bool, true, ◌&&◌, List, leb, length, replicate}
+use Rattle.std.specs.Prelude.{ℕ, ◌*◌, ◌≤◌, min, ◌≡◌, Bool, ◌&&◌, List, leb, length, replicate, Result, Ok, Err}
+use Rattle.layout.specs.declared.refusals.Reason.TheVariants.{EdgeTables}
+use Rattle.layout.specs.declared.refusals.Refusal.{Refusal}
+use Rattle.layout.specs.Refusals.{refusal_at}
+use Rattle.listings.specs.Bytes.{pick}
 use Rattle.listings.specs.Listing.{Listing}
 use Rattle.listings.specs.Records.{padded, counts_of}
 use Rattle.graph.specs.Build.{edge_count}
@@ -32,12 +36,15 @@ pub record WiredGraph (L : Listing) (ks counts args lists returns succ pred : Li
   pub succ_are : succ ≡ succ_table L (length succ)
   pub pred_are : pred ≡ pred_table L (length pred)
 
--- of every listing that the tables hold: the graph is written if its edges fit, and they are counted
-pub record WiringDone (L : Listing) (args counts' args' lists' returns' succ' pred' : List ℕ) (written : Bool) (edges : ℕ) : Type 0 where
-  pub fits : written ≡ (leb (edge_count L) (min (length succ') (length pred')) && leb (edge_count L) 32768)
-  pub counted : edges ≡ edge_count L
-  pub graph : written ≡ true → WiredGraph L args counts' args' lists' returns' succ' pred'
+-- "23 either edge table too short or over 32,768 edges", and how many they are
+abbrev pub by_edges : (edges room : ℕ) → Result (Unit {0}) Refusal
+by_edges edges room = pick (leb edges room && leb edges 32768) (Ok tt) (Err (refusal_at EdgeTables edges))
 
-abbrev pub WiredTo : (handlers : Bool) (c n : ℕ) (stmts args entries falls links counts succ pred counts' args' lists' returns' succ' pred' : List ℕ) (written : Bool) (edges : ℕ) → Type 0
-WiredTo h c n stmts args entries falls links counts succ pred counts' args' lists' returns' succ' pred' written edges =
-    (L : Listing) → WireHeld L h c n counts stmts args entries falls links succ pred → WiringDone L args counts' args' lists' returns' succ' pred' written edges
+-- of every listing that the tables hold: the graph is written if its edges fit
+pub record WiringDone (L : Listing) (args counts' args' lists' returns' succ' pred' : List ℕ) (answer : Result (Unit {0}) Refusal) : Type 0 where
+  pub answered : answer ≡ by_edges (edge_count L) (min (length succ') (length pred'))
+  pub graph : answer ≡ Ok tt → WiredGraph L args counts' args' lists' returns' succ' pred'
+
+abbrev pub WiredTo : (handlers : Bool) (c n : ℕ) (stmts args entries falls links counts succ pred counts' args' lists' returns' succ' pred' : List ℕ) (answer : Result (Unit {0}) Refusal) → Type 0
+WiredTo h c n stmts args entries falls links counts succ pred counts' args' lists' returns' succ' pred' answer =
+    (L : Listing) → WireHeld L h c n counts stmts args entries falls links succ pred → WiringDone L args counts' args' lists' returns' succ' pred' answer

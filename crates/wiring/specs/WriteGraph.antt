@@ -1,5 +1,5 @@
 -- The last stage of a build: on a listing's tables what is written are its graph's tables. Assumes nothing.
-use Rattle.std.specs.Prelude.{ℕ, ◌+◌, ◌-◌, ◌*◌, ◌/◌, ◌%◌, ◌≤◌, ◌<◌, ◌≡◌, refl, Bool, true, List, ◌++◌, ◌⊎◌, length, get_or, set, drop, replicate}
+use Rattle.std.specs.Prelude.{Result, Ok, Err, ℕ, ◌+◌, ◌-◌, ◌*◌, ◌/◌, ◌%◌, ◌≤◌, ◌<◌, ◌≡◌, refl, Bool, true, List, ◌++◌, ◌⊎◌, length, get_or, set, drop, replicate}
 use Rattle.std.proofs.Common.{sym, ap, ◌∙◌, inl, inr, arith, length-append, length-drop, ext_get_or}
 use Rattle.std.proofs.Math.Option.{none}
 use Rattle.listings.specs.Listing.{Listing, count}
@@ -8,6 +8,7 @@ use Rattle.graph.specs.Nodes.{entries}
 use Rattle.passes.specs.LineEntries.{entries-length}
 use Rattle.reader.specs.Tables.{drop_zeros}
 use Rattle.graph.specs.Graph.{Wired, wire, skip_steps, all_successors, return_targets}
+use Rattle.graph.specs.Questions as reply
 use Rattle.graph_laws.specs.GraphLaws.{node_count}
 use Rattle.graph.specs.Build.{edge_count}
 use Rattle.passes.specs.Compare.{eq-or, lt-or}
@@ -17,11 +18,11 @@ use Rattle.passes.specs.Predecessors.{preds_of, all_lists, successor_lists}
 use Rattle.passes.specs.EdgeCount.{edges-joined}
 use Rattle.passes.specs.PreparedLaws.{return_row}
 use Rattle.passes.specs.TableForms.{count_table, count-table, list-table, return_table_lem, succ_table_lem, pred_table_lem}
+use Rattle.tables.specs.Told.{told}
 use Rattle.storing.specs.EdgesFit.{edges_fit, fit_edges}
 use Rattle.storing.specs.Predecessors.{sources_of, sources_are}
 use Rattle.storing.specs.StoredGraph.{graph_readable, final_lists, stored_of, GraphStored, TablesAnswered, GraphAnswered, read_graph}
-use Rattle.storing.specs.declared.write_graph.Stored.{Stored}
-use Rattle.storing.specs.declared.write_graph.Stored.TheVariants as stored
+use Rattle.layout.specs.declared.refusals.Refusal.{Refusal}
 use Rattle.wiring.specs.FinalGraph.{FinalTables, SkipsHeld, few_through, finals_are, graph_reads}
 use Rattle.wiring.specs.Wiring.{WiredGraph}
 
@@ -120,19 +121,19 @@ module _ {L : Listing} {ks : List ℕ} {handlers : Bool} {stmts args entries fal
       let e = q.edges in
       fit_edges (length (joined_lists ls)) (length succ) (length pred) (record { few = omega (arith, total, e.few_edges); in_succ = omega (arith, total, e.succ_fits); in_pred = omega (arith, total, e.pred_fits) })
 
-  module _ {counts' args' lists' succ' pred' : List ℕ} {r : Stored} (f : GraphAnswered handlers stmts args falls links n lines counts lists scratch returns targets succ pred counts' args' lists' succ' pred' r) where
+  module _ {counts' args' lists' succ' pred' : List ℕ} {r : Result ℕ Refusal} (f : GraphAnswered handlers stmts args falls links n lines counts lists scratch returns targets succ pred counts' args' lists' succ' pred' r) where
     -- so the answer is the count of edges
-    written : r ≡ stored.Written (length (joined_lists ls))
+    written : told r ≡ reply.answer (length (joined_lists ls))
     unfolding stored_of
     written = f.answer ∙ rw (readable, fitting)
 
     tables : GraphStored stmts args n lines counts lists targets succ pred ls counts' args' lists' succ' pred'
     tables = go r written f.tables
       where
-        go : (r : Stored) → r ≡ stored.Written (length (joined_lists ls)) → TablesAnswered r stmts args n lines counts lists targets succ pred ls counts' args' lists' succ' pred'
+        go : (r : Result ℕ Refusal) → told r ≡ reply.answer (length (joined_lists ls)) → TablesAnswered r stmts args n lines counts lists targets succ pred ls counts' args' lists' succ' pred'
             → GraphStored stmts args n lines counts lists targets succ pred ls counts' args' lists' succ' pred'
-        go (stored.Written edges) e t = t
-        go (stored.Refused number place) e t = absurd (let z : ◌≡◌ {A = ℕ} 0 1 = cc in omega arith)
+        go (Ok edges) e t = t
+        go (Err refusal) e t = absurd (let z : ◌≡◌ {A = ℕ} 0 1 = cc in omega arith)
 
     -- each predecessor stands once
     once : sources_of ls ≡ preds_of (all_successors L)

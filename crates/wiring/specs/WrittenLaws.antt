@@ -13,7 +13,7 @@ use Rattle.reader.specs.ReadBack.{lines_wide}
 use Rattle.graph_laws.specs.Adding.{node_number, decode_number}
 use Rattle.graph.specs.Nodes.{Node, LineEntry, Entries, nodes}
 use Rattle.graph_laws.specs.NodeLaws.{length-nodes}
-use Rattle.graph.specs.Graph.{returns, wire, continuation, all_successors, return_targets, successors, predecessors}
+use Rattle.graph.specs.Graph.{wire, continuation, all_successors, return_targets, successors, predecessors}
 use Rattle.graph_laws.specs.GraphLaws.{node_count}
 use Rattle.graph.specs.Build.{edge_count}
 use Rattle.passes.specs.EdgeTable.{start_of, length-rows, list_rows, lists_at}

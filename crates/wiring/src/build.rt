@@ -3,6 +3,7 @@ ghost use Rattle.std.specs.Prelude.{◌≡◌, replicate};
 ghost use Rattle.listings.specs.Cut.{meant};
 ghost use Rattle.program_files.specs.Inputs.{meaning};
 ghost use Rattle.passes.specs.TableForms.{sizes_of, tables_of};
+ghost use Rattle.wiring.specs.BuiltAnswer.{built_told};
 ghost use Rattle.wiring.specs.GraphTables.{Zeroed, BuildWrote};
 ghost use Rattle.wiring.specs.BuildLaws.{GraphReady, GraphMade};
 
@@ -10,33 +11,25 @@ use crate::prepare::prepare;
 use crate::reading::read_fitting;
 use crate::room::{line_room, stmt_room};
 use crate::wire::wire_graph;
-use layout::zeroing::{zero16, zero64};
-use reader::listing::Listed;
-
-// The graph is in the tables, or document 01's number and place.
-#[derive(Drop)]
-pub enum Built {
-    Graph,
-    Refused { number: u8, place: usize },
-}
+use layout::refusals::Refusal;
 
 // What the passes before the lists write becomes zero.
 fn clear_links(entries: &mut [u16], falls: &mut [u16], links: &mut [u16])
     ensures { Zeroed entries.old entries.new × Zeroed falls.old falls.new × Zeroed links.old links.new }
 {
-    zero16(entries);
-    zero16(falls);
-    zero16(links);
+    entries.fill(0);
+    falls.fill(0);
+    links.fill(0);
 }
 
 // The lists become zero.
 fn clear_lists(lists: &mut [u16], returns: &mut [u16], succ: &mut [u16], pred: &mut [u16])
     ensures { Zeroed lists.old lists.new × Zeroed returns.old returns.new × Zeroed succ.old succ.new × Zeroed pred.old pred.new }
 {
-    zero16(lists);
-    zero16(returns);
-    zero16(succ);
-    zero16(pred);
+    lists.fill(0);
+    returns.fill(0);
+    succ.fill(0);
+    pred.fill(0);
 }
 
 // The reader's records become zero.
@@ -44,9 +37,9 @@ fn clear_records(counts: &mut [u32; 6], lines: &mut [u16], stmts: &mut [u16], ar
     ensures { (counts.new ≡ replicate 6 0) × Zeroed lines.old lines.new × Zeroed stmts.old stmts.new × Zeroed args.old args.new }
 {
     *counts = [0u32; 6];
-    zero16(lines);
-    zero16(stmts);
-    zero64(args);
+    lines.fill(0);
+    stmts.fill(0);
+    args.fill(0);
 }
 
 // The graph of the listing that the reader's tables hold; all other tables are zero.
@@ -65,24 +58,22 @@ fn graph_of(
     returns: &mut [u16],
     succ: &mut [u16],
     pred: &mut [u16],
-) -> Built
+) -> Result<(), Refusal>
     requires { GraphReady handlers count n counts.old lines.old stmts.old args.old entries.old falls.old links.old lists.old returns.old succ.old pred.old }
-    ensures { GraphMade handlers count n lines.old stmts.old args.old (sizes_of lines.old stmts.old args.old entries.old falls.old links.old lists.old returns.old succ.old pred.old) counts.new lines.new stmts.new args.new entries.new falls.new links.new lists.new returns.new succ.new pred.new result }
+    ensures { GraphMade handlers count n lines.old stmts.old args.old (sizes_of lines.old stmts.old args.old entries.old falls.old links.old lists.old returns.old succ.old pred.old) counts.new lines.new stmts.new args.new entries.new falls.new links.new lists.new returns.new succ.new pred.new (built_told result) }
 {
     let found = prepare(lines, stmts, args, entries, falls, links, count, n);
-    let w = wire_graph(
+    match wire_graph(
         handlers, count, n, found, counts, stmts, args, entries, falls, links, lists, returns,
         succ, pred,
-    );
-    if w.written {
-        return Built::Graph;
-    }
-    clear_records(counts, lines, stmts, args);
-    clear_links(entries, falls, links);
-    clear_lists(lists, returns, succ, pred);
-    Built::Refused {
-        number: w.number,
-        place: w.place,
+    ) {
+        Ok(()) => Ok(()),
+        Err(refusal) => {
+            clear_records(counts, lines, stmts, args);
+            clear_links(entries, falls, links);
+            clear_lists(lists, returns, succ, pred);
+            Err(refusal)
+        }
     }
 }
 
@@ -102,8 +93,8 @@ pub fn build_input(
     returns: &mut [u16],
     succ: &mut [u16],
     pred: &mut [u16],
-) -> Built
-    ensures { BuildWrote (meaning program input.now) (sizes_of lines.old stmts.old args.old entries.old falls.old links.old lists.old returns.old succ.old pred.old) (tables_of counts.new lines.new stmts.new args.new entries.new falls.new links.new lists.new returns.new succ.new pred.new) result }
+) -> Result<(), Refusal>
+    ensures { BuildWrote (meaning program input.now) (sizes_of lines.old stmts.old args.old entries.old falls.old links.old lists.old returns.old succ.old pred.old) (tables_of counts.new lines.new stmts.new args.new entries.new falls.new links.new lists.new returns.new succ.new pred.new) (built_told result) }
 {
     let most_lines = line_room(lines.len(), entries.len());
     let most_stmts = stmt_room(
@@ -119,14 +110,10 @@ pub fn build_input(
     match read_fitting(
         program, input, counts, lines, stmts, args, most_lines, most_stmts,
     ) {
-        Listed::Refused { number, place } => Built::Refused { number, place },
-        Listed::Accepted {
-            handlers,
-            lines: count,
-            stmts: n,
-        } => graph_of(
-            handlers, count, n, counts, lines, stmts, args, entries, falls, links, lists, returns,
-            succ, pred,
+        Err(refusal) => Err(refusal),
+        Ok(a) => graph_of(
+            a.handlers, a.lines, a.stmts, counts, lines, stmts, args, entries, falls, links, lists,
+            returns, succ, pred,
         ),
     }
 }
@@ -145,8 +132,8 @@ pub fn build(
     returns: &mut [u16],
     succ: &mut [u16],
     pred: &mut [u16],
-) -> Built
-    ensures { BuildWrote (meant text.now) (sizes_of lines.old stmts.old args.old entries.old falls.old links.old lists.old returns.old succ.old pred.old) (tables_of counts.new lines.new stmts.new args.new entries.new falls.new links.new lists.new returns.new succ.new pred.new) result }
+) -> Result<(), Refusal>
+    ensures { BuildWrote (meant text.now) (sizes_of lines.old stmts.old args.old entries.old falls.old links.old lists.old returns.old succ.old pred.old) (tables_of counts.new lines.new stmts.new args.new entries.new falls.new links.new lists.new returns.new succ.new pred.new) (built_told result) }
 {
     build_input(
         false, text, counts, lines, stmts, args, entries, falls, links, lists, returns, succ, pred,

@@ -4,7 +4,6 @@ ghost use Rattle.graph_laws.specs.Adding.{Added};
 ghost use Rattle.passes.specs.Closing.{FitsPart, fall_from, FallFitsFrom, ElsesFit, ElsesAdded, DoifFits, DoifAdded, closer_from, CloserFits, joins_word, ClosingReady, ClosingAdded};
 
 use layout::columns::{CLOSER, ELSE_LINK, FALL_ENTRIES, FRAME_ENTRIES, STMT_ENTRIES};
-use layout::widths::wide;
 use layout::words::{DOIF, ELSE, EXIT, EXITIF};
 use storing::growing::add_edge;
 
@@ -13,10 +12,9 @@ fn add_fall(falls: &[u16], c: usize, part: &mut [u16], n: usize) -> usize
     requires { FitsPart part.old n × FallFitsFrom falls.now (length part.old) c }
     ensures { Added part.old n part.new result (fall_from falls.now c) × FitsPart part.new result }
 {
-    if c == 0 {
+    let Some(j) = c.checked_sub(1) else {
         return n;
-    }
-    let j = c - 1;
+    };
     add_edge(part, n, falls[j * FALL_ENTRIES])
 }
 
@@ -27,10 +25,9 @@ fn add_elses(falls: &[u16], frames: &[u16], first: usize, part: &mut [u16], n: u
 {
     let mut r = n;
     let mut c = first;
-    while c != 0 {
-        let j = c - 1;
+    while let Some(j) = c.checked_sub(1) {
         r = add_edge(part, r, falls[j * FALL_ENTRIES]);
-        c = wide(frames[j * FRAME_ENTRIES + ELSE_LINK]);
+        c = usize::from(frames[j * FRAME_ENTRIES + ELSE_LINK]);
     }
     r
 }
@@ -40,11 +37,11 @@ fn add_doif(falls: &[u16], frames: &[u16], i: usize, part: &mut [u16], n: usize)
     requires { FitsPart part.old n × DoifFits falls.now frames.now (length part.old) i }
     ensures { DoifAdded falls.now frames.now i part.old n part.new result × FitsPart part.new result }
 {
-    let first = wide(frames[i * FRAME_ENTRIES + ELSE_LINK]);
+    let first = usize::from(frames[i * FRAME_ENTRIES + ELSE_LINK]);
     if first != 0 {
         return add_elses(falls, frames, first, part, n);
     }
-    let closer = wide(frames[i * FRAME_ENTRIES + CLOSER]);
+    let closer = usize::from(frames[i * FRAME_ENTRIES + CLOSER]);
     add_fall(falls, closer, part, n)
 }
 
@@ -53,25 +50,19 @@ fn add_closer(falls: &[u16], frames: &[u16], met: usize, part: &mut [u16], n: us
     requires { FitsPart part.old n × CloserFits falls.now frames.now (length part.old) met }
     ensures { Added part.old n part.new result (closer_from falls.now frames.now met) × FitsPart part.new result }
 {
-    if met == 0 {
+    let Some(opener) = met.checked_sub(1) else {
         return n;
-    }
-    let opener = met - 1;
-    let closer = wide(frames[opener * FRAME_ENTRIES + CLOSER]);
+    };
+    let closer = usize::from(frames[opener * FRAME_ENTRIES + CLOSER]);
     add_fall(falls, closer, part, n)
 }
 
 // The words that go to where the closer of their frame falls.
+#[tactic(auto, using(std::proofs::lemmas::Bool::Decides::nat_tests), unfolding(passes::specs::Closing::joins_word))]
 fn joins_frame(word: u16) -> bool
     ensures { result ≡ joins_word word }
 {
-    if word == EXIT {
-        return true;
-    }
-    if word == EXITIF {
-        return true;
-    }
-    word == ELSE
+    matches!(word, EXIT | EXITIF | ELSE)
 }
 
 // Adds what later nodes add to node i's list, which is the first n entries.
@@ -87,12 +78,12 @@ pub(crate) fn add_closing(
     ensures { ClosingAdded stmts.now falls.now frames.now i part.old n part.new result × FitsPart part.new result }
 {
     let word = stmts[i * STMT_ENTRIES];
-    if word == DOIF {
-        return add_doif(falls, frames, i, part, n);
+    match word {
+        DOIF => add_doif(falls, frames, i, part, n),
+        _ if joins_frame(word) => {
+            let met = usize::from(frames[i * FRAME_ENTRIES]);
+            add_closer(falls, frames, met, part, n)
+        }
+        _ => n,
     }
-    if joins_frame(word) {
-        let met = wide(frames[i * FRAME_ENTRIES]);
-        return add_closer(falls, frames, met, part, n);
-    }
-    n
 }

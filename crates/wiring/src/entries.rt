@@ -1,18 +1,18 @@
 // Line entries: rows of a line's number and one more than the node where it enters, or 0, ascending by number; and the search in them.
-ghost use Rattle.std.specs.Prelude.{◌≡◌, ◌+◌, ◌*◌, ◌≤◌, length, set};
+ghost use Rattle.std.specs.Prelude.{◌≡◌, ◌+◌, ◌*◌, ◌≤◌, ◌<◌, length, set};
+ghost use Rattle.std.specs.Option.{IfSome};
 ghost use Rattle.tables.specs.EntryRows.{entry_column};
 ghost use Rattle.passes.specs.LineEntries.{entry_or, FirstStored, EntriesFilled, EntriesComputed};
 ghost use Rattle.passes.specs.LineSearch.{LineFound, EntryFound};
+ghost use Rattle.wiring.specs.Places.{one_more};
 
-use crate::widths::narrow;
 use layout::columns::{ENTRY_ENTRIES, ENTRY_NODE, ENTRY_NUMBER, LINE, STMT_ENTRIES};
-use layout::widths::wide;
 
 // Stores x as the node of row l; a line index that no line has stores nothing.
 fn store(entries: &mut [u16], l: u16, x: u16)
     ensures { entries.new ≡ set entries.old (l * 2 + 1) x }
 {
-    let at = wide(l) * ENTRY_ENTRIES + ENTRY_NODE;
+    let at = usize::from(l) * ENTRY_ENTRIES + ENTRY_NODE;
     if at < entries.len() {
         entries[at] = x;
     }
@@ -23,11 +23,9 @@ fn store_first_nodes(stmts: &[u16], entries: &mut [u16], n: usize)
     requires { (n ≤ 4096) × (n * 12 ≤ length stmts.now) }
     ensures { FirstStored stmts.now n entries.old entries.new }
 {
-    let mut i = n;
-    while 0 < i {
-        i -= 1;
+    for i in (0..n).rev() {
         let l = stmts[i * STMT_ENTRIES + LINE];
-        store(entries, l, narrow(i + 1));
+        store(entries, l, (i + 1) as u16);
     }
 }
 
@@ -44,9 +42,7 @@ fn fill_empty_lines(lines: &[u16], entries: &mut [u16], count: usize)
     ensures { EntriesFilled lines.now count entries.old entries.new }
 {
     let mut next: u16 = 0;
-    let mut l = count;
-    while 0 < l {
-        l -= 1;
+    for l in (0..count).rev() {
         next = entry_or(entries[l * ENTRY_ENTRIES + ENTRY_NODE], next);
         entries[l * ENTRY_ENTRIES + ENTRY_NUMBER] = lines[l];
         entries[l * ENTRY_ENTRIES + ENTRY_NODE] = next;
@@ -68,10 +64,11 @@ pub(crate) fn compute_line_after(
     fill_empty_lines(lines, entries, count);
 }
 
-// The row with that number among the first n: one more than its index, or 0. The numbers ascend.
-pub(crate) fn find_line(entries: &[u16], n: usize, number: u16) -> usize
+// The index of the row with that number among the first n. The numbers ascend; since a row has two entries, they are no slice for `binary_search`.
+fn find_line(entries: &[u16], n: usize, number: u16) -> Option<usize>
     requires { n * 2 ≤ length entries.now }
-    ensures { LineFound (entry_column 0 n entries.now) number result }
+    ensures within { IfSome result (λ k. k < n) }
+    ensures found { LineFound (entry_column 0 n entries.now) number (one_more result) }
 {
     let mut low: usize = 0;
     let mut high = n;
@@ -79,7 +76,7 @@ pub(crate) fn find_line(entries: &[u16], n: usize, number: u16) -> usize
         let mid = low + (high - low) / 2;
         let at = entries[mid * ENTRY_ENTRIES + ENTRY_NUMBER];
         if at == number {
-            return mid + 1;
+            return Some(mid);
         }
         if at < number {
             low = mid + 1;
@@ -87,7 +84,7 @@ pub(crate) fn find_line(entries: &[u16], n: usize, number: u16) -> usize
             high = mid;
         }
     }
-    0
+    None
 }
 
 // The entry of the line with that number: one more than the node, or 0 if there is no such line or entry.
@@ -95,9 +92,8 @@ pub(crate) fn entry_of(entries: &[u16], n: usize, number: u16) -> u16
     requires { n * 2 ≤ length entries.now }
     ensures { EntryFound entries.now n number result }
 {
-    let k = find_line(entries, n, number);
-    if k == 0 {
-        return 0;
+    match find_line(entries, n, number) {
+        Some(k) => entries[k * ENTRY_ENTRIES + ENTRY_NODE],
+        None => 0,
     }
-    entries[(k - 1) * ENTRY_ENTRIES + ENTRY_NODE]
 }

@@ -5,13 +5,11 @@ ghost use Rattle.passes.specs.Falls.{target_of, BranchLed, RowConnected, StmtCon
 ghost use Rattle.passes.specs.Connecting.{Begins};
 
 use crate::entries::entry_of;
-use crate::widths::narrow;
 use layout::columns::{
     END, ENTRY_ENTRIES, ENTRY_NODE, FALL_ENTRIES, FIRST_BRANCH, FORM1, FORM2, LINE, NO_BRANCH,
     NUMBER1, NUMBER2, SECOND, SECOND_BRANCH, STMT_ENTRIES, TO_BRANCH,
 };
 use layout::limits::MAX_DEPTH;
-use layout::widths::wide;
 
 // Statements nest to depth 16, and those of a line have depth 0.
 const DEPTHS: usize = MAX_DEPTH + 1;
@@ -21,23 +19,14 @@ fn target_of(e: usize, end: usize, next: u16) -> u16
     requires { e < 65535 }
     ensures { result ≡ target_of e end next }
 {
-    if e < end { narrow(e + 1) } else { next }
+    if e < end { (e + 1) as u16 } else { next }
 }
 
 // Whether no depth is left, or the middle does not lie between the first and the last.
 fn out_of_order(depth: usize, first: usize, middle: usize, last: usize) -> bool
     ensures { (result ≡ false → (0 < depth) × (first ≤ middle) × (middle ≤ last)) × (result ≡ true → (0 < depth) × (first ≤ middle) × (middle ≤ last) → ⊥) }
 {
-    if depth == 0 {
-        return true;
-    }
-    if middle < first {
-        return true;
-    }
-    if last < middle {
-        return true;
-    }
-    false
+    depth == 0 || middle < first || last < middle
 }
 
 // Where a branch leads: to its line's entry, to its first statement, or, without one, to where its IF falls.
@@ -53,13 +42,11 @@ fn branch_target(
     requires { (count * 2 ≤ length entries.now) × (from < 65535) }
     ensures { BranchLed entries.now count form number from end next result }
 {
-    if form == TO_BRANCH {
-        return entry_of(entries, count, number);
+    match form {
+        TO_BRANCH => entry_of(entries, count, number),
+        NO_BRANCH => next,
+        _ => target_of(from, end, next),
     }
-    if form == NO_BRANCH {
-        return next;
-    }
-    if from < end { narrow(from + 1) } else { next }
 }
 
 // Where statement i falls, and where its branches lead.
@@ -130,18 +117,16 @@ pub(crate) fn connect_stmt(
         put_falls(falls, i, next, 0, 0);
         return true;
     }
-    let m = wide(stmts[row + SECOND]);
+    let m = usize::from(stmts[row + SECOND]);
     if out_of_order(depth, i + 1, m, end) {
         return false;
     }
     connect_row(entries, count, stmts, falls, i, m, end, next);
-    if !connect_then_branch(entries, count, stmts, falls, depth - 1, i + 1, m, next) {
-        return false;
-    }
-    connect_then_branch(entries, count, stmts, falls, depth - 1, m, end, next)
+    connect_then_branch(entries, count, stmts, falls, depth - 1, i + 1, m, next)
+        && connect_then_branch(entries, count, stmts, falls, depth - 1, m, end, next)
 }
 
-// The statements from `from` up to `end`: each falls to the one after it, the last to `next`.
+// The statements from `from` up to `end`: each falls to the one after it, the last to `next`. A `while`, since each ends where its record says.
 #[cycle(connect_stmt_connect_then_branch)]
 pub(crate) fn connect_then_branch(
     entries: &[u16],
@@ -159,7 +144,7 @@ pub(crate) fn connect_then_branch(
 {
     let mut i = from;
     while i < end {
-        let e = wide(stmts[i * STMT_ENTRIES + END]);
+        let e = usize::from(stmts[i * STMT_ENTRIES + END]);
         if out_of_order(1, i + 1, e, end) {
             return false;
         }
@@ -177,15 +162,13 @@ fn start_of(stmts: &[u16], l: usize, end: usize) -> usize
     requires { end * 12 ≤ length stmts.now }
     ensures { Begins stmts.now l end result }
 {
-    let mut i = end;
-    while 0 < i {
-        let line = wide(stmts[(i - 1) * STMT_ENTRIES + LINE]);
+    for i in (0..end).rev() {
+        let line = usize::from(stmts[i * STMT_ENTRIES + LINE]);
         if line != l {
-            return i;
+            return i + 1;
         }
-        i -= 1;
     }
-    i
+    0
 }
 
 // Each line's statements fall to the next line's entry. From the last line up, where that entry is at hand.
@@ -202,9 +185,7 @@ fn connect_top_level(
 {
     let mut next: u16 = 0;
     let mut end = n;
-    let mut l = count;
-    while 0 < l {
-        l -= 1;
+    for l in (0..count).rev() {
         let from = start_of(stmts, l, end);
         if !connect_then_branch(entries, count, stmts, falls, DEPTHS, from, end, next) {
             return false;

@@ -1,5 +1,5 @@
 // The rows of arguments, filled with where the nodes step on a skipping path, for the closure.
-ghost use Rattle.std.specs.Prelude.{◌≡◌, ◌*◌, ◌≤◌, ◌<◌, length, take};
+ghost use Rattle.std.specs.Prelude.{◌≡◌, length};
 ghost use Rattle.graph_laws.specs.EdgeBounds.{Ids};
 ghost use Rattle.passes.specs.Closure.{RowIs};
 ghost use Rattle.passes.specs.FillRows.{SkipReady, SkipMade, in_pass, RowReady, RowFilled, PassReady, PassFilled, FillReady, RowsFilled};
@@ -7,22 +7,18 @@ ghost use Rattle.passes.specs.FillRows.{SkipReady, SkipMade, in_pass, RowReady, 
 use crate::list_of::list_of;
 use crate::skip_lists::put_fall;
 use layout::columns::{ARG_ENTRIES, STMT_ENTRIES};
-use layout::widths::wide;
 use layout::words::{NEXT, RETURN};
-use layout::zeroing::zero64;
 use tables::calls::is_call;
 use walks::sets::insert;
 
-// The first count nodes of a list, and no others, as a row.
-fn put_set(row: &mut [u64], list: &[u16], count: usize)
-    requires { (length row.old ≡ 64) × (count ≤ length list.now) × Ids 4096 (take count list.now) }
-    ensures { RowIs (take count list.now) row.new }
+// The nodes of a list, and no others, as a row.
+fn put_set(row: &mut [u64], list: &[u16])
+    requires { (length row.old ≡ 64) × Ids 4096 list.now }
+    ensures { RowIs list.now row.new }
 {
-    zero64(row);
-    let mut k: usize = 0;
-    while k < count {
-        insert(row, wide(list[k]));
-        k += 1;
+    row.fill(0);
+    for &id in list {
+        insert(row, usize::from(id));
     }
 }
 
@@ -44,25 +40,21 @@ fn skip_list(
     ensures { SkipMade stmts.now args.now entries.now falls.now links.now frames.now dispatched.now lines d i part.old part.new result }
 {
     let word = stmts[i * STMT_ENTRIES];
-    if word == RETURN {
-        return 0;
+    match word {
+        RETURN => 0,
+        _ if is_call(word) => put_fall(falls, i, part),
+        _ => list_of(
+            stmts, args, entries, falls, links, frames, dispatched, lines, d, i, part,
+        ),
     }
-    if is_call(word) {
-        return put_fall(falls, i, part);
-    }
-    list_of(
-        stmts, args, entries, falls, links, frames, dispatched, lines, d, i, part,
-    )
 }
 
 // NEXTs are in one pass, all other nodes in the other.
+#[tactic(auto, using(std::proofs::lemmas::Bool::Decides::nat_tests), unfolding(passes::specs::FillRows::in_pass))]
 fn in_pass(nexts: bool, word: u16) -> bool
     ensures { result ≡ in_pass nexts word }
 {
-    if word == NEXT {
-        return nexts;
-    }
-    !nexts
+    (word == NEXT) == nexts
 }
 
 // Row i becomes the set of its skip list, in the pass that it belongs to.
@@ -91,7 +83,7 @@ fn fill_row(
     );
     let start = i * ARG_ENTRIES;
     let end = start + 64;
-    put_set(&mut args[start..end], part, count);
+    put_set(&mut args[start..end], &part[..count]);
 }
 
 // All rows of one pass: those of the NEXTs, or all others.
@@ -112,12 +104,10 @@ fn fill_pass(
     requires { PassReady stmts.now args.old entries.now falls.now links.now frames.now dispatched.now lines n d nexts (length part.old) }
     ensures { PassFilled stmts.now args.old entries.now falls.now links.now frames.now dispatched.now lines n d nexts n args.new }
 {
-    let mut i: usize = 0;
-    while i < n {
+    for i in 0..n {
         fill_row(
             stmts, args, entries, falls, links, frames, dispatched, lines, d, i, nexts, part,
         );
-        i += 1;
     }
 }
 

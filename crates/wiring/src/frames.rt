@@ -4,34 +4,20 @@ ghost use Rattle.passes.specs.FrameStacks.{HoldsBelow};
 ghost use Rattle.passes.specs.Frames.{Framed};
 ghost use Rattle.passes.specs.FramePass.{move_of, moves_stack, Stepped, AllZero, MetFrames, linked};
 
-use crate::stacks::{FrameStack, newest};
-use crate::widths::narrow;
+use crate::stacks::FrameStack;
 use layout::columns::{CLOSER, ELSE_LINK, FRAME_ENTRIES, STMT_ENTRIES};
-use layout::widths::wide;
 use layout::words::{ELSE, EXIT, EXITIF};
 use passes::moves::{FrameMove, do_move, loop_move, moves};
 
 // Node i leaves the stack alone: if it joins a frame, it writes which.
-fn join_frame(words: &[u64; 64], m: FrameMove, i: usize, frames: &mut [u16])
+fn join_frame(s: &FrameStack, m: FrameMove, i: usize, frames: &mut [u16])
     requires i_bound { (i < 4096) × (i * 3 < length frames.old) }
-    requires holds_below { HoldsBelow words.now i }
+    requires holds_below { HoldsBelow s.now.words i }
     requires m_value { moves_stack (move_of m) ≡ false }
-    ensures { Stepped (move_of m) i words.now words.now frames.old frames.new }
+    ensures { Stepped (move_of m) i s.now.words s.now.words frames.old frames.new }
 {
-    match m {
-        FrameMove::Stays => {
-            return;
-        }
-        FrameMove::Opens => {
-            return;
-        }
-        FrameMove::Closes => {
-            return;
-        }
-        FrameMove::Joins => {
-            frames[i * FRAME_ENTRIES] = narrow(newest(words, i));
-            return;
-        }
+    if let FrameMove::Joins = m {
+        frames[i * FRAME_ENTRIES] = s.newest(i) as u16;
     }
 }
 
@@ -43,21 +29,13 @@ fn move_stack(s: FrameStack, m: FrameMove, i: usize, frames: &mut [u16]) -> Fram
     ensures { Stepped (move_of m) i s.words result.words frames.old frames.new }
 {
     match m {
-        FrameMove::Stays => {
-            return s;
-        }
-        FrameMove::Opens => {
-            return s.push(i);
-        }
+        FrameMove::Opens => s.push(i),
         FrameMove::Closes => {
             let p = s.pop(i);
-            frames[i * FRAME_ENTRIES] = narrow(p.frame);
-            let t = p.stack;
-            return t;
+            frames[i * FRAME_ENTRIES] = p.frame as u16;
+            p.stack
         }
-        FrameMove::Joins => {
-            return s;
-        }
+        _ => s,
     }
 }
 
@@ -69,22 +47,20 @@ fn meet_frames(stmts: &[u16], n: usize, frames: &mut [u16])
 {
     let mut loops = FrameStack::new();
     let mut dos = FrameStack::new();
-    let mut i: usize = 0;
-    while i < n {
+    for i in 0..n {
         let word = stmts[i * STMT_ENTRIES];
         let l = loop_move(word);
         if moves(l) {
             loops = move_stack(loops, l, i, frames);
         } else {
-            join_frame(&loops.words, l, i, frames);
+            join_frame(&loops, l, i, frames);
         }
         let d = do_move(word);
         if moves(d) {
             dos = move_stack(dos, d, i, frames);
         } else {
-            join_frame(&dos.words, d, i, frames);
+            join_frame(&dos, d, i, frames);
         }
-        i += 1;
     }
 }
 
@@ -93,24 +69,19 @@ fn link_node(word: u16, i: usize, frames: &mut [u16])
     requires { (i < 4096) × (i * 3 + 2 < length frames.old) × (get_or frames.old (i * 3) 0 ≤ i) }
     ensures { frames.new ≡ linked word i frames.old }
 {
-    let met = wide(frames[i * FRAME_ENTRIES]);
-    if met == 0 {
+    let met = usize::from(frames[i * FRAME_ENTRIES]);
+    let Some(opener) = met.checked_sub(1) else {
         return;
+    };
+    let node = (i + 1) as u16;
+    match word {
+        ELSE => {
+            frames[i * FRAME_ENTRIES + ELSE_LINK] = frames[opener * FRAME_ENTRIES + ELSE_LINK];
+            frames[opener * FRAME_ENTRIES + ELSE_LINK] = node;
+        }
+        EXIT | EXITIF => {}
+        _ => frames[opener * FRAME_ENTRIES + CLOSER] = node,
     }
-    let opener = met - 1;
-    let node = narrow(i + 1);
-    if word == ELSE {
-        frames[i * FRAME_ENTRIES + ELSE_LINK] = frames[opener * FRAME_ENTRIES + ELSE_LINK];
-        frames[opener * FRAME_ENTRIES + ELSE_LINK] = node;
-        return;
-    }
-    if word == EXIT {
-        return;
-    }
-    if word == EXITIF {
-        return;
-    }
-    frames[opener * FRAME_ENTRIES + CLOSER] = node;
 }
 
 // From the last node to the first, so that what is written last is what comes first.
@@ -119,9 +90,7 @@ fn link_frames(stmts: &[u16], n: usize, frames: &mut [u16])
     requires met_frames { MetFrames stmts.now n frames.old }
     ensures { Framed stmts.now n frames.new }
 {
-    let mut i = n;
-    while 0 < i {
-        i -= 1;
+    for i in (0..n).rev() {
         link_node(stmts[i * STMT_ENTRIES], i, frames);
     }
 }

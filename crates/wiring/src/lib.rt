@@ -18,5 +18,4 @@ pub mod return_targets;
 pub mod room;
 pub mod skip_lists;
 pub mod stacks;
-pub mod widths;
 pub mod wire;

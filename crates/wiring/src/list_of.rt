@@ -15,7 +15,6 @@ use layout::columns::{
     ARG_ENTRIES, COUNT, ENTRY_ENTRIES, ENTRY_NODE, FALL_ENTRIES, FIRST_BRANCH, FRAME_ENTRIES,
     STMT_ENTRIES,
 };
-use layout::widths::wide;
 use layout::words::{ANY, ELSE, ENDLOOP, EXIT, FOR, GOTO, NEXT, RUN, STOP, UNTIL};
 use storing::growing::{add_edge, add_jump, add_targets};
 
@@ -49,15 +48,13 @@ fn all_line_entry_nodes(entries: &[u16], rows: usize, part: &mut [u16]) -> usize
 {
     let mut n: usize = 0;
     let mut last: u16 = 0;
-    let mut k: usize = 0;
-    while k < rows {
+    for k in 0..rows {
         let e = entries[k * ENTRY_ENTRIES + ENTRY_NODE];
         if e == 0 {
             return n;
         }
         n = add_entry(part, n, e, last);
         last = e;
-        k += 1;
     }
     n
 }
@@ -75,7 +72,7 @@ fn add_run(
     requires room_to_add { RoomToAdd part.old 0 (run_edges stmts.now entries.now links.now lines i) }
     ensures { Grows part.old 0 part.new result (run_edges stmts.now entries.now links.now lines i) }
 {
-    let count = wide(stmts[i * STMT_ENTRIES + COUNT]);
+    let count = usize::from(stmts[i * STMT_ENTRIES + COUNT]);
     if count == 0 {
         return add_first(entries, lines, part);
     }
@@ -90,7 +87,7 @@ fn add_next(stmts: &[u16], falls: &[u16], links: &[u16], i: usize, part: &mut [u
     requires room_to_add { RoomToAdd part.old 0 (next_edges stmts.now falls.now links.now i) }
     ensures { Grows part.old 0 part.new result (next_edges stmts.now falls.now links.now i) }
 {
-    let count = wide(stmts[i * STMT_ENTRIES + COUNT]);
+    let count = usize::from(stmts[i * STMT_ENTRIES + COUNT]);
     let r = add_popped(falls, links, i, count, part, 0);
     add_edge(part, r, falls[i * FALL_ENTRIES])
 }
@@ -110,16 +107,11 @@ fn add_until(falls: &[u16], frames: &[u16], i: usize, part: &mut [u16]) -> usize
 }
 
 // The words that do not fall are these three.
+#[tactic(auto, using(std::proofs::lemmas::Bool::Decides::nat_tests), unfolding(passes::specs::NodeList::falls_word))]
 fn falls_on(word: u16) -> bool
     ensures { result ≡ falls_word word }
 {
-    if word == EXIT {
-        return false;
-    }
-    if word == ELSE {
-        return false;
-    }
-    word != STOP
+    !matches!(word, EXIT | ELSE | STOP)
 }
 
 // The words that are no jump: an ENDLOOP goes to the body of its frame, most others fall.
@@ -128,16 +120,12 @@ fn add_block(word: u16, falls: &[u16], frames: &[u16], i: usize, part: &mut [u16
     requires room_to_add { RoomToAdd part.old 0 (block_edges word falls.now frames.now i) }
     ensures { Grows part.old 0 part.new result (block_edges word falls.now frames.now i) }
 {
-    if word == ENDLOOP {
-        return add_link(falls, frames[i * FRAME_ENTRIES], part, 0);
+    match word {
+        ENDLOOP => add_link(falls, frames[i * FRAME_ENTRIES], part, 0),
+        UNTIL => add_until(falls, frames, i, part),
+        _ if falls_on(word) => add_edge(part, 0, falls[i * FALL_ENTRIES]),
+        _ => 0,
     }
-    if word == UNTIL {
-        return add_until(falls, frames, i, part);
-    }
-    if falls_on(word) {
-        return add_edge(part, 0, falls[i * FALL_ENTRIES]);
-    }
-    0
 }
 
 // What the statement of node i adds to its own list.
@@ -155,24 +143,18 @@ fn add_own(
     ensures { Grows part.old 0 part.new result (own_edges stmts.now entries.now falls.now links.now frames.now lines i) }
 {
     let word = stmts[i * STMT_ENTRIES];
-    if word < GOTO {
-        let at = i * FALL_ENTRIES + FIRST_BRANCH;
-        let end = at + 2;
-        return add_targets(&falls[at..end], part, 0);
+    match word {
+        ..GOTO => {
+            let at = i * FALL_ENTRIES + FIRST_BRANCH;
+            let end = at + 2;
+            add_targets(&falls[at..end], part, 0)
+        }
+        RUN => add_run(stmts, entries, links, lines, i, part),
+        ..FOR => add_jump(stmts, falls, links, i, part),
+        NEXT => add_next(stmts, falls, links, i, part),
+        ANY => all_line_entry_nodes(entries, lines, part),
+        _ => add_block(word, falls, frames, i, part),
     }
-    if word == RUN {
-        return add_run(stmts, entries, links, lines, i, part);
-    }
-    if word < FOR {
-        return add_jump(stmts, falls, links, i, part);
-    }
-    if word == NEXT {
-        return add_next(stmts, falls, links, i, part);
-    }
-    if word == ANY {
-        return all_line_entry_nodes(entries, lines, part);
-    }
-    add_block(word, falls, frames, i, part)
 }
 
 // The list of node i, each edge once, at the front of the part; answers how long it is. A RETURN's is left empty here.

@@ -8,7 +8,6 @@ ghost use Rattle.passes.specs.AddedAgain.{AllIn};
 ghost use Rattle.passes.specs.NextBodies.{body_at, link_body, selects_key, selected_body, slot_bodies, came_before, orphan_bodies, LinksRoom, PoppedRoom, SelectRoom, LinkRoom, ForRoom};
 
 use layout::columns::{ARG_ENTRIES, COUNT, DETAIL, FALL_ENTRIES, ORPHAN, STMT_ENTRIES};
-use layout::widths::wide;
 use layout::words::NEXT;
 use storing::growing::add_edge;
 
@@ -17,10 +16,9 @@ pub(crate) fn add_link(falls: &[u16], t: u16, part: &mut [u16], n: usize) -> usi
     requires { LinkRoom falls.now t part.old n }
     ensures { Grows part.old n part.new result (link_body falls.now t) }
 {
-    if t == 0 {
+    let Some(o) = usize::from(t).checked_sub(1) else {
         return n;
-    }
-    let o = wide(t) - 1;
+    };
     add_edge(part, n, falls[o * FALL_ENTRIES])
 }
 
@@ -30,10 +28,8 @@ fn add_links(falls: &[u16], row: &[u16], part: &mut [u16], n: usize) -> usize
     ensures { Grows part.old n part.new result (each (link_body falls.now) row.now) }
 {
     let mut r = n;
-    let mut k: usize = 0;
-    while k < row.len() {
-        r = add_link(falls, row[k], part, r);
-        k += 1;
+    for &t in row {
+        r = add_link(falls, t, part, r);
     }
     r
 }
@@ -56,13 +52,11 @@ pub(crate) fn add_popped(
 }
 
 // Whether a slot selects a FOR by its name: key 0 selects all.
+#[tactic(auto, using(std::proofs::lemmas::Bool::Decides::nat_tests), unfolding(passes::specs::NextBodies::selects_key))]
 fn selects(key: u64, name: u64) -> bool
     ensures { result ≡ selects_key key name }
 {
-    if key == 0 {
-        return true;
-    }
-    name == key
+    key == 0 || name == key
 }
 
 // Adds the body of the FOR o, if the slot selects it.
@@ -70,7 +64,7 @@ fn add_selected(args: &[u64], falls: &[u16], o: u16, key: u64, part: &mut [u16],
     requires { ForRoom args.now falls.now o part.old n }
     ensures { Grows part.old n part.new result (selected_body args.now falls.now key o) }
 {
-    let k = wide(o);
+    let k = usize::from(o);
     if selects(key, args[k * ARG_ENTRIES]) {
         return add_edge(part, n, falls[k * FALL_ENTRIES]);
     }
@@ -90,10 +84,8 @@ fn add_slot(
     ensures { Grows part.old n part.new result (slot_bodies args.now falls.now fors.now key) }
 {
     let mut r = n;
-    let mut k: usize = 0;
-    while k < fors.len() {
-        r = add_selected(args, falls, fors[k], key, part, r);
-        k += 1;
+    for &o in fors {
+        r = add_selected(args, falls, o, key, part, r);
     }
     r
 }
@@ -102,14 +94,7 @@ fn add_slot(
 fn came_before(keys: &[u64], key: u64) -> bool
     ensures { result ≡ came_before keys.now key }
 {
-    let mut k: usize = 0;
-    while k < keys.len() {
-        if selects(keys[k], key) {
-            return true;
-        }
-        k += 1;
-    }
-    false
+    keys.iter().any(|k| selects(*k, key))
 }
 
 // Adds the bodies that slot k selects. Where a slot before it selects them too they are in the list already, and nothing is searched.
@@ -146,10 +131,8 @@ fn add_slots(
     ensures { Grows part.old n part.new result (each (slot_bodies args.now falls.now fors.now) keys.now) }
 {
     let mut r = n;
-    let mut k: usize = 0;
-    while k < keys.len() {
+    for k in 0..keys.len() {
         r = add_new_slot(args, falls, fors, keys, k, part, r);
-        k += 1;
     }
     r
 }
@@ -170,13 +153,10 @@ pub(crate) fn add_dispatched_back_edges(
     requires select_room { SelectRoom args.now falls.now (take d dispatched.now) part.old n }
     ensures { Grows part.old n part.new result (orphan_bodies stmts.now args.now falls.now (take d dispatched.now) i) }
 {
-    if stmts[i * STMT_ENTRIES] != NEXT {
-        return n;
-    }
-    if stmts[i * STMT_ENTRIES + DETAIL] != ORPHAN {
+    if stmts[i * STMT_ENTRIES] != NEXT || stmts[i * STMT_ENTRIES + DETAIL] != ORPHAN {
         return n;
     }
     let at = i * ARG_ENTRIES;
-    let end = at + wide(stmts[i * STMT_ENTRIES + COUNT]);
+    let end = at + usize::from(stmts[i * STMT_ENTRIES + COUNT]);
     add_slots(args, falls, &dispatched[..d], &args[at..end], part, n)
 }

@@ -4,8 +4,9 @@ ghost use Rattle.program_files.specs.Inputs.{meaning};
 ghost use Rattle.passes.specs.Reading.{FittingRead};
 
 use layout::columns::{ARG_ENTRIES, STMT_ENTRIES};
-use layout::zeroing::{clear_behind, clear_words_behind};
-use reader::listing::{Listed, read_input};
+use layout::refusals::Refusal;
+use layout::zeroing::fill_behind;
+use reader::listing::{Accepted, read_input};
 
 // What stands behind the front parts becomes zero.
 pub(crate) fn read_fitting(
@@ -17,15 +18,15 @@ pub(crate) fn read_fitting(
     args: &mut [u64],
     line_room: usize,
     stmt_room: usize,
-) -> Listed
+) -> Result<Accepted, Refusal>
     requires { (line_room ≤ length lines.old) × (stmt_room * 12 ≤ length stmts.old) × (stmt_room * 64 ≤ length args.old) }
     ensures { FittingRead (meaning program input.now) line_room stmt_room (length lines.old) (length stmts.old) (length args.old) counts.new lines.new stmts.new args.new result }
 {
     let stmt_end = stmt_room * STMT_ENTRIES;
     let arg_end = stmt_room * ARG_ENTRIES;
-    clear_behind(lines, line_room);
-    clear_behind(stmts, stmt_end);
-    clear_words_behind(args, arg_end);
+    fill_behind(lines, line_room, 0);
+    fill_behind(stmts, stmt_end, 0);
+    fill_behind(args, arg_end, 0);
     read_input(
         program,
         input,

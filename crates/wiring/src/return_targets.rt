@@ -5,7 +5,6 @@ ghost use Rattle.passes.specs.ReturnTargets.{continuation_number, FallsFit, Mark
 
 use layout::columns::{FALL_ENTRIES, STMT_ENTRIES};
 use layout::limits::MAX_STMTS;
-use layout::widths::wide;
 use tables::calls::is_call;
 use walks::walk::no_marks;
 
@@ -25,11 +24,10 @@ fn put_target(t: u16, marks: &mut [bool; MAX_STMTS], returns: &mut [u16], k: usi
     requires { (t ≤ 4096) × (k < length returns.old) × Marking 4096 marks.old returns.old k }
     ensures { TargetsAdded 4096 (decode t) returns.old k marks.new returns.new result }
 {
-    if t == 0 {
+    let Some(a) = t.checked_sub(1) else {
         return k;
-    }
-    let a = t - 1;
-    let x = wide(a);
+    };
+    let x = usize::from(a);
     if marks[x] {
         return k;
     }
@@ -51,12 +49,10 @@ fn put_targets(
     requires marking { Marking 4096 marks.old returns.old 0 }
     ensures { TargetsListed stmts.now falls.now n returns.old returns.new result }
 {
-    let mut i: usize = 0;
     let mut k: usize = 0;
-    while i < n {
+    for i in 0..n {
         let t = continuation(stmts, falls, i);
         k = put_target(t, marks, returns, k);
-        i += 1;
     }
     k
 }

@@ -22,11 +22,10 @@ pub(crate) fn put_fall(falls: &[u16], i: usize, part: &mut [u16]) -> usize
     requires { (i < 4096) × (i * 3 < length falls.now) × (0 < length part.old) }
     ensures { ListIs (fall_entry falls.now i) part.old part.new result }
 {
-    let f = falls[i * FALL_ENTRIES];
-    if f == 0 {
+    let Some(node) = falls[i * FALL_ENTRIES].checked_sub(1) else {
         return 0;
-    }
-    part[0] = f - 1;
+    };
+    part[0] = node;
     1
 }
 
@@ -94,13 +93,11 @@ pub(crate) fn store_skip_lists(
     ensures { SkipsDone stmts.now args.now entries.now falls.now links.now frames.now dispatched.now lines n d lists.old lists.new scratch.old scratch.new result }
 {
     let mut e = Edges { total: 0, at: 0 };
-    let mut i: usize = 0;
-    while i < n {
+    for i in 0..n {
         e = store_skip_list(
             stmts, args, entries, falls, links, frames, dispatched, lines, d, i, e, lists, scratch,
             buffer,
         );
-        i += 1;
     }
     e.total
 }

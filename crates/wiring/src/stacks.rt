@@ -3,9 +3,11 @@ ghost use Rattle.std.specs.Prelude.{◌≡◌, suc, ◌-◌, ◌≤◌, ◌<◌,
 ghost use Rattle.std.specs.Int.Count.{count_leading_zeros};
 ghost use Rattle.passes.specs.FrameStacks.{no_frames, pushed, highest_mark, top_mark, popped, under, HoldsBelow, Room};
 
+use layout::zeroing::fill_behind;
 use walks::sets::{bit, no_words};
 
 // The frame of opener i is bit i % 64 of word i / 64.
+// Kept: push and pop hand the changed stack back, a form that the project asks for.
 #[derive(Drop)]
 pub(crate) struct FrameStack {
     pub(crate) words: [u64; 64],
@@ -18,18 +20,11 @@ pub(crate) struct Popped {
     pub(crate) frame: usize,
 }
 
-// A count of bits as an index.
-fn wide32(x: u32) -> usize
-    ensures { result ≡ x }
-{
-    x as usize
-}
-
 // The place above the highest bit of a word.
 fn height(w: u64) -> usize
     ensures { result ≡ 64 - count_leading_zeros 64 w }
 {
-    64 - wide32(u64::leading_zeros(w))
+    64 - w.leading_zeros() as usize
 }
 
 // One more than the highest mark in the first n words, or 0.
@@ -37,9 +32,7 @@ fn highest(words: &[u64; 64], n: usize) -> usize
     requires { n ≤ 64 }
     ensures { result ≡ highest_mark words.now n }
 {
-    let mut q = n;
-    while 0 < q {
-        q -= 1;
+    for q in (0..n).rev() {
         let w = words[q];
         if w != 0 {
             return q * 64 + height(w);
@@ -48,21 +41,36 @@ fn highest(words: &[u64; 64], n: usize) -> usize
     0
 }
 
-// One more than the newest opener, or 0. All are below i: no word above that of i is looked at.
-pub(crate) fn newest(words: &[u64; 64], i: usize) -> usize
-    requires i_bound { i < 4096 }
-    requires holds_below { HoldsBelow words.now i }
-    ensures { result ≡ top_mark words.now }
-{
-    highest(words, i / 64 + 1)
-}
-
 impl FrameStack {
     // No frame is open.
+    #[tactic(auto, unfolding(passes::specs::FrameStacks::no_frames))]
     pub(crate) fn new() -> FrameStack
         ensures { result.words ≡ no_frames }
     {
         FrameStack { words: no_words() }
+    }
+
+    // One more than the newest opener, or 0, as a table has it. All are below i: no word above that of i is looked at.
+    pub(crate) fn newest(&self, i: usize) -> usize
+        requires i_bound { i < 4096 }
+        requires holds_below { HoldsBelow self.now.words i }
+        ensures { result ≡ top_mark self.now.words }
+    {
+        highest(&self.words, i / 64 + 1)
+    }
+
+    // One more than the highest mark below mark id, or 0: the frame under the frame of opener id.
+    pub(crate) fn below(&self, id: usize) -> usize
+        requires { (id < 4096) × (length self.now.words ≡ 64) }
+        ensures { (result ≤ id) × (result ≡ top_mark (under self.now.words id)) }
+    {
+        let q = id / 64;
+        let b = bit(id);
+        let w = self.words[q] % b;
+        if w != 0 {
+            return q * 64 + height(w);
+        }
+        highest(&self.words, q)
     }
 
     // The frame of opener id goes on top.
@@ -71,10 +79,8 @@ impl FrameStack {
         requires room { Room self.words id }
         ensures { result.words ≡ pushed self.words id }
     {
-        let q = id / 64;
         let b = bit(id);
-        let w = self.words[q];
-        self.words[q] = w + b;
+        self.words[id / 64] += b;
         self
     }
 
@@ -84,18 +90,11 @@ impl FrameStack {
         requires holds_below { HoldsBelow self.words i }
         ensures { (result.frame ≡ top_mark self.words) × (result.stack.words ≡ popped self.words) }
     {
-        let t = newest(&self.words, i);
-        if t == 0 {
-            return Popped {
-                stack: self,
-                frame: 0,
-            };
+        let t = self.newest(i);
+        if let Some(id) = t.checked_sub(1) {
+            let b = bit(id);
+            self.words[id / 64] -= b;
         }
-        let id = t - 1;
-        let q = id / 64;
-        let b = bit(id);
-        let w = self.words[q];
-        self.words[q] = w - b;
         Popped {
             stack: self,
             frame: t,
@@ -109,30 +108,11 @@ impl FrameStack {
     {
         let q = id / 64;
         let b = bit(id);
-        let w = self.words[q];
-        self.words[q] = w % b;
-        let mut j = q + 1;
-        while j < 64 {
-            self.words[j] = 0;
-            j += 1;
-        }
+        self.words[q] %= b;
+        fill_behind(&mut self.words, q + 1, 0);
         Popped {
             stack: self,
             frame: id + 1,
         }
     }
-}
-
-// One more than the highest mark below mark id, or 0: the frame under the frame of opener id.
-pub(crate) fn below(words: &[u64; 64], id: usize) -> usize
-    requires { (id < 4096) × (length words.now ≡ 64) }
-    ensures { (result ≤ id) × (result ≡ top_mark (under words.now id)) }
-{
-    let q = id / 64;
-    let b = bit(id);
-    let w = words[q] % b;
-    if w != 0 {
-        return q * 64 + height(w);
-    }
-    highest(words, q)
 }

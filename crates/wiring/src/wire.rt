@@ -1,5 +1,5 @@
 // Frames and dispatched FORs; then the lists of the nodes: counted, and written where they fit.
-ghost use Rattle.std.specs.Prelude.{◌≡◌, true, length, replicate};
+ghost use Rattle.std.specs.Prelude.{◌≡◌, true, length};
 ghost use Rattle.wiring.specs.CountGraph.{ReturnsReady, ReturnsFound, CountReady, CountedTo};
 ghost use Rattle.passes.specs.Preparing.{FramesMade};
 ghost use Rattle.wiring.specs.Wiring.{WireReady, WiredTo};
@@ -9,7 +9,10 @@ use crate::fors::list_dispatched;
 use crate::frames::stack_frames;
 use crate::return_targets::list_return_targets;
 use crate::skip_lists::store_skip_lists;
+use layout::columns::FRAME_ENTRIES;
 use layout::limits::{MAX_EDGES, MAX_STMTS};
+use layout::refusals::{Reason, Refusal};
+use layout::zeroing::all_of;
 use storing::edge_count::edges_fit;
 use storing::write_graph::write_graph;
 use walks::regions::region_return_edges;
@@ -22,41 +25,11 @@ struct Counted {
     targets: usize,
 }
 
-// Whether the graph was written; if not, document 01's number and place.
-#[derive(Drop)]
-pub(crate) struct Wiring {
-    pub(crate) written: bool,
-    pub(crate) number: u8,
-    pub(crate) place: usize,
-}
-
 // Room for as many edges as a graph may have and one more for each call, whose continuation need not be among them.
-fn no_scratch() -> [u16; 36864]
-    ensures { length result ≡ 36864 }
-{
-    [0u16; 36864]
-}
+const SCRATCH: usize = MAX_EDGES + MAX_STMTS;
 
-// Room for one list.
-fn no_work() -> [u16; MAX_STMTS]
-    ensures { length result ≡ 4096 }
-{
-    [0u16; MAX_STMTS]
-}
-
-// Three entries for each of 4,096 statements; in a function of its own, as marks are.
-fn no_frames() -> [u16; 12288]
-    ensures { result ≡ replicate 12288 0 }
-{
-    [0u16; 12288]
-}
-
-// One entry for each.
-fn no_dispatched() -> [u16; MAX_STMTS]
-    ensures { result ≡ replicate 4096 0 }
-{
-    [0u16; MAX_STMTS]
-}
+// Three entries for each of 4,096 statements.
+const FRAMES: usize = MAX_STMTS * FRAME_ENTRIES;
 
 // Without handlers, the set of each RETURN goes into its row of arguments: by walks over the stored lists, or where these are too long, by
 // rows of bits. All other nodes have `own` edges.
@@ -147,13 +120,14 @@ fn wire_lists(
     returns: &mut [u16],
     succ: &mut [u16],
     pred: &mut [u16],
-) -> Wiring
+) -> Result<(), Refusal>
     requires wire_ready { WireReady handlers count n counts.old stmts.now args.old entries.now falls.now links.now lists.old returns.old succ.old pred.old }
     requires frames_made { FramesMade stmts.now falls.now frames.now dispatched.now n d }
-    ensures { (result.number ≡ 23) × WiredTo handlers count n stmts.now args.old entries.now falls.now links.now counts.old succ.old pred.old counts.new args.new lists.new returns.new succ.new pred.new result.written result.place }
+    ensures { WiredTo handlers count n stmts.now args.old entries.now falls.now links.now counts.old succ.old pred.old counts.new args.new lists.new returns.new succ.new pred.new result }
 {
-    let mut scratch = no_scratch();
-    let mut buffer = no_work();
+    let mut scratch = all_of::<u16, SCRATCH>(0);
+    // room for one list
+    let mut buffer = all_of::<u16, MAX_STMTS>(0);
     let c = count_graph(
         handlers,
         stmts,
@@ -172,21 +146,13 @@ fn wire_lists(
         &mut buffer,
     );
     if edges_fit(c.edges, succ.len(), pred.len()) {
-        write_graph(
+        let _ = write_graph(
             handlers, stmts, args, falls, links, n, count, counts, lists, &scratch, returns,
             c.targets, succ, pred,
         );
-        return Wiring {
-            written: true,
-            number: 23,
-            place: c.edges,
-        };
+        return Ok(());
     }
-    Wiring {
-        written: false,
-        number: 23,
-        place: c.edges,
-    }
+    Err(Reason::EdgeTables.at(c.edges))
 }
 
 // The lists of the n nodes. Their frames and dispatched FORs are in arrays of its own, since nothing else reads them. `found`: whether each inner
@@ -206,19 +172,15 @@ pub(crate) fn wire_graph(
     returns: &mut [u16],
     succ: &mut [u16],
     pred: &mut [u16],
-) -> Wiring
+) -> Result<(), Refusal>
     requires { (found ≡ true) × WireReady handlers count n counts.old stmts.now args.old entries.now falls.now links.now lists.old returns.old succ.old pred.old }
-    ensures { (result.number ≡ 23) × WiredTo handlers count n stmts.now args.old entries.now falls.now links.now counts.old succ.old pred.old counts.new args.new lists.new returns.new succ.new pred.new result.written result.place }
+    ensures { WiredTo handlers count n stmts.now args.old entries.now falls.now links.now counts.old succ.old pred.old counts.new args.new lists.new returns.new succ.new pred.new result }
 {
     if !found {
-        return Wiring {
-            written: false,
-            number: 27,
-            place: 0,
-        };
+        return Err(Reason::NotFound.at(0));
     }
-    let mut frames = no_frames();
-    let mut dispatched = no_dispatched();
+    let mut frames = all_of::<u16, FRAMES>(0);
+    let mut dispatched = all_of::<u16, MAX_STMTS>(0);
     stack_frames(stmts, n, &mut frames);
     let d = list_dispatched(stmts, falls, n, &mut dispatched);
     wire_lists(

@@ -4,11 +4,11 @@ use lib.ListN.{length-replicate}
 use Rattle.checking.specs.Pieces.{fed-none, fed_piece}
 use Rattle.flowcheck.proofs.compare_file.Goals as goal
 
-pub loop-turns-init : goal.loop-turns-init
-loop-turns-init c = (fed-none _ _ c.begin-s.ensures, length-replicate {0} {A = ℕ} _ 0)
+pub loop-init : goal.loop-init
+loop-init c = (fed-none _ _ c.begin-s.ensures, length-replicate {0} {A = ℕ} _ 0)
 
 pub returns-then-n-lt65536 : goal.returns-then-n-lt65536
-returns-then-n-lt65536 c = fed_piece _ _ _ _ c.loop-turns.invariant.0 c.feed-s.ensures
+returns-then-n-lt65536 c = fed_piece _ _ _ _ c.loop.invariant.0 c.feed-s.ensures
 
-pub loop-turns-preserved : goal.loop-turns-preserved
-loop-turns-preserved c = (fed_piece _ _ _ _ c.loop-turns.invariant.0 c.feed-s.ensures, search rules)
+pub loop-preserved : goal.loop-preserved
+loop-preserved c = (fed_piece _ _ _ _ c.loop.invariant.0 c.feed-s.ensures, search rules)

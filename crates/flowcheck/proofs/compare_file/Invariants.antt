@@ -4,8 +4,5 @@ use Rattle.comparing.specs.ComparingStates.{standing_of}
 use Rattle.checking.specs.Pieces.{SomeFed}
 use Rattle.flowcheck.proofs.compare_file.Given as goal
 
-abbrev pub invariant-loop-turns : goal.invariant-loop-turns
-invariant-loop-turns l = SomeFed l.due (standing_of l.s) × (length l.piece ≡ 65536)
-
-abbrev pub decreases-loop-turns : goal.decreases-loop-turns
-decreases-loop-turns l = l.turns
+abbrev pub invariant-loop : goal.invariant-loop
+invariant-loop l = SomeFed l.due (standing_of l.s) × (length l.piece ≡ 65536)

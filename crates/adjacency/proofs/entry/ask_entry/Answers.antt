@@ -1,17 +1,23 @@
 -- `ask_entry`: the four answers in the order of the tests. Assumes nothing.
-use mathlib.Core.Path.{ap, ◌∙◌}
+use Rattle.std.proofs.Common.{suc, ◌≡◌, ◌∙◌, ap, arith}
 use Rattle.tables.specs.Columns.{entry_node}
 use Rattle.adjacency.specs.EntryAtLaws.{rows-outside, entered_nowhere, entry_outside, entered_node}
 use Rattle.adjacency.proofs.entry.ask_entry.Goals as goal
 
 pub returns-then-entries-n : goal.returns-then-entries-n
-returns-then-entries-n c = rows-outside _ _ _ _ c.count_of-n.ensures.0 c.if-entries-n.true
+returns-then-entries-n c = rw c.at.ensures (rows-outside _ _ _ _ c.count_of-n.ensures.0 c.if-entries-n.true)
 
-pub returns-then-e-eq0 : goal.returns-then-e-eq0
-returns-then-e-eq0 c = entered_nowhere _ _ _ _ c.count_of-n.ensures.0 c.if-entries-n.false _ (ap entry_node c.bounded_entry-e.ensures.0 ∙ c.first_entry.ensures) c.if-e-eq0.true
+pub returns-in-None : goal.returns-in-None
+returns-in-None c =
+    let z : c.from.result ≡ 0 = omega (arith, c.in-None.ensures) in
+    entered_nowhere _ _ _ _ c.count_of-n.ensures.0 c.if-entries-n.false _ (ap entry_node c.from.ensures ∙ c.first_entry.ensures) z
 
-pub returns-then-count_of-id : goal.returns-then-count_of-id
-returns-then-count_of-id c = entry_outside _ _ _ _ c.count_of-n.ensures.0 c.if-entries-n.false _ (ap entry_node c.bounded_entry-e.ensures.0 ∙ c.first_entry.ensures) c.if-e-eq0.false _ c.count_of.ensures.0 c.if-count_of-id.true
+pub returns-in-Some : goal.returns-in-Some
+returns-in-Some c =
+    let z : c.from.result ≡ suc c.in-Some.id = omega (arith, c.in-Some.ensures) in
+    entered_node _ _ _ _ c.count_of-n.ensures.0 c.if-entries-n.false _ (ap entry_node c.from.ensures ∙ c.first_entry.ensures) _ z _ c.count_of.ensures.0 c.if-id-count_of.true
 
-pub returns : goal.returns
-returns c = entered_node _ _ _ _ c.count_of-n.ensures.0 c.if-entries-n.false _ (ap entry_node c.bounded_entry-e.ensures.0 ∙ c.first_entry.ensures) c.if-e-eq0.false _ c.count_of.ensures.0 c.if-count_of-id.false
+pub returns-in-Some-2 : goal.returns-in-Some-2
+returns-in-Some-2 c =
+    let z : c.from.result ≡ suc c.in-Some-2.field-0 = omega (arith, c.in-Some-2.ensures) in
+    rw c.at-in-Some-2.ensures (entry_outside _ _ _ _ c.count_of-n.ensures.0 c.if-entries-n.false _ (ap entry_node c.from.ensures ∙ c.first_entry.ensures) _ z _ c.count_of.ensures.0 (omega (arith, c.if-id-count_of.false)))

@@ -1,4 +1,5 @@
 -- `first_entry`: none of the rows before i has the number. Assumes nothing.
+use Rattle.std.proofs.Common.{arith}
 use Rattle.adjacency.specs.EntryAtLaws.{first_found, none_found}
 use Rattle.adjacency.proofs.entry.first_entry.Goals as goal
 
@@ -6,10 +7,10 @@ pub returns-then-entries-i : goal.returns-then-entries-i
 returns-then-entries-i c =
     let a = c.args in
     let l = c.loop-i in
-    first_found a.n a.entries.now a.number l.i c.requires c.loop-i-test.true c.if-entries-i.true l.invariant.1
+    first_found a.n a.entries.now a.number l.i c.requires (omega arith) c.if-entries-i.true l.invariant
 
 pub returns : goal.returns
 returns c =
     let a = c.args in
     let l = c.loop-i in
-    none_found a.n a.entries.now a.number l.i c.loop-i-test.false l.invariant.1
+    none_found a.n a.entries.now a.number l.i (omega arith) l.invariant

@@ -1,28 +1,19 @@
 -- `list_part`: the part that the question answers, or an empty one. Assumes nothing.
-use Rattle.std.proofs.Common.{◌+◌, ◌≤◌, sym, ◌∙◌, length, arith}
+use Rattle.std.proofs.Common.{arith}
 use Rattle.adjacency.specs.ListsAtLaws.{asked-inside, part_lent, refused_empty}
 use Rattle.adjacency.proofs.successors.list_part.Goals as goal
 
-pub overflow_add-end : goal.overflow_add-end
-overflow_add-end c =
-    let inside : c.in-Part.start + c.in-Part.len ≤ length c.args.table.now =
-    asked-inside _ _ _ _ _ _ _ _ (sym c.ask_list.ensures ∙ c.in-Part.is) in
-    omega (arith, inside)
+pub overflow_add-result : goal.overflow_add-result
+overflow_add-result c = omega (arith, asked-inside _ _ _ _ _ _ _ _ c.in-Ok.ensures)
 
 pub offset_bounds-table-start : goal.offset_bounds-table-start
-offset_bounds-table-start c =
-    let inside : c.in-Part.start + c.in-Part.len ≤ length c.args.table.now =
-    asked-inside _ _ _ _ _ _ _ _ (sym c.ask_list.ensures ∙ c.in-Part.is) in
-    omega (arith, inside)
+offset_bounds-table-start c = omega (arith, asked-inside _ _ _ _ _ _ _ _ c.in-Ok.ensures)
 
 pub slice_bounds-result-end : goal.slice_bounds-result-end
-slice_bounds-result-end c =
-    let inside : c.in-Part.start + c.in-Part.len ≤ length c.args.table.now =
-    asked-inside _ _ _ _ _ _ _ _ (sym c.ask_list.ensures ∙ c.in-Part.is) in
-    omega (arith, inside)
+slice_bounds-result-end c = omega (arith, asked-inside _ _ _ _ _ _ _ _ c.in-Ok.ensures)
 
-pub returns-in-Part : goal.returns-in-Part
-returns-in-Part c = part_lent _ _ _ _ (sym c.ask_list.ensures ∙ c.in-Part.is)
+pub returns-in-Ok : goal.returns-in-Ok
+returns-in-Ok c = part_lent _ _ _ _ c.in-Ok.ensures
 
-pub returns-in-Refused : goal.returns-in-Refused
-returns-in-Refused c = refused_empty _ _ _ _ (sym c.ask_list.ensures ∙ c.in-Refused.is)
+pub returns-in-Err : goal.returns-in-Err
+returns-in-Err c = refused_empty _ _ _ _ c.in-Err.ensures

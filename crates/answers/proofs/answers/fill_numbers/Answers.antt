@@ -1,7 +1,8 @@
 -- `fill_numbers`: each turn writes the number of one word. Assumes nothing.
 use Prim.Native.Nat.{ℕ, ◌+◌}
 use native.Mathlib.Omega.{arith}
-use mathlib.Core.Path.{◌∙◌, ap}
+use mathlib.Core.Path.{◌≡◌, ◌∙◌, ap}
+use borrow.Author.Rules.{rules}
 use mathlib.Core.Bool.{false}
 use mathlib.Core.List.{map, ◌++◌}
 use lib.ListN.{drop, length-map}
@@ -19,8 +20,9 @@ returns-then-to-s c =
     let f = entry_by false in
     let w = piece_at c.args.s.now c.loop-at.at c.find-e.result in
     let h = filling_room f c.args.s.now c.args.part.now c.loop-at.part c.loop-at.at c.loop-at.n w c.loop-at.invariant.2 c.requires in
-    let v = c.value_of.ensures ∙ ap number_answer c.number.ensures ∙ number_answer_lem (parse_number w) in
-    let p = filling_last f c.args.s.now c.args.part.now c.loop-at.part c.loop-at.at c.loop-at.n w c.loop-at.invariant.2 c.value_of.result v h (next_last 32 c.args.s.now c.loop-at.at c.find-e.result (omega arith) c.find-e.ensures.0 c.if-to-s.true) in
+    let u : c.unwrap_or.result ≡ number_answer c.number.result = search rules in
+    let v = u ∙ ap number_answer c.number.ensures ∙ number_answer_lem (parse_number w) in
+    let p = filling_last f c.args.s.now c.args.part.now c.loop-at.part c.loop-at.at c.loop-at.n w c.loop-at.invariant.2 c.unwrap_or.result v h (next_last 32 c.args.s.now c.loop-at.at c.find-e.result (omega arith) c.find-e.ensures.0 c.if-to-s.true) in
     p.table ∙ ap (λ (k : ℕ). map f (split 32 c.args.s.now) ++ drop k c.args.part.now) (length-map (split 32 c.args.s.now) f)
 
 pub loop-at-preserved : goal.loop-at-preserved
@@ -29,6 +31,7 @@ loop-at-preserved c =
     let f = entry_by false in
     let w = piece_at c.args.s.now c.loop-at.at c.find-e.result in
     let h = filling_room f c.args.s.now c.args.part.now c.loop-at.part c.loop-at.at c.loop-at.n w c.loop-at.invariant.2 c.requires in
-    let v = c.value_of.ensures ∙ ap number_answer c.number.ensures ∙ number_answer_lem (parse_number w) in
+    let u : c.unwrap_or.result ≡ number_answer c.number.result = search rules in
+    let v = u ∙ ap number_answer c.number.ensures ∙ number_answer_lem (parse_number w) in
     let p = next_more 32 c.args.s.now c.loop-at.at c.find-e.result (omega arith) c.find-e.ensures.0 c.if-to-s.false c.find-e.ensures.1 in
-    (omega arith, omega arith, filling_next f c.args.s.now c.args.part.now c.loop-at.part c.loop-at.at c.loop-at.n w c.loop-at.invariant.2 (c.loop-at.at + c.find-e.result + 1) c.value_of.result v h p.1)
+    (omega arith, omega arith, filling_next f c.args.s.now c.args.part.now c.loop-at.part c.loop-at.at c.loop-at.n w c.loop-at.invariant.2 (c.loop-at.at + c.find-e.result + 1) c.unwrap_or.result v h p.1)

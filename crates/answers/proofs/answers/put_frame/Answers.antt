@@ -4,19 +4,19 @@ use Prim.Native.Nat.{ℕ}
 use lib.ListN.{length, length-replicate}
 use lib.Seq.{length-take-le}
 use Rattle.listings.specs.Bytes.{bytes}
-use Rattle.formatting.specs.Printing.{puts_is}
+use Rattle.formatting.specs.Pages.{wrote_is}
 use Rattle.answers.specs.AnswerLaws.{frame_fits, frame_put, frame_turned}
 use Rattle.answers.proofs.answers.put_frame.Goals as goal
 
 pub slice_bounds-room-end : goal.slice_bounds-room-end
-slice_bounds-room-end c = frame_fits c.args.counts.now c.args.stmts.now c.args.args.now c.args.falls.now c.args.lists.now c.args.succ.now c.args.header c.args.node c.args.name.now c.args.flag _ _ c.frame_successors-framed.result c.frame_successors-framed.ensures (ap length c.frame_room-room.ensures ∙ length-replicate {A = ℕ} 4096 0) _ c.in-Listed.is
+slice_bounds-room-end c = frame_fits c.args.counts.now c.args.stmts.now c.args.args.now c.args.falls.now c.args.lists.now c.args.succ.now c.args.header c.args.node c.args.name.now c.args.flag _ _ c.frame_successors-framed.result c.frame_successors-framed.ensures (ap length c.all_of-room.ensures ∙ length-replicate {A = ℕ} 4096 0) _ c.in-Ok.is
 
-pub slice_bounds-put_list_row-end-in-Listed : goal.slice_bounds-put_list_row-end-in-Listed
-slice_bounds-put_list_row-end-in-Listed c = sym (length-take-le _ _ (frame_fits c.args.counts.now c.args.stmts.now c.args.args.now c.args.falls.now c.args.lists.now c.args.succ.now c.args.header c.args.node c.args.name.now c.args.flag _ _ c.frame_successors-framed.result c.frame_successors-framed.ensures (ap length c.frame_room-room.ensures ∙ length-replicate {A = ℕ} 4096 0) _ c.in-Listed.is))
+pub slice_bounds-put_list_row-end-in-Ok : goal.slice_bounds-put_list_row-end-in-Ok
+slice_bounds-put_list_row-end-in-Ok c = sym (length-take-le _ _ (frame_fits c.args.counts.now c.args.stmts.now c.args.args.now c.args.falls.now c.args.lists.now c.args.succ.now c.args.header c.args.node c.args.name.now c.args.flag _ _ c.frame_successors-framed.result c.frame_successors-framed.ensures (ap length c.all_of-room.ensures ∙ length-replicate {A = ℕ} 4096 0) _ c.in-Ok.is))
 
-pub returns-in-Listed : goal.returns-in-Listed
+pub returns-in-Ok : goal.returns-in-Ok
 unfolding bytes
-returns-in-Listed c = puts_is (frame_put _ _ _ _ _ _ _ _ _ _ _ _ c.frame_successors-framed.result c.frame_successors-framed.ensures (ap length c.frame_room-room.ensures ∙ length-replicate {A = ℕ} 4096 0) _ c.in-Listed.is) c.put_list_row.ensures
+returns-in-Ok c = wrote_is (frame_put _ _ _ _ _ _ _ _ _ _ _ _ c.frame_successors-framed.result c.frame_successors-framed.ensures (ap length c.all_of-room.ensures ∙ length-replicate {A = ℕ} 4096 0) _ c.in-Ok.is) c.put_list_row.ensures
 
-pub returns-in-Refused : goal.returns-in-Refused
-returns-in-Refused c = puts_is (frame_turned _ _ _ _ _ _ _ _ _ _ _ _ c.frame_successors-framed.result c.frame_successors-framed.ensures (ap length c.frame_room-room.ensures ∙ length-replicate {A = ℕ} 4096 0) _ _ c.in-Refused.is) c.put_refusal.ensures
+pub returns-in-Err : goal.returns-in-Err
+returns-in-Err c = wrote_is (frame_turned _ _ _ _ _ _ _ _ _ _ _ _ c.frame_successors-framed.result c.frame_successors-framed.ensures (ap length c.all_of-room.ensures ∙ length-replicate {A = ℕ} 4096 0) _ c.in-Err.is) c.put_refusal.ensures

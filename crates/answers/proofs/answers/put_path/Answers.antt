@@ -7,7 +7,7 @@ use lib.ListN.{length-map}
 use Rattle.listings.specs.Rows.{split}
 use Rattle.listings.specs.Scan.{split-some}
 use Rattle.reader.specs.Operands.{entry_by}
-use Rattle.formatting.specs.Printing.{puts_is}
+use Rattle.formatting.specs.Pages.{wrote_is}
 use Rattle.answers.specs.AnswerLaws.{path_put}
 use Rattle.answers.proofs.answers.put_path.Goals as goal
 
@@ -20,4 +20,4 @@ slice_bounds-resolve_path-start c = omega (arith, c.requires.0, split-some 32 c.
 pub returns : goal.returns
 returns c =
     let ws = split 32 c.args.s.now in
-    puts_is (path_put c.args.counts.now c.args.stmts.now (map (entry_by false) ws) _ _ c.args.n c.wide.result c.resolve_path-a.result c.fill_numbers.ensures (c.requires.0 ∙ sym (length-map ws (entry_by false))) (omega (arith, c.requires.0, split-some 32 c.args.s.now)) c.wide.ensures c.resolve_path-a.ensures) c.put_stated.ensures
+    wrote_is (path_put c.args.counts.now c.args.stmts.now (map (entry_by false) ws) _ _ c.args.n c.from.result c.resolve_path-a.result c.fill_numbers.ensures (c.requires.0 ∙ sym (length-map ws (entry_by false))) (omega (arith, c.requires.0, split-some 32 c.args.s.now)) c.from.ensures c.resolve_path-a.ensures) c.put_stated.ensures

@@ -1,8 +1,16 @@
--- `put_entry`: the three pieces. Assumes nothing.
+-- `put_entry`: the three pieces, or one. Assumes nothing.
+use Rattle.std.proofs.Common.{ℕ, Ok, Option, sym, ap, ◌∙◌}
 use Rattle.listings.specs.Bytes.{bytes}
-use Rattle.answers.specs.RowLaws.{puts_one}
+use Rattle.formatting.specs.Pages.{wrote_is}
+use Rattle.answers.specs.AnswersAt.{entered_row}
+use Rattle.answers.specs.RowLaws.{wrote_one, no_entry}
 use Rattle.answers.proofs.print.put_entry.Goals as goal
 
-pub returns : goal.returns
+pub returns-in-Some : goal.returns-in-Some
 unfolding bytes
-returns c = puts_one _ _ _ _ _ _ _ _ (bytes "(entry") c.args.id c.put_bytes-r.ensures c.put_number-r.ensures c.put_bytes.ensures
+returns-in-Some c =
+    wrote_is (sym (ap (λ (x : Option ℕ). entered_row (Ok x)) c.in-Some.is)) (wrote_one (bytes "(entry") c.in-Some.id c.put_bytes.ensures c.put_number.ensures c.put_bytes-in-Some.ensures)
+
+pub returns-in-None : goal.returns-in-None
+unfolding bytes
+returns-in-None c = wrote_is (no_entry ∙ sym (ap (λ (x : Option ℕ). entered_row (Ok x)) c.in-None.is)) c.put_bytes-in-None.ensures

@@ -1,5 +1,5 @@
 -- `flag_of`: by one test after the other. Assumes nothing.
-use mathlib.Core.Path.{sym, ◌∙◌}
+use Rattle.std.proofs.Common.{sym, ◌∙◌}
 use Rattle.listings.specs.Bytes.{bytes}
 use Rattle.answers.specs.QuestionWords.{flag_of}
 use Rattle.answers.proofs.words.flag_of.Goals as goal

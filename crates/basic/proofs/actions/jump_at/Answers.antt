@@ -2,16 +2,20 @@
 use Rattle.std.proofs.Common.{sym, arith}
 use Rattle.program_files.specs.Program.{map_found}
 use Rattle.basic.specs.Cursors.{tokens_at}
+use Rattle.basic.specs.Found.{handed_on}
 use Rattle.basic.specs.Numbers.{number_told}
 use Rattle.basic.proofs.actions.jump_at.Goals as goal
 
 pub overflow_cast-result : goal.overflow_cast-result
-overflow_cast-result c = let h = number_told (tokens_at c.args.file.now c.args.c) (tokens_at c.args.file.now c.in-Value.next) c.in-Value.value (sym c.in-Value.ensures) in omega (arith, h.0)
+overflow_cast-result c =
+    let n = c.in_ok-number.number in
+    let h = number_told (tokens_at c.args.file.now c.args.c) (tokens_at c.args.file.now n.next) n.value (sym c.in_ok-number.ensures) in
+    omega (arith, h.0)
 
-pub returns-in-Lacks : goal.returns-in-Lacks
+pub returns-in_err-number : goal.returns-in_err-number
 unfolding map_found
-returns-in-Lacks c = rw (sym c.in-Lacks.ensures)
+returns-in_err-number c = rw (sym c.in_err-number.ensures) (handed_on _ c.from_residual.result _ c.from_residual.ensures.1)
 
-pub returns-in-Value : goal.returns-in-Value
+pub returns : goal.returns
 unfolding map_found
-returns-in-Value c = rw (sym c.in-Value.ensures)
+returns c = rw (sym c.in_ok-number.ensures)

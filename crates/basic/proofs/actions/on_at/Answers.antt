@@ -2,16 +2,25 @@
 use Rattle.std.proofs.Common.{sym, ◌∙◌, ap}
 use Rattle.program_files.specs.Program.{map_found}
 use Rattle.basic.specs.Cursors.{tokens_at}
-use Rattle.basic.specs.Actions.{does, coded}
+use Rattle.basic.specs.Found.{handed_on}
+use Rattle.basic.specs.Actions.{coded}
 use Rattle.basic.specs.ActionLaws.{on_lacks, on_goto, on_gosub}
+use Rattle.basic.specs.declared.actions.Action.TheVariants.{Does}
 use Rattle.basic.proofs.actions.on_at.Goals as goal
+use Rattle.basic.proofs.actions.on_at.Goals.{then-jump, else-jump}
 
-pub returns-then-value-eq137 : goal.returns-then-value-eq137
-returns-then-value-eq137 c = c.list_at.ensures (tokens_at c.args.file.now) ∙ ap (map_found (λ k. does 11 k)) c.count_items.ensures ∙ sym (on_goto (tokens_at c.args.file.now c.args.c) c.in-Value.value _ (sym c.in-Value.ensures) c.if-value-eq137.true)
-
-pub returns-in-Lacks : goal.returns-in-Lacks
+pub returns-in_err-jump : goal.returns-in_err-jump
 unfolding map_found
-returns-in-Lacks c = sym (ap (map_found coded) (on_lacks _ (tokens_at c.args.file.now c.args.c) c.in-Lacks.place (sym c.in-Lacks.ensures)))
+returns-in_err-jump c =
+    handed_on _ c.from_residual.result _ c.from_residual.ensures.1
+    ∙ sym (ap (map_found coded) (on_lacks _ (tokens_at c.args.file.now c.args.c) c.in_err-jump.field-0.0.place (sym c.in_err-jump.ensures)))
 
-pub returns-else-value-eq137 : goal.returns-else-value-eq137
-returns-else-value-eq137 c = c.list_at-in-Value.ensures (tokens_at c.args.file.now) ∙ ap (map_found (λ k. does 12 k)) c.count_items-in-Value.ensures ∙ sym (on_gosub (tokens_at c.args.file.now c.args.c) c.in-Value.value _ (sym c.in-Value.ensures) c.if-value-eq137.false)
+pub returns : goal.returns
+returns c =
+    let T = tokens_at c.args.file.now in
+    let found = c.list_at.ensures T ∙ ap (map_found (λ k. Does c.if-jump.word k)) c.count_items.ensures in
+    let jump = c.in_ok-jump.jump in
+    elim c.if-jump.branch [
+      | then-jump w ↦ found ∙ rw w.word-is (sym (on_goto (T c.args.c) jump.value _ (sym c.in_ok-jump.ensures) w.if-jump.true))
+      | else-jump w ↦ found ∙ rw w.word-is (sym (on_gosub (T c.args.c) jump.value _ (sym c.in_ok-jump.ensures) w.if-jump.false))
+    ]

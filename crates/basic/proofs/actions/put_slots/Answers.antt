@@ -3,15 +3,11 @@ use Rattle.std.proofs.Common.{sym, ◌∙◌, ap}
 use Rattle.std.specs.Prelude.{List, ℕ}
 use Rattle.basic.specs.Cursors.{tokens_at}
 use Rattle.basic.specs.Items.{put_front}
-use Rattle.basic.specs.ItemLaws.{put_one_front, put_one_full}
 use Rattle.basic.specs.ActionLaws.{slots_names, slots_star}
 use Rattle.basic.proofs.actions.put_slots.Goals as goal
 
 pub returns-then-is_capital : goal.returns-then-is_capital
 returns-then-is_capital c = c.put_items.ensures ∙ ap (λ (vs : List ℕ). put_front vs c.args.part.now) (sym (slots_names (tokens_at c.args.file.now c.args.c) _ _ _ c.token_at-t.ensures (sym c.if-is_capital.ensures)))
 
-pub returns-then-part-gt0 : goal.returns-then-part-gt0
-returns-then-part-gt0 c = put_one_front 0 c.args.part.now c.if-part-gt0.true ∙ ap (λ (vs : List ℕ). put_front vs c.args.part.now) (sym (slots_star (tokens_at c.args.file.now c.args.c) _ _ _ c.token_at-t.ensures (sym c.if-is_capital.ensures) _))
-
-pub returns-else-part-gt0 : goal.returns-else-part-gt0
-returns-else-part-gt0 c = put_one_full 0 c.args.part.now c.if-part-gt0.false ∙ ap (λ (vs : List ℕ). put_front vs c.args.part.now) (sym (slots_star (tokens_at c.args.file.now c.args.c) _ _ _ c.token_at-t.ensures (sym c.if-is_capital.ensures) _))
+pub returns : goal.returns
+returns c = c.put_first.ensures ∙ ap (λ (vs : List ℕ). put_front vs c.args.part.now) (sym (slots_star (tokens_at c.args.file.now c.args.c) _ _ _ c.token_at-t.ensures (sym c.if-is_capital.ensures) _))

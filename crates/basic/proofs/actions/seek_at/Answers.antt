@@ -1,33 +1,26 @@
 -- `seek_at`: the token is sought in what is left as it is in the whole. Assumes nothing.
-use Rattle.std.proofs.Common.{refl, sym, ◌∙◌, inl, inr}
+use Rattle.std.proofs.Common.{◌≡◌, ◌⊎◌, sym, ◌∙◌, inl, inr, arith}
 use Rattle.basic.specs.Cursors.{tokens_at}
-use Rattle.basic.specs.Tokens.{next_is, next_shorter}
+use Rattle.basic.specs.Tokens.{next_is}
 use Rattle.basic.specs.ActionLaws.{seek_end, seek_here, seek_more}
 use Rattle.basic.proofs.actions.seek_at.Goals as goal
 
-pub loop-t-init : goal.loop-t-init
-loop-t-init c = refl
+pub returns-in-0 : goal.returns-in-0
+returns-in-0 c = sym (seek_end c.args.x c.args.y _ _ _ _ c.token_at-t.ensures c.in-0.is) ∙ c.loop-byte.invariant
 
-pub returns-then-t-eq0 : goal.returns-then-t-eq0
-returns-then-t-eq0 c = sym (seek_end c.args.x c.args.y _ _ _ _ c.token_at-t.ensures (inl c.if-t-eq0.true)) ∙ c.loop-t.invariant
+pub returns-in_default : goal.returns-in_default
+returns-in_default c =
+    let t = c.token_at-t.result in
+    let more : t.byte ≡ 0 → ⊥ = grind arith in
+    let within : t.byte ≡ 58 → ⊥ = grind arith in
+    let e = next_is (tokens_at c.args.file.now) c.loop-byte.at t c.token_at-t.ensures more in
+    let h = elim c.if-byte-y.either as (λ z. (t.byte ≡ c.args.x) ⊎ (t.byte ≡ c.args.y)) [ inl g ↦ inl g | inr g ↦ inr g.1 ] in
+    sym (seek_here c.args.x c.args.y _ _ _ _ e more within h) ∙ c.loop-byte.invariant
 
-pub returns-then-t-eq58 : goal.returns-then-t-eq58
-returns-then-t-eq58 c = sym (seek_end c.args.x c.args.y _ _ _ _ c.token_at-t.ensures (inr c.if-t-eq58.true)) ∙ c.loop-t.invariant
-
-pub returns-then-t-x : goal.returns-then-t-x
-returns-then-t-x c =
-    let e = next_is (tokens_at c.args.file.now) c.loop-t.at c.token_at-t.result c.token_at-t.ensures c.if-t-eq0.false in
-    sym (seek_here c.args.x c.args.y _ _ _ _ e c.if-t-eq0.false c.if-t-eq58.false (inl c.if-t-x.true)) ∙ c.loop-t.invariant
-
-pub returns-then-t-y : goal.returns-then-t-y
-returns-then-t-y c =
-    let e = next_is (tokens_at c.args.file.now) c.loop-t.at c.token_at-t.result c.token_at-t.ensures c.if-t-eq0.false in
-    sym (seek_here c.args.x c.args.y _ _ _ _ e c.if-t-eq0.false c.if-t-eq58.false (inr c.if-t-y.true)) ∙ c.loop-t.invariant
-
-pub loop-t-smaller : goal.loop-t-smaller
-loop-t-smaller c = next_shorter (tokens_at c.args.file.now) c.loop-t.at c.token_at-t.result c.token_at-t.ensures c.if-t-eq0.false
-
-pub loop-t-preserved : goal.loop-t-preserved
-loop-t-preserved c =
-    let e = next_is (tokens_at c.args.file.now) c.loop-t.at c.token_at-t.result c.token_at-t.ensures c.if-t-eq0.false in
-    sym (seek_more c.args.x c.args.y _ _ _ _ e c.if-t-eq0.false c.if-t-eq58.false c.if-t-x.false c.if-t-y.false) ∙ c.loop-t.invariant
+pub loop-byte-preserved : goal.loop-byte-preserved
+loop-byte-preserved c =
+    let t = c.token_at-t.result in
+    let more : t.byte ≡ 0 → ⊥ = grind arith in
+    let within : t.byte ≡ 58 → ⊥ = grind arith in
+    let e = next_is (tokens_at c.args.file.now) c.loop-byte.at t c.token_at-t.ensures more in
+    sym (seek_more c.args.x c.args.y _ _ _ _ e more within c.if-byte-y.false.0 c.if-byte-y.false.1) ∙ c.loop-byte.invariant

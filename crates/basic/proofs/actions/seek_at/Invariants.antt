@@ -4,8 +4,8 @@ use Rattle.program_files.specs.Program.{seek}
 use Rattle.basic.specs.Cursors.{tokens_at}
 use Rattle.basic.proofs.actions.seek_at.Given as goal
 
-abbrev pub invariant-loop-t : goal.invariant-loop-t
-invariant-loop-t l = seek l.x l.y (tokens_at l.file l.at) ≡ seek l.x l.y (tokens_at l.file l.fn.c)
+abbrev pub invariant-loop-byte : goal.invariant-loop-byte
+invariant-loop-byte l = seek l.x l.y (tokens_at l.file l.at) ≡ seek l.x l.y (tokens_at l.file l.fn.c)
 
-abbrev pub decreases-loop-t : goal.decreases-loop-t
-decreases-loop-t l = length (tokens_at l.file l.at)
+abbrev pub decreases-loop-byte : goal.decreases-loop-byte
+decreases-loop-byte l = length (tokens_at l.file l.at)

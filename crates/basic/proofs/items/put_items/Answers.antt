@@ -4,7 +4,7 @@ use Rattle.basic.specs.ItemLaws.{counts_of_lem, lacks_of, put_none}
 use Rattle.basic.proofs.items.put_items.Goals as goal
 
 pub store_items-requires : goal.store_items-requires
-store_items-requires c = counts_of_lem c.in-Listed.count _ _ c.in-Listed.ensures
+store_items-requires c = counts_of_lem c.in-Ok.items.value _ _ c.in-Ok.ensures
 
-pub returns-in-Lacks : goal.returns-in-Lacks
-returns-in-Lacks c = rw (lacks_of c.in-Lacks.place _ c.in-Lacks.ensures) (sym (put_none c.args.part.now))
+pub returns-in_default : goal.returns-in_default
+returns-in_default c = rw (lacks_of c.in_default.field-0.place _ c.in_default.ensures) (sym (put_none c.args.part.now))

@@ -4,8 +4,8 @@ use Rattle.basic.specs.Cursors.{raw_at}
 use Rattle.basic.specs.Lines.{first_foreign}
 use Rattle.basic.proofs.lines.foreign_at.Given as goal
 
-abbrev pub invariant-loop-t : goal.invariant-loop-t
-invariant-loop-t l = first_foreign (length l.file) (raw_at l.file l.at) ≡ first_foreign (length l.file) (raw_at l.file l.fn.c)
+abbrev pub invariant-loop-at : goal.invariant-loop-at
+invariant-loop-at l = first_foreign (raw_at l.file l.at) ≡ first_foreign (raw_at l.file l.fn.c)
 
-abbrev pub decreases-loop-t : goal.decreases-loop-t
-decreases-loop-t l = length (raw_at l.file l.at)
+abbrev pub decreases-loop-at : goal.decreases-loop-at
+decreases-loop-at l = length (raw_at l.file l.at)

@@ -1,5 +1,6 @@
 -- `with_line`: test by test, as the definition has them. Assumes nothing.
-use Rattle.std.proofs.Common.{◌≡◌, Bool, not, ℕ, arith, sym, ◌∙◌}
+use Rattle.std.proofs.Common.{◌≡◌, not, arith, sym, ◌∙◌}
+use Rattle.std.specs.Prelude.{Ok}
 use borrow.Author.Tests.{not-true, not-false}
 use Rattle.listings.specs.Listing.{Stmts, size}
 use Rattle.program_files.specs.Program as definition
@@ -7,54 +8,46 @@ use Rattle.program_files.specs.Program.{shallow, short}
 use Rattle.basic.specs.Bodies.{summary}
 use Rattle.basic.specs.LineLaws.{told_4, told_5, told_6, told_7, told_8, told-taken}
 use Rattle.basic.specs.declared.bodies.Body.{Body}
-use Rattle.basic.specs.declared.bodies.Body.TheVariants.{Bad, Good}
 use Rattle.basic.proofs.lines.with_line.Goals as goal
 
 -- what the summary says of the statements
-record Told (st : Stmts) (m : ℕ) (d l : Bool) : Type 0 where
-  pub stmts : m ≡ size st
-  pub deep : d ≡ not (shallow 0 st)
-  pub long : l ≡ not (short st)
+record Told (st : Stmts) (b : Body) : Type 0 where
+  pub stmts : b.stmts ≡ size st
+  pub deep : b.deep ≡ not (shallow 0 st)
+  pub long : b.long ≡ not (short st)
 
-told : (st : Stmts) (b : Body) (m : ℕ) (d l : Bool) → b ≡ Good m d l → b ≡ summary (definition.body st) → Told st m d l
+told : (st : Stmts) (b : Body) → Ok b ≡ summary (definition.body st) → Told st b
 unfolding summary
-told st b m d l e f = record { stmts = cc; deep = cc; long = cc }
-
-never : {A : Type 0} (st : Stmts) (b : Body) (p : ℕ) → b ≡ Bad p → b ≡ summary (definition.body st) → A
-unfolding summary
-never st b p e f = absurd cc
-
-pub returns-in_default-clause-told : goal.returns-in_default-clause-told
-returns-in_default-clause-told c st e = never st c.args.body _ c.in_default.is e
+told st b f = record { stmts = cc; deep = cc; long = cc }
 
 pub returns-then-n-s-clause-told : goal.returns-then-n-s-clause-told
-returns-then-n-s-clause-told c st e = rw c.refused.ensures (told_4 c.args.s c.args.n st c.if-n-s.true)
+returns-then-n-s-clause-told c st e = rw c.at.ensures (told_4 c.args.s c.args.n st c.if-n-s.true)
 
 pub returns-then-s-ge-MAX_LINES-clause-told : goal.returns-then-s-ge-MAX_LINES-clause-told
-returns-then-s-ge-MAX_LINES-clause-told c st e = rw c.refused-then-s-ge-MAX_LINES.ensures (told_5 c.args.s c.args.n st (omega arith) (omega arith))
+returns-then-s-ge-MAX_LINES-clause-told c st e = rw c.at-then-s-ge-MAX_LINES.ensures (told_5 c.args.s c.args.n st (omega arith) (omega arith))
 
-pub returns-then-s-stmts-gt-MAX_STMTS-clause-told : goal.returns-then-s-stmts-gt-MAX_STMTS-clause-told
-returns-then-s-stmts-gt-MAX_STMTS-clause-told c st e =
-    let t = told st c.args.body _ _ _ c.in-Good.is e in
+pub returns-then-s-body-gt-MAX_STMTS-clause-told : goal.returns-then-s-body-gt-MAX_STMTS-clause-told
+returns-then-s-body-gt-MAX_STMTS-clause-told c st e =
+    let t = told st c.args.body e in
     let z = t.stmts in
-    rw c.refused-then-s-stmts-gt-MAX_STMTS.ensures (told_6 c.args.s c.args.n st (omega arith) (omega arith) (omega arith))
+    rw c.at-then-s-body-gt-MAX_STMTS.ensures (told_6 c.args.s c.args.n st (omega arith) (omega arith) (omega arith))
 
-pub returns-then-deep-clause-told : goal.returns-then-deep-clause-told
-returns-then-deep-clause-told c st e =
-    let t = told st c.args.body _ _ _ c.in-Good.is e in
+pub returns-then-body-clause-told : goal.returns-then-body-clause-told
+returns-then-body-clause-told c st e =
+    let t = told st c.args.body e in
     let z = t.stmts in
-    rw c.refused-then-deep.ensures (told_7 c.args.s c.args.n st (omega arith) (omega arith) (omega arith) (not-true _ (sym t.deep ∙ c.if-deep.true)))
+    rw c.at-then-body.ensures (told_7 c.args.s c.args.n st (omega arith) (omega arith) (omega arith) (not-true _ (sym t.deep ∙ c.if-body.true)))
 
-pub returns-then-long-clause-told : goal.returns-then-long-clause-told
-returns-then-long-clause-told c st e =
-    let t = told st c.args.body _ _ _ c.in-Good.is e in
+pub returns-then-body-2-clause-told : goal.returns-then-body-2-clause-told
+returns-then-body-2-clause-told c st e =
+    let t = told st c.args.body e in
     let z = t.stmts in
-    rw c.refused-then-long.ensures
-    (told_8 c.args.s c.args.n st (omega arith) (omega arith) (omega arith) (not-false _ (sym t.deep ∙ c.if-deep.false)) (not-true _ (sym t.long ∙ c.if-long.true)))
+    rw c.at-then-body-2.ensures
+    (told_8 c.args.s c.args.n st (omega arith) (omega arith) (omega arith) (not-false _ (sym t.deep ∙ c.if-body.false)) (not-true _ (sym t.long ∙ c.if-body-2.true)))
 
 pub returns-clause-told : goal.returns-clause-told
 returns-clause-told c st e =
-    let t = told st c.args.body _ _ _ c.in-Good.is e in
+    let t = told st c.args.body e in
     let z = t.stmts in
     rw t.stmts
-    (told-taken c.args.s c.args.n st (omega arith) (omega arith) (omega arith) (not-false _ (sym t.deep ∙ c.if-deep.false)) c.args.next (not-false _ (sym t.long ∙ c.if-long.false)))
+    (told-taken c.args.s c.args.n st (omega arith) (omega arith) (omega arith) (not-false _ (sym t.deep ∙ c.if-body.false)) c.args.next (not-false _ (sym t.long ∙ c.if-body-2.false)))

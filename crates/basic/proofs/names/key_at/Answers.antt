@@ -14,62 +14,71 @@ pub returns-then-not-is_capital : goal.returns-then-not-is_capital
 returns-then-not-is_capital c =
     sym (name-none c.token_at-t.result.place c.token_at-t.result.byte _ _ c.token_at-t.ensures (sym c.is_capital.ensures ∙ c.if-not-is_capital.true))
 
-pub loop-at-init : goal.loop-at-init
-loop-at-init c = (c.token_at-t.ensures, keyed_none c.token_at-t.result.place c.token_at-t.result.byte _ _ c.token_at-t.ensures (sym c.is_capital.ensures ∙ c.if-not-is_capital.false))
+pub loop-next-init : goal.loop-next-init
+loop-next-init c = (c.token_at-t.ensures, keyed_none c.token_at-t.result.place c.token_at-t.result.byte _ _ c.token_at-t.ensures (sym c.is_capital.ensures ∙ c.if-not-is_capital.false))
 
-pub overflow_sub-key : goal.overflow_sub-key
-overflow_sub-key c = let r = character_range c.loop-at.t.byte (sym c.is_character.ensures ∙ c.loop-at-test.true) in omega arith
+pub overflow_sub-t : goal.overflow_sub-t
+overflow_sub-t c = let r = character_range c.loop-next.t.byte (sym c.is_character.ensures ∙ c.loop-next-test.true) in omega arith
+
+pub overflow_mul-key : goal.overflow_mul-key
+overflow_mul-key c =
+    let r = character_range c.loop-next.t.byte (sym c.is_character.ensures ∙ c.loop-next-test.true) in
+    let s = sum_small _ _ c.loop-next.key c.loop-next.weight c.loop-next.t.byte c.loop-next.invariant.1 r.1 in
+    rw c.from.ensures (search rules)
 
 pub overflow_add-key : goal.overflow_add-key
 overflow_add-key c =
-    let r = character_range c.loop-at.t.byte (sym c.is_character.ensures ∙ c.loop-at-test.true) in
-    let s = sum_small _ _ c.loop-at.key c.loop-at.weight c.loop-at.t.byte c.loop-at.invariant.1 r.1 in
-    search rules
+    let r = character_range c.loop-next.t.byte (sym c.is_character.ensures ∙ c.loop-next-test.true) in
+    let s = sum_small _ _ c.loop-next.key c.loop-next.weight c.loop-next.t.byte c.loop-next.invariant.1 r.1 in
+    rw c.from.ensures (search rules)
 
-pub loop-at-smaller : goal.loop-at-smaller
-loop-at-smaller c =
-    let h = not_end c.loop-at.t.byte (sym c.is_character.ensures ∙ c.loop-at-test.true) in
-    omega (arith, next_shorter (tokens_at c.args.file.now) c.loop-at.at c.loop-at.t c.loop-at.invariant.0 h)
+pub loop-next-smaller : goal.loop-next-smaller
+loop-next-smaller c =
+    let h = not_end c.loop-next.t.byte (sym c.is_character.ensures ∙ c.loop-next-test.true) in
+    omega (arith, next_shorter (tokens_at c.args.file.now) c.loop-next.next c.loop-next.t c.loop-next.invariant.0 h)
 
-pub loop-at-preserved : goal.loop-at-preserved
-loop-at-preserved c =
-    let d = sym c.is_character.ensures ∙ c.loop-at-test.true in
+pub loop-next-preserved : goal.loop-next-preserved
+loop-next-preserved c =
+    let d = sym c.is_character.ensures ∙ c.loop-next-test.true in
     let T = tokens_at c.args.file.now in
-    let t = c.loop-at.t in
-    let n = next_more T c.loop-at.at t c.loop-at.invariant.0 (not_end t.byte d) in
+    let t = c.loop-next.t in
+    let n = next_more T c.loop-next.next t c.loop-next.invariant.0 (not_end t.byte d) in
     let i = c.if-weight-lt-KEPT in
     let r : IsKeyed (T c.args.c) (T t.next) i.key i.weight = elim i.branch [
       | then-weight-lt-KEPT w ↦
-          rw (w.key-is, w.weight-is) (keyed_kept (T c.args.c) (T c.loop-at.at) (T t.next) c.loop-at.key c.loop-at.weight t.place t.byte c.loop-at.invariant.1 n d w.if-weight-lt-KEPT.true)
+          rw (w.key-is, w.weight-is, w.from.ensures) (keyed_kept (T c.args.c) (T c.loop-next.next) (T t.next) c.loop-next.key c.loop-next.weight t.place t.byte c.loop-next.invariant.1 n d w.if-weight-lt-KEPT.true)
       | else-weight-lt-KEPT w ↦
-          rw (w.key-is, w.weight-is) (keyed_cut (T c.args.c) (T c.loop-at.at) (T t.next) c.loop-at.key c.loop-at.weight t.place t.byte c.loop-at.invariant.1 n d w.if-weight-lt-KEPT.false)
+          rw (w.key-is, w.weight-is) (keyed_cut (T c.args.c) (T c.loop-next.next) (T t.next) c.loop-next.key c.loop-next.weight t.place t.byte c.loop-next.invariant.1 n d w.if-weight-lt-KEPT.false)
     ] in
-    (c.token_at-t-in-loop-at.ensures, r)
+    (c.token_at-t-in-loop-next.ensures, r)
+
+pub overflow_sub-t-then-is_kind : goal.overflow_sub-t-then-is_kind
+overflow_sub-t-then-is_kind c = let r = kind_range c.loop-next.t.byte (sym c.is_kind.ensures ∙ c.if-is_kind.true) in omega arith
 
 pub overflow_mul-result : goal.overflow_mul-result
 overflow_mul-result c =
-    let r = kind_range c.loop-at.t.byte (sym c.is_kind.ensures ∙ c.if-is_kind.true) in
-    let s = sum_small _ _ c.loop-at.key c.loop-at.weight c.loop-at.t.byte c.loop-at.invariant.1 r.1 in
-    search rules
+    let r = kind_range c.loop-next.t.byte (sym c.is_kind.ensures ∙ c.if-is_kind.true) in
+    let s = sum_small _ _ c.loop-next.key c.loop-next.weight c.loop-next.t.byte c.loop-next.invariant.1 r.1 in
+    rw c.from-then-is_kind.ensures (search rules)
 
 pub overflow_add-result : goal.overflow_add-result
 overflow_add-result c =
-    let r = kind_range c.loop-at.t.byte (sym c.is_kind.ensures ∙ c.if-is_kind.true) in
-    let s = sum_small _ _ c.loop-at.key c.loop-at.weight c.loop-at.t.byte c.loop-at.invariant.1 r.1 in
-    search rules
+    let r = kind_range c.loop-next.t.byte (sym c.is_kind.ensures ∙ c.if-is_kind.true) in
+    let s = sum_small _ _ c.loop-next.key c.loop-next.weight c.loop-next.t.byte c.loop-next.invariant.1 r.1 in
+    rw c.from-then-is_kind.ensures (search rules)
 
 pub returns-then-is_kind : goal.returns-then-is_kind
 returns-then-is_kind c =
     let T = tokens_at c.args.file.now in
-    let t = c.loop-at.t in
+    let t = c.loop-next.t in
     let g = sym c.is_kind.ensures ∙ c.if-is_kind.true in
     let r = kind_range t.byte g in
-    let n = next_more T c.loop-at.at t c.loop-at.invariant.0 (λ e. omega arith) in
-    sym (keyed_kind (T c.args.c) (T c.loop-at.at) (T t.next) c.loop-at.key c.loop-at.weight t.place t.byte c.loop-at.invariant.1 n (sym c.is_character.ensures ∙ c.loop-at-test.false) g)
+    let n = next_more T c.loop-next.next t c.loop-next.invariant.0 (λ e. omega arith) in
+    rw c.from-then-is_kind.ensures (sym (keyed_kind (T c.args.c) (T c.loop-next.next) (T t.next) c.loop-next.key c.loop-next.weight t.place t.byte c.loop-next.invariant.1 n (sym c.is_character.ensures ∙ c.loop-next-test.false) g))
 
 pub returns : goal.returns
 returns c =
     let T = tokens_at c.args.file.now in
-    let t = c.loop-at.t in
-    sym (keyed_end (T c.args.c) (T c.loop-at.at) _ c.loop-at.key c.loop-at.weight t.place t.byte c.loop-at.invariant.1 c.loop-at.invariant.0 (sym c.is_character.ensures ∙ c.loop-at-test.false)
+    let t = c.loop-next.t in
+    sym (keyed_end (T c.args.c) (T c.loop-next.next) _ c.loop-next.key c.loop-next.weight t.place t.byte c.loop-next.invariant.1 c.loop-next.invariant.0 (sym c.is_character.ensures ∙ c.loop-next-test.false)
     (sym c.is_kind.ensures ∙ c.if-is_kind.false))

@@ -13,29 +13,29 @@ pub returns-then-not-is_digit : goal.returns-then-not-is_digit
 returns-then-not-is_digit c =
     sym (number_none c.token_at-t.result.place c.token_at-t.result.byte _ _ c.token_at-t.ensures (sym c.is_digit.ensures ∙ c.if-not-is_digit.true))
 
-pub loop-at-init : goal.loop-at-init
-loop-at-init c = (c.token_at-t.ensures, read-none _)
+pub loop-next-init : goal.loop-next-init
+loop-next-init c = (c.token_at-t.ensures, read-none _)
 
 pub with_digit-value-requires-clause-small : goal.with_digit-value-requires-clause-small
-with_digit-value-requires-clause-small c = read_most _ _ _ c.loop-at.invariant.1
+with_digit-value-requires-clause-small c = read_most _ _ _ c.loop-next.invariant.1
 
-pub loop-at-smaller : goal.loop-at-smaller
-loop-at-smaller c =
-    let h = not_end c.loop-at.t.byte (sym c.is_digit-in-loop-at.ensures ∙ c.loop-at-test.true) in
-    omega (arith, next_shorter (tokens_at c.args.file.now) c.loop-at.at c.loop-at.t c.loop-at.invariant.0 h)
+pub loop-next-smaller : goal.loop-next-smaller
+loop-next-smaller c =
+    let h = not_end c.loop-next.t.byte (sym c.is_digit-in-loop-next.ensures ∙ c.loop-next-test.true) in
+    omega (arith, next_shorter (tokens_at c.args.file.now) c.loop-next.next c.loop-next.t c.loop-next.invariant.0 h)
 
-pub loop-at-preserved : goal.loop-at-preserved
-loop-at-preserved c =
-    let d = sym c.is_digit-in-loop-at.ensures ∙ c.loop-at-test.true in
-    let n = next_more (tokens_at c.args.file.now) c.loop-at.at c.loop-at.t c.loop-at.invariant.0 (not_end c.loop-at.t.byte d) in
-    (c.token_at-t-in-loop-at.ensures, read_next _ _ _ c.loop-at.value _ c.loop-at.t.place c.loop-at.t.byte c.loop-at.invariant.1 n d c.with_digit-value.ensures)
+pub loop-next-preserved : goal.loop-next-preserved
+loop-next-preserved c =
+    let d = sym c.is_digit-in-loop-next.ensures ∙ c.loop-next-test.true in
+    let n = next_more (tokens_at c.args.file.now) c.loop-next.next c.loop-next.t c.loop-next.invariant.0 (not_end c.loop-next.t.byte d) in
+    (c.token_at-t-in-loop-next.ensures, read_next _ _ _ c.loop-next.value _ c.loop-next.t.place c.loop-next.t.byte c.loop-next.invariant.1 n d c.with_digit-value.ensures)
 
 pub returns-then-value-gt63999 : goal.returns-then-value-gt63999
 returns-then-value-gt63999 c =
     sym (number_large _ _ c.token_at-t.result.place c.token_at-t.result.byte c.token_at-t.ensures (sym c.is_digit.ensures ∙ c.if-not-is_digit.false)
-    _ _ c.loop-at.value c.loop-at.t.place c.loop-at.t.byte c.loop-at.invariant.1 c.loop-at.invariant.0 (sym c.is_digit-in-loop-at.ensures ∙ c.loop-at-test.false) c.if-value-gt63999.true)
+    _ _ c.loop-next.value c.loop-next.t.place c.loop-next.t.byte c.loop-next.invariant.1 c.loop-next.invariant.0 (sym c.is_digit-in-loop-next.ensures ∙ c.loop-next-test.false) c.if-value-gt63999.true)
 
 pub returns : goal.returns
 returns c =
     sym (number_found _ _ c.token_at-t.result.place c.token_at-t.result.byte c.token_at-t.ensures (sym c.is_digit.ensures ∙ c.if-not-is_digit.false)
-    _ _ c.loop-at.value c.loop-at.t.place c.loop-at.t.byte c.loop-at.invariant.1 c.loop-at.invariant.0 (sym c.is_digit-in-loop-at.ensures ∙ c.loop-at-test.false) (omega arith))
+    _ _ c.loop-next.value c.loop-next.t.place c.loop-next.t.byte c.loop-next.invariant.1 c.loop-next.invariant.0 (sym c.is_digit-in-loop-next.ensures ∙ c.loop-next-test.false) (omega arith))

@@ -4,8 +4,8 @@ use Rattle.basic.specs.Cursors.{tokens_at, IsNext}
 use Rattle.basic.specs.Numbers.{IsRead}
 use Rattle.basic.proofs.numbers.line_number.Given as goal
 
-abbrev pub invariant-loop-at : goal.invariant-loop-at
-invariant-loop-at l = IsNext (tokens_at l.file) l.at l.t × IsRead (tokens_at l.file l.fn.c) (tokens_at l.file l.at) l.value
+abbrev pub invariant-loop-next : goal.invariant-loop-next
+invariant-loop-next l = IsNext (tokens_at l.file) l.next l.t × IsRead (tokens_at l.file l.fn.c) (tokens_at l.file l.next) l.value
 
-abbrev pub decreases-loop-at : goal.decreases-loop-at
-decreases-loop-at l = length (tokens_at l.file l.at)
+abbrev pub decreases-loop-next : goal.decreases-loop-next
+decreases-loop-next l = length (tokens_at l.file l.next)

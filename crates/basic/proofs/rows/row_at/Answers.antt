@@ -17,7 +17,7 @@ returns-in-Statements c =
     due_yields f c.args.s (statements_at f c.args.s.at c.args.s.ends) c.statement_row_at.result (due_statements f c.args.s c.in-Statements.is) c.statement_row_at.ensures
 
 pub returns-in-To : goal.returns-in-To
-returns-in-To c = to_first c.args.file.now c.args.s c.staged-in-To.result c.in-To.is c.staged-in-To.ensures
+returns-in-To c = to_first c.args.file.now c.args.s c.staged-in-To.result c.in-To.number c.in-To.is c.staged-in-To.ensures
 
 pub returns-in-Stmts : goal.returns-in-Stmts
 returns-in-Stmts c = stmts_first c.args.file.now c.args.s c.staged-in-Stmts.result c.in-Stmts.is c.staged-in-Stmts.ensures

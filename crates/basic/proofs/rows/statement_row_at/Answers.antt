@@ -1,23 +1,26 @@
 -- Colons before a statement are passed.
+use Rattle.std.proofs.Common.{◌≡◌, arith}
 use Rattle.basic.specs.RowLaws.{passed_none, passed_end, passed_colon, passed_first, next_line, next_later}
 use Rattle.basic.proofs.rows.statement_row_at.Goals as goal
 
-pub loop-t-init : goal.loop-t-init
-loop-t-init c = passed_none c.args.file.now c.args.s
+pub loop-at-init : goal.loop-at-init
+loop-at-init c = passed_none c.args.file.now c.args.s
 
-pub returns-then-t-eq0 : goal.returns-then-t-eq0
-returns-then-t-eq0 c =
-    passed_end c.args.file.now c.args.s c.loop-t.at c.token_at-t.result c.loop-t.invariant c.token_at-t.ensures c.end_row_at.result c.if-t-eq0.true c.end_row_at.ensures
+pub returns-in-0 : goal.returns-in-0
+returns-in-0 c =
+    passed_end c.args.file.now c.args.s c.loop-at.at c.token_at-t.result c.loop-at.invariant c.token_at-t.ensures c.end_row_at.result c.in-0.is c.end_row_at.ensures
 
 pub action_row-requires-clause-line : goal.action_row-requires-clause-line
-action_row-requires-clause-line c = next_line c.args.file.now c.args.s c.loop-t.at c.token_at-t.result c.loop-t.invariant c.token_at-t.ensures c.if-t-eq0.false
+action_row-requires-clause-line c = next_line c.args.file.now c.args.s c.loop-at.at c.token_at-t.result c.loop-at.invariant c.token_at-t.ensures (grind arith)
 
 pub action_row-requires-clause-later : goal.action_row-requires-clause-later
-action_row-requires-clause-later c = next_later c.args.file.now c.args.s c.loop-t.at c.token_at-t.result c.loop-t.invariant c.token_at-t.ensures c.if-t-eq0.false
+action_row-requires-clause-later c = next_later c.args.file.now c.args.s c.loop-at.at c.token_at-t.result c.loop-at.invariant c.token_at-t.ensures (grind arith)
 
-pub returns-then-t-ne58 : goal.returns-then-t-ne58
-returns-then-t-ne58 c =
-    passed_first c.args.file.now c.args.s c.loop-t.at c.token_at-t.result c.loop-t.invariant c.token_at-t.ensures c.if-t-eq0.false c.action_row.result c.if-t-ne58.true c.action_row.ensures
+pub returns-in_default : goal.returns-in_default
+returns-in_default c =
+    let more : c.token_at-t.result.byte ≡ 0 → ⊥ = grind arith in
+    let within : c.token_at-t.result.byte ≡ 58 → ⊥ = grind arith in
+    passed_first c.args.file.now c.args.s c.loop-at.at c.token_at-t.result c.loop-at.invariant c.token_at-t.ensures more c.action_row.result within c.action_row.ensures
 
-pub loop-t-preserved : goal.loop-t-preserved
-loop-t-preserved c = passed_colon c.args.file.now c.args.s c.loop-t.at c.token_at-t.result c.loop-t.invariant c.token_at-t.ensures c.if-t-eq0.false c.if-t-ne58.false
+pub loop-at-preserved : goal.loop-at-preserved
+loop-at-preserved c = passed_colon c.args.file.now c.args.s c.loop-at.at c.token_at-t.result c.loop-at.invariant c.token_at-t.ensures (λ z. omega arith) c.in-58.is

@@ -3,8 +3,8 @@ use Rattle.basic.specs.Cursors.{tokens_at}
 use Rattle.basic.specs.RowLaws.{Passed}
 use Rattle.basic.proofs.rows.statement_row_at.Given as goal
 
-abbrev pub invariant-loop-t : goal.invariant-loop-t
-invariant-loop-t l = Passed l.file l.s l.at
+abbrev pub invariant-loop-at : goal.invariant-loop-at
+invariant-loop-at l = Passed l.file l.s l.at
 
-abbrev pub decreases-loop-t : goal.decreases-loop-t
-decreases-loop-t l = length (tokens_at l.file l.at)
+abbrev pub decreases-loop-at : goal.decreases-loop-at
+decreases-loop-at l = length (tokens_at l.file l.at)

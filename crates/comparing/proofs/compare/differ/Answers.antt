@@ -9,7 +9,7 @@ use Rattle.comparing.proofs.compare.differ.Goals as goal
 
 pub returns-then-b-eq10 : goal.returns-then-b-eq10
 unfolding differing standing_of
-returns-then-b-eq10 c = rw (eq-eqb _ _ c.if-b-eq10.true) (ap (λ (n : ℕ). ended n c.args.at) c.row_number.ensures)
+returns-then-b-eq10 c = rw (eq-eqb _ _ c.if-b-eq10.true) (ap (λ (n : ℕ). ended n c.args.at) c.row_reason.ensures)
 
 pub returns : goal.returns
 unfolding differing standing_of

@@ -1,17 +1,13 @@
--- `rows_ended`: those of the first i bytes. Assumes nothing.
-use mathlib.Core.Path.{refl}
-use native.Mathlib.Omega.{arith}
-use Rattle.comparing.specs.Comparing.{rows_ended}
-use Rattle.comparing.specs.ComparingStates.{rows_next}
+-- `rows_ended`: the bytes 10 are counted. Assumes nothing.
+use mathlib.Core.Path.{◌∙◌}
+use Rattle.std.proofs.Common.{rules, eqb}
+use Rattle.std.proofs.lemmas.Iterator.{YieldsList-from_slice}
+use Rattle.std.proofs.lemmas.Iterator.Consumers.{YieldsList-from_filter, count_from_yields_List}
+use Rattle.comparing.specs.ComparingStates.{rows_counted}
 use Rattle.comparing.proofs.compare.rows_ended.Goals as goal
 
-pub loop-i-init : goal.loop-i-init
-unfolding rows_ended
-loop-i-init c = (omega arith, omega arith, refl)
-
-pub loop-i-preserved : goal.loop-i-preserved
-loop-i-preserved c = (
-  omega (arith, c.loop-i-test.true),
-  omega (arith, c.row_end-n.ensures.1, c.loop-i.invariant.1),
-  rows_next c.args.text.now c.loop-i.i c.loop-i.n _ c.loop-i-test.true c.loop-i.invariant.2 c.row_end-n.ensures.0,
-)
+pub returns : goal.returns
+returns c =
+    count_from_yields_List c.filter.result _ c.count.ensures.ran
+    (YieldsList-from_filter _ (λ x. eqb x 10) (YieldsList-from_slice c.args.text.now cc) c.filter.ensures.closure (λ x b q k. search rules))
+    ∙ rows_counted _

@@ -1,6 +1,7 @@
 -- `rule`: by each state. Assumes nothing.
 use mathlib.Core.Path.{sym, ap, ◌∙◌}
 use Rattle.graph.specs.Check.{wrong}
+use Rattle.layout.specs.Refusals.{number_of}
 use Rattle.comparing.specs.Comparing.{ruled}
 use Rattle.comparing.specs.ComparingStates.{standing_of, verdict_of}
 use Rattle.comparing.specs.declared.compare.Comparing.{Comparing}
@@ -12,8 +13,8 @@ returns-in-Same c = c.rule_same.ensures ∙ sym (ap (λ (x : Comparing). ruled c
 
 pub returns-in-Differs : goal.returns-in-Differs
 unfolding ruled standing_of verdict_of
-returns-in-Differs c = ap (wrong 31) c.place_at.ensures ∙ sym (ap (λ (x : Comparing). ruled c.args.due.now (standing_of x)) c.in-Differs.is)
+returns-in-Differs c = rw c.at.ensures (ap (wrong 31) c.place_at.ensures ∙ sym (ap (λ (x : Comparing). ruled c.args.due.now (standing_of x)) c.in-Differs.is))
 
 pub returns-in-Ended : goal.returns-in-Ended
 unfolding ruled standing_of verdict_of
-returns-in-Ended c = ap (wrong c.in-Ended.number) c.place_at-in-Ended.ensures ∙ sym (ap (λ (x : Comparing). ruled c.args.due.now (standing_of x)) c.in-Ended.is)
+returns-in-Ended c = rw c.at-in-Ended.ensures (ap (wrong (number_of c.in-Ended.reason)) c.place_at-in-Ended.ensures ∙ sym (ap (λ (x : Comparing). ruled c.args.due.now (standing_of x)) c.in-Ended.is))

@@ -8,7 +8,7 @@ use Rattle.comparing.proofs.compare.rule_same.Goals as goal
 
 pub returns-then-not-is_start : goal.returns-then-not-is_start
 unfolding ruled verdict_of
-returns-then-not-is_start c = rw (sym c.is_start.ensures ∙ c.if-not-is_start.true) (ap (wrong 31) c.place_at.ensures)
+returns-then-not-is_start c = rw (sym c.is_start.ensures ∙ c.if-not-is_start.true, c.at.ensures) (ap (wrong 31) c.place_at.ensures)
 
 pub returns-then-due-at : goal.returns-then-due-at
 unfolding ruled verdict_of
@@ -16,4 +16,4 @@ returns-then-due-at c = rw (sym c.is_start.ensures ∙ c.if-not-is_start.false, 
 
 pub returns : goal.returns
 unfolding ruled verdict_of
-returns c = rw (sym c.is_start.ensures ∙ c.if-not-is_start.false, something_left c.args.due.now c.args.at 0 (omega (arith, c.if-due-at.false))) (ap (wrong 32) c.place_at-2.ensures)
+returns c = rw (sym c.is_start.ensures ∙ c.if-not-is_start.false, something_left c.args.due.now c.args.at 0 (omega (arith, c.if-due-at.false)), c.at-2.ensures) (ap (wrong 32) c.place_at-2.ensures)

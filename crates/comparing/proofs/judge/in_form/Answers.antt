@@ -6,25 +6,9 @@ use Rattle.comparing.specs.JudgeStates.{reading_of, left-ends}
 use Rattle.comparing.specs.declared.judge.Judge.{Judge}
 use Rattle.comparing.proofs.judge.in_form.Goals as goal
 
-pub returns-in-Start : goal.returns-in-Start
-unfolding ends good reading_of
-returns-in-Start c = sym (ap (λ (x : Judge). good (reading_of x)) c.in-Start.is)
-
-pub returns-in-Opened : goal.returns-in-Opened
-unfolding ends good reading_of
-returns-in-Opened c = sym (ap (λ (x : Judge). good (reading_of x)) c.in-Opened.is)
-
-pub returns-in-Lost : goal.returns-in-Lost
-unfolding ends good reading_of
-returns-in-Lost c = sym (ap (λ (x : Judge). good (reading_of x)) c.in-Lost.is)
-
 pub returns-in-Outside : goal.returns-in-Outside
 unfolding ends good reading_of
 returns-in-Outside c = c.only_lists.ensures ∙ left-ends _ ∙ sym (ap (λ (x : Judge). good (reading_of x)) c.in-Outside.is)
-
-pub returns-in-Begins : goal.returns-in-Begins
-unfolding ends good reading_of
-returns-in-Begins c = sym (ap (λ (x : Judge). good (reading_of x)) c.in-Begins.is)
 
 pub returns-in-Inside : goal.returns-in-Inside
 unfolding ends good reading_of

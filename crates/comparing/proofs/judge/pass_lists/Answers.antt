@@ -1,14 +1,16 @@
--- `pass_lists`: each form byte that is passed changes nothing. Assumes nothing.
-use Prim.Native.Nat.{ℕ}
-use mathlib.Core.Path.{sym, ap, ◌∙◌}
-use mathlib.Core.List.{[]}
-use native.Mathlib.Omega.{arith}
-use lib.ListN.{get_or}
-use Rattle.graph.specs.Check.{row_forms}
-use Rattle.comparing.specs.JudgeStates.{passes, pass_more}
+-- `pass_lists`: what stops is the first byte that is no such list. Assumes nothing.
+use Rattle.std.proofs.Common.{rules, arith, ◌≡◌, ◌∙◌, ◌-◌, not, length, take, drop, take_all, length-drop}
+use Rattle.std.proofs.lemmas.Iterator.{YieldsList-from_slice}
+use Rattle.std.proofs.lemmas.Iterator.Search.{position_from_yields_List}
+use Rattle.comparing.specs.JudgeStates.{passes, lists_in_front, front_passed, first_or_end}
 use Rattle.comparing.proofs.judge.pass_lists.Goals as goal
 
-pub loop-i-preserved : goal.loop-i-preserved
-loop-i-preserved c =
-    let e = ap (λ (x : ℕ). passes x c.args.b) (sym c.form_byte.ensures) ∙ sym c.passes_list.ensures in
-    pass_more (get_or row_forms c.args.k []) c.args.b c.args.at c.loop-i.i c.loop-i.invariant (omega (arith, c.loop-i-test.true, c.form_length-n.ensures.0)) (e ∙ c.if-not-passes_list.false)
+pub returns : goal.returns
+unfolding lists_in_front
+returns c =
+    let l = c.args.left.now in
+    let u = c.unwrap_or-n.result in
+    let e = position_from_yields_List (λ x. not (passes x c.args.b)) _ _ c.position.result c.position.ensures.ran (YieldsList-from_slice l cc) (λ x b q k. search rules) in
+    let n : u ≡ lists_in_front c.args.b l = c.unwrap_or-n.ensures ∙ (first_or_end (λ x. not (passes x c.args.b)) l c.position.result e).0 in
+    let t : take (length l - u) (drop u l) ≡ drop u l = take_all _ _ (omega (arith, length-drop u l)) in
+    rw (t, n) (front_passed c.args.b l)

@@ -3,4 +3,4 @@ use Rattle.c_answers.specs.BuildNumbers.{build-numbered}
 use Rattle.flowgraph.proofs.build.flow_build.Goals as goal
 
 pub returns : goal.returns
-returns c = build-numbered c.build-built.ensures c.number_of_build.ensures
+returns c = build-numbered _ c.build-built.ensures c.number_of_done.ensures

@@ -3,4 +3,4 @@ use Rattle.flowgraph.specs.CheckNumbers.{check-numbered}
 use Rattle.flowgraph.proofs.check.flow_check.Goals as goal
 
 pub returns : goal.returns
-returns c = check-numbered c.check_graph-verdict.ensures c.number_of_verdict.ensures
+returns c = check-numbered c.check_graph-verdict.ensures c.number_of_done.ensures

@@ -1,11 +1,11 @@
 -- `keep_shared`: too long, or stored with zeros behind. Assumes nothing.
+use Rattle.std.proofs.Common.{arith}
 use Rattle.graph.specs.Questions.{kept}
 use Rattle.frame_slices.specs.FrameSlice.{answered_long, answered-list}
-use borrow.Author.Rules.{rules}
 use Rattle.frame_slices.proofs.slices.keep_shared.Goals as goal
 
 pub returns-then-out-count : goal.returns-then-out-count
-returns-then-out-count c = answered_long (kept c.args.header.now c.args.list.now) c.args.out.now c.count_kept-count.result c.count_kept-count.ensures (search rules)
+returns-then-out-count c = answered_long (kept c.args.header.now c.args.list.now) c.args.out.now _ c.count_kept-count.result c.at.ensures c.count_kept-count.ensures (omega arith)
 
 pub returns : goal.returns
-returns c = answered-list (kept c.args.header.now c.args.list.now) c.args.out.now c.store_kept.new.out c.clear_behind.new.t c.count_kept-count.result c.count_kept-count.ensures (search rules) c.store_kept.ensures c.clear_behind.ensures
+returns c = answered-list (kept c.args.header.now c.args.list.now) c.args.out.now c.store_kept.new.out c.fill_behind.new.t c.count_kept-count.result c.count_kept-count.ensures (omega arith) c.store_kept.ensures c.fill_behind.ensures

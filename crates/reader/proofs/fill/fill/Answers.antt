@@ -35,8 +35,8 @@ step_row-requires c =
     let b = fills_bounded c.loop-s.invariant.2 in
     (b.open_conds, b.word, b.branches, b.depth)
 
-pub returns-in-Refused : goal.returns-in-Refused
-returns-in-Refused c =
+pub returns-in-Err : goal.returns-in-Err
+returns-in-Err c =
     let piece : List ℕ =
     piece_at c.args.text.now c.loop-s.at c.find-e.result in
     let ahead : Fills c.loop-s.invariant.1.tree (length c.args.lines.now) (length c.args.stmts.now) (length c.args.args.now) (cut_content (content_of (row_of piece)) ∷ rows_in (split 10 (drop (c.loop-s.at + c.find-e.result + 1) c.args.text.now))) c.loop-s.s c.loop-s.w c.loop-s.lines c.loop-s.stmts c.loop-s.args =
@@ -45,7 +45,7 @@ returns-in-Refused c =
     row_says piece c.accepted_row-row.result c.accepted_row-row.ensures in
     let room : Room c.loop-s.invariant.1.tree (length c.args.lines.now) (length c.args.stmts.now) (length c.args.args.now) =
     c.loop-s.invariant.1.room in
-    absurd (fills_refused room ahead says c.step_row.ensures c.in-Refused.is)
+    absurd (fills_refused room ahead says c.step_row.ensures c.in-Err.is)
 
 pub write_text_row-w-requires : goal.write_text_row-w-requires
 write_text_row-w-requires c =
@@ -72,4 +72,4 @@ loop-s-preserved c =
     let room : Room c.loop-s.invariant.1.tree (length c.args.lines.now) (length c.args.stmts.now) (length c.args.args.now) =
     c.loop-s.invariant.1.room in
     let z = row_inside in
-    (omega arith, c.loop-s.invariant.1, fills_taken room ahead says c.step_row.ensures c.in-Taken.is c.write_text_row-w.ensures)
+    (omega arith, c.loop-s.invariant.1, fills_taken room ahead says c.step_row.ensures c.in-Ok.is c.write_text_row-w.ensures)

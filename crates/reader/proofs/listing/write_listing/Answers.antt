@@ -2,28 +2,40 @@
 use native.Mathlib.Omega.{arith}
 use Rattle.program_files.specs.Inputs.{meaning}
 use Rattle.reader.specs.Listed.{judged_small, short_lines, short_stmts, short_args, judged_zeroed, judged-written}
+use mathlib.Core.Path.{◌≡◌, refl, ◌∙◌}
+use mathlib.Core.Bool.{Bool, true, false}
+use mir.Val.{bool_byte}
+use Rattle.listings.specs.Records.{handler_number}
 use Rattle.reader.proofs.listing.write_listing.Goals as goal
+use Rattle.reader.proofs.listing.write_listing.Goals.{then-stmts-a-via-then-stmts-a, then-stmts-a-via-else-stmts-a+then-args-a}
 
-pub returns-then-lines-nl : goal.returns-then-lines-nl
-returns-then-lines-nl c = short_lines (meaning c.args.program c.args.input.now) c.args.counts.now c.args.lines.now c.args.stmts.now c.args.args.now c.args.handlers c.args.nl c.args.ns c.requires c.if-lines-nl.true
+handler_is : (h : Bool) → bool_byte h ≡ handler_number h
+unfolding handler_number
+handler_is true = refl
+handler_is false = refl
 
-pub returns-then-stmts-ns : goal.returns-then-stmts-ns
-returns-then-stmts-ns c = short_stmts (meaning c.args.program c.args.input.now) c.args.counts.now c.args.lines.now c.args.stmts.now c.args.args.now c.args.handlers c.args.nl c.args.ns c.requires (omega arith) c.if-stmts-ns.true
+pub returns-then-lines-a : goal.returns-then-lines-a
+returns-then-lines-a c = rw c.at.ensures (short_lines (meaning c.args.program c.args.input.now) c.args.counts.now c.args.lines.now c.args.stmts.now c.args.args.now c.args.a.handlers c.args.a.lines c.args.a.stmts c.requires c.if-lines-a.true)
 
-pub returns-then-args-ns : goal.returns-then-args-ns
-returns-then-args-ns c = short_args (meaning c.args.program c.args.input.now) c.args.counts.now c.args.lines.now c.args.stmts.now c.args.args.now c.args.handlers c.args.nl c.args.ns c.requires (omega arith) (omega arith) c.if-args-ns.true
+pub returns-then-stmts-a : goal.returns-then-stmts-a
+returns-then-stmts-a c =
+    rw c.at-then-stmts-a.ensures
+    (elim c.then-stmts-a.branch [
+      | then-stmts-a-via-then-stmts-a w ↦ short_stmts (meaning c.args.program c.args.input.now) c.args.counts.now c.args.lines.now c.args.stmts.now c.args.args.now c.args.a.handlers c.args.a.lines c.args.a.stmts c.requires (omega arith) w.if-stmts-a.true
+      | then-stmts-a-via-else-stmts-a+then-args-a w ↦ short_args (meaning c.args.program c.args.input.now) c.args.counts.now c.args.lines.now c.args.stmts.now c.args.args.now c.args.a.handlers c.args.a.lines c.args.a.stmts c.requires (omega arith) (omega (arith, w.if-stmts-a.false)) w.if-args-a.true
+    ])
 
 pub fill_input-requires : goal.fill_input-requires
-fill_input-requires c = judged_zeroed (meaning c.args.program c.args.input.now) c.args.counts.now c.args.lines.now c.args.stmts.now c.args.args.now c.args.handlers c.args.nl c.args.ns c.requires c.if-lines-nl.false c.if-stmts-ns.false c.if-args-ns.false
+fill_input-requires c = judged_zeroed (meaning c.args.program c.args.input.now) c.args.counts.now c.args.lines.now c.args.stmts.now c.args.args.now c.args.a.handlers c.args.a.lines c.args.a.stmts c.requires c.if-lines-a.false c.if-stmts-a.false c.if-args-a.false
 
-pub narrow32-requires : goal.narrow32-requires
-narrow32-requires c = let s = judged_small (meaning c.args.program c.args.input.now) c.args.counts.now c.args.lines.now c.args.stmts.now c.args.args.now c.args.handlers c.args.nl c.args.ns c.requires in omega arith
+pub overflow_cast-a : goal.overflow_cast-a
+overflow_cast-a c = let s = judged_small (meaning c.args.program c.args.input.now) c.args.counts.now c.args.lines.now c.args.stmts.now c.args.args.now c.args.a.handlers c.args.a.lines c.args.a.stmts c.requires in omega arith
 
-pub narrow32-requires-2 : goal.narrow32-requires-2
-narrow32-requires-2 c = let s = judged_small (meaning c.args.program c.args.input.now) c.args.counts.now c.args.lines.now c.args.stmts.now c.args.args.now c.args.handlers c.args.nl c.args.ns c.requires in omega arith
+pub overflow_cast-a-2 : goal.overflow_cast-a-2
+overflow_cast-a-2 c = let s = judged_small (meaning c.args.program c.args.input.now) c.args.counts.now c.args.lines.now c.args.stmts.now c.args.args.now c.args.a.handlers c.args.a.lines c.args.a.stmts c.requires in omega arith
 
 pub returns : goal.returns
 returns c =
-    judged-written (meaning c.args.program c.args.input.now) c.args.counts.now c.args.lines.now c.args.stmts.now c.args.args.now c.args.handlers c.args.nl c.args.ns c.requires c.if-lines-nl.false c.if-stmts-ns.false c.if-args-ns.false
-    c.narrow32.result c.narrow32-2.result c.handler_number.result c.put_counts.new.counts c.fill_input.new.lines c.fill_input.new.stmts c.fill_input.new.args
-    c.narrow32.ensures c.narrow32-2.ensures c.handler_number.ensures c.put_counts.ensures c.fill_input.ensures
+    judged-written (meaning c.args.program c.args.input.now) c.args.counts.now c.args.lines.now c.args.stmts.now c.args.args.now c.args.a.handlers c.args.a.lines c.args.a.stmts c.requires c.if-lines-a.false c.if-stmts-a.false c.if-args-a.false
+    c.args.a.lines c.args.a.stmts c.from.result c.put_counts.new.counts c.fill_input.new.lines c.fill_input.new.stmts c.fill_input.new.args
+    refl refl (c.from.ensures ∙ handler_is c.args.a.handlers) c.put_counts.ensures c.fill_input.ensures

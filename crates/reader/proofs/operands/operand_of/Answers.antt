@@ -9,10 +9,16 @@ pub returns-then-slots : goal.returns-then-slots
 unfolding entry_by
 returns-then-slots c =
     let w = c.args.w.now in
-    c.key_answer.ensures ∙ ap key_answer c.key_of.ensures ∙ key_answer_lem (parse_name w) ∙ ap (λ (b : Bool). entry_by b w) (sym c.if-slots.true)
+    c.unwrap_or.ensures ∙ ap key_answer c.key_of.ensures ∙ key_answer_lem (parse_name w) ∙ ap (λ (b : Bool). entry_by b w) (sym c.if-slots.true)
 
-pub returns : goal.returns
+pub returns-in-Ok : goal.returns-in-Ok
 unfolding entry_by
-returns c =
+returns-in-Ok c =
     let w = c.args.w.now in
-    c.number_answer.ensures ∙ ap number_answer c.number.ensures ∙ number_answer_lem (parse_number w) ∙ ap (λ (b : Bool). entry_by b w) (sym c.if-slots.false)
+    c.from.ensures ∙ ap number_answer c.in-Ok.ensures ∙ number_answer_lem (parse_number w) ∙ ap (λ (b : Bool). entry_by b w) (sym c.if-slots.false)
+
+pub returns-in-Err : goal.returns-in-Err
+unfolding entry_by
+returns-in-Err c =
+    let w = c.args.w.now in
+    ap number_answer c.in-Err.ensures ∙ number_answer_lem (parse_number w) ∙ ap (λ (b : Bool). entry_by b w) (sym c.if-slots.false)

@@ -1,32 +1,27 @@
--- By the kind: a number to go to, a statement, the module, a line. Assumes nothing.
-use mathlib.Core.Path.{◌∙◌, sym, ap}
+-- `accepted_args`: by the kind; what is no form is not accepted. Assumes nothing.
+use mathlib.Core.Path.{◌∙◌, ap}
 use Rattle.listings.specs.Rows.{split, single}
-use Rattle.listings.specs.WordTable.{kind_at}
-use Rattle.reader.specs.CodedRows.{to_by_number, line_by_number, to_by_number_lem, line_by_number_lem}
-use Rattle.reader.specs.AcceptedRows.{open_module, open_line, closed_to, closed_simple}
+use Rattle.reader.specs.CodedRows.{args_row, to_by_number, to_by_number_lem}
+use Rattle.reader.specs.AcceptedRows.{opened_same, closed_to, closed_simple}
 use Rattle.reader.proofs.rows.accepted_args.Goals as goal
 
-pub returns-then-kind-eq-TO : goal.returns-then-kind-eq-TO
-returns-then-kind-eq-TO c =
-    let ws = split 32 c.args.s.now in
-    rw c.if-closed.true
-    (c.to_row.ensures ∙ ap to_by_number c.single_number.ensures ∙ to_by_number_lem (single ws) ∙ closed_to (kind_at c.args.k) c.args.k ws (sym c.kind_of-kind.ensures ∙ c.if-kind-eq-TO.true))
+pub returns-in_default : goal.returns-in_default
+unfolding args_row
+returns-in_default c = rw (← c.in_default.ensures)
 
-pub returns-then-closed : goal.returns-then-closed
-returns-then-closed c =
-    let ws = split 32 c.args.s.now in
-    let t = c.if-closed.true in
-    rw t (closed_simple (kind_at c.args.k) c.args.k ws (λ h. c.if-kind-eq-TO.false (c.kind_of-kind.ensures ∙ h)) (rw t at c.requires))
+pub returns-then-not-closed : goal.returns-then-not-closed
+unfolding args_row
+returns-then-not-closed c = rw (← c.in-Some.ensures, c.if-not-closed.true) (c.opened_args.ensures ∙ opened_same c.in-Some.kind (split 32 c.args.s.now))
 
-pub returns-then-kind-eq-MODULE : goal.returns-then-kind-eq-MODULE
-returns-then-kind-eq-MODULE c =
+pub returns-in-To : goal.returns-in-To
+unfolding args_row
+returns-in-To c =
     let ws = split 32 c.args.s.now in
-    rw c.if-closed.false (c.module_row.ensures ∙ open_module (kind_at c.args.k) c.args.k ws (sym c.kind_of-kind.ensures ∙ c.if-kind-eq-MODULE.true))
+    rw (← c.in-Some.ensures, c.if-not-closed.false, c.in-To.is) (c.to_row.ensures ∙ ap to_by_number c.single_number.ensures ∙ to_by_number_lem (single ws) ∙ closed_to c.args.k ws)
 
-pub returns : goal.returns
-returns c =
-    let ws = split 32 c.args.s.now in
-    let t = c.if-closed.false in
-    rw t
-    (c.line_row.ensures ∙ ap line_by_number c.single_number-2.ensures ∙ line_by_number_lem (single ws)
-    ∙ open_line (kind_at c.args.k) c.args.k ws (λ h. c.if-kind-eq-MODULE.false (c.kind_of-kind.ensures ∙ h)) (rw t at c.requires))
+pub returns-in_default-kind : goal.returns-in_default-kind
+unfolding args_row
+returns-in_default-kind c =
+    let e = c.in-Some.ensures in
+    let t = c.if-not-closed.false in
+    rw (← e, t) (closed_simple c.in-Some.kind c.args.k (split 32 c.args.s.now) c.in_default-kind.not-To (rw (← e, t) at c.requires))

@@ -1,27 +1,45 @@
 -- `climb`: from the holder reached, by the holders that are left, as from the first. Assumes nothing.
-use Prim.Native.Nat.{◌-◌}
-use mathlib.Core.Path.{sym, ap, ◌∙◌}
-use native.Mathlib.Omega.{arith}
+use Rattle.std.proofs.Common.{suc, ◌-◌, ◌≡◌, sym, ap, ◌∙◌, arith}
 use Rattle.statements.specs.StatementAt.{climb}
-use Rattle.statements.specs.StatementLaws.{climb_end, climb-none, climb-outside, climb-deep, climb_leaf, climb_on}
+use Rattle.statements.specs.StatementLaws.{is_refused, not_refused, climb_end, climb-none, climb-outside, climb-deep, climb_leaf, climb_on}
 use Rattle.statements.proofs.statement.climb.Goals as goal
+use Rattle.statements.proofs.statement.climb.Goals.{then-n-node-via-then-n-node, then-n-node-via-else-n-node+then-record_outside, then-left-eq0-via-then-left-eq0, then-left-eq0-via-else-left-eq0+then-not-is_branching}
 
-pub returns-then-n-at : goal.returns-then-n-at
-returns-then-n-at c = sym (c.loop-at.invariant ∙ climb-none c.args.lines c.args.stmts.now c.args.n c.loop-at.left c.loop-at.at c.if-n-at.true)
-
-pub returns-then-record_outside : goal.returns-then-record_outside
-returns-then-record_outside c = sym (c.loop-at.invariant ∙ climb-outside c.args.lines c.args.stmts.now c.args.n c.loop-at.left c.loop-at.at c.loop-at-test.true (omega arith) (sym c.record_outside.ensures ∙ c.if-record_outside.true))
+pub returns-then-n-node : goal.returns-then-n-node
+returns-then-n-node c =
+    let a = c.args in
+    let l = c.loop-node in
+    let z : l.at ≡ suc c.in-Some.node = omega (arith, c.in-Some.ensures) in
+    let e : climb a.lines a.stmts.now a.n 16 a.holder ≡ climb a.lines a.stmts.now a.n l.left (suc c.in-Some.node) = l.invariant ∙ ap (climb a.lines a.stmts.now a.n l.left) z in
+    rw c.at.ensures (is_refused _ 24 (e ∙ elim c.then-n-node.branch [
+      | then-n-node-via-then-n-node w ↦ climb-none a.lines a.stmts.now a.n l.left c.in-Some.node w.if-n-node.true
+      | then-n-node-via-else-n-node+then-record_outside w ↦ climb-outside a.lines a.stmts.now a.n l.left c.in-Some.node w.if-n-node.false (sym w.record_outside.ensures ∙ w.if-record_outside.true)
+    ]))
 
 pub returns-then-left-eq0 : goal.returns-then-left-eq0
-returns-then-left-eq0 c = sym (c.loop-at.invariant ∙ climb-deep c.args.lines c.args.stmts.now c.args.n c.loop-at.left c.loop-at.at c.loop-at-test.true (omega arith) (sym c.record_outside.ensures ∙ c.if-record_outside.false) c.if-left-eq0.true)
+returns-then-left-eq0 c =
+    let a = c.args in
+    let l = c.loop-node in
+    let z : l.at ≡ suc c.in-Some.node = omega (arith, c.in-Some.ensures) in
+    let e : climb a.lines a.stmts.now a.n 16 a.holder ≡ climb a.lines a.stmts.now a.n l.left (suc c.in-Some.node) = l.invariant ∙ ap (climb a.lines a.stmts.now a.n l.left) z in
+    let o = sym c.record_outside.ensures ∙ c.if-record_outside.false in
+    rw c.at-then-left-eq0.ensures (is_refused _ 25 (e ∙ elim c.then-left-eq0.branch [
+      | then-left-eq0-via-then-left-eq0 w ↦ climb-deep a.lines a.stmts.now a.n c.in-Some.node c.if-n-node.false o l.left w.if-left-eq0.true
+      | then-left-eq0-via-else-left-eq0+then-not-is_branching w ↦ climb_leaf a.lines a.stmts.now a.n c.in-Some.node c.if-n-node.false o l.left (sym w.is_branching.ensures ∙ w.if-not-is_branching.true)
+    ]))
 
-pub returns-then-not-is_branching : goal.returns-then-not-is_branching
-returns-then-not-is_branching c = sym (c.loop-at.invariant ∙ climb_leaf c.args.lines c.args.stmts.now c.args.n c.loop-at.left c.loop-at.at c.loop-at-test.true (omega arith) (sym c.record_outside.ensures ∙ c.if-record_outside.false) c.if-left-eq0.false (sym c.is_branching.ensures ∙ c.if-not-is_branching.true))
-
-pub loop-at-preserved : goal.loop-at-preserved
-loop-at-preserved c =
-    c.loop-at.invariant ∙ climb_on c.args.lines c.args.stmts.now c.args.n c.loop-at.left c.loop-at.at c.loop-at-test.true (omega arith) (sym c.record_outside.ensures ∙ c.if-record_outside.false) c.if-left-eq0.false (sym c.is_branching.ensures ∙ c.if-not-is_branching.false)
-    ∙ ap (climb c.args.lines c.args.stmts.now c.args.n (c.loop-at.left - 1)) (sym c.wide-at.ensures)
+pub loop-node-preserved : goal.loop-node-preserved
+loop-node-preserved c =
+    let a = c.args in
+    let l = c.loop-node in
+    let z : l.at ≡ suc c.in-Some.node = omega (arith, c.in-Some.ensures) in
+    l.invariant ∙ ap (climb a.lines a.stmts.now a.n l.left) z
+    ∙ climb_on a.lines a.stmts.now a.n c.in-Some.node c.if-n-node.false (sym c.record_outside.ensures ∙ c.if-record_outside.false) l.left c.if-left-eq0.false (sym c.is_branching.ensures ∙ c.if-not-is_branching.false)
+    ∙ ap (climb a.lines a.stmts.now a.n (l.left - 1)) (sym c.from-at.ensures)
 
 pub returns : goal.returns
-returns c = sym (c.loop-at.invariant ∙ climb_end c.args.lines c.args.stmts.now c.args.n c.loop-at.left c.loop-at.at c.loop-at-test.false)
+returns c =
+    let a = c.args in
+    let l = c.loop-node in
+    let z : l.at ≡ 0 = omega (arith, c.in_default.ensures) in
+    not_refused _ (l.invariant ∙ ap (climb a.lines a.stmts.now a.n l.left) z ∙ climb_end a.lines a.stmts.now a.n l.left)

@@ -6,12 +6,12 @@ use Rattle.storing.specs.FinalLists.{final_size, sized_turn, total-none}
 use Rattle.storing.proofs.edge_count.count_lists.Goals as goal
 
 pub loop-i-init : goal.loop-i-init
-loop-i-init c = (omega arith, refl, total-none _, omega arith)
+loop-i-init c = (refl, total-none _, omega arith)
 
 pub list_size-sum-requires : goal.list_size-sum-requires
-list_size-sum-requires c = sized_turn c.requires c.loop-i.i _ c.loop-i-test.true c.loop-i.invariant.1
+list_size-sum-requires c = sized_turn c.requires c.loop-i.i _ (omega arith) c.loop-i.invariant.0
 
 pub loop-i-preserved : goal.loop-i-preserved
 loop-i-preserved c =
     let f = final_size c.args.handlers c.args.stmts.now c.args.args.now c.args.falls.now c.args.links.now c.args.lists.now c.args.targets in
-    (omega (arith, c.loop-i-test.true), c.list_size-sum.auto.buffer ∙ c.loop-i.invariant.1, omega (arith, c.loop-i.invariant.2, c.list_size-sum.ensures.0, sum_next f c.loop-i.i), omega (arith, c.loop-i.invariant.3, c.list_size-sum.ensures.1))
+    (c.list_size-sum.auto.buffer ∙ c.loop-i.invariant.0, omega (arith, c.loop-i.invariant.1, c.list_size-sum.ensures.0, sum_next f c.loop-i.i), omega (arith, c.loop-i.invariant.2, c.list_size-sum.ensures.1))

@@ -22,4 +22,4 @@ returns-then-is_call c = size_call c.args.handlers c.requires c.if-word-eq-RETUR
 pub returns : goal.returns
 returns c =
     let k = c.type_inv.lists (c.args.i * 4 + 1) in
-    size-other c.args.handlers c.requires c.if-word-eq-RETURN.false (sym c.is_call.ensures ∙ c.if-is_call.false) _ c.wide.ensures (omega (arith, c.wide.ensures, k))
+    size-other c.args.handlers c.requires c.if-word-eq-RETURN.false (sym c.is_call.ensures ∙ c.if-is_call.false) _ c.from.ensures (omega (arith, c.from.ensures, k))

@@ -2,14 +2,8 @@
 use Prim.Native.Nat.{◌+◌, ◌-◌, ◌*◌}
 use mathlib.Core.Path.{◌≡◌}
 use native.Mathlib.Omega.{arith}
-use Rattle.storing.specs.FinalLists.{through_ready, through_done, back_done}
+use Rattle.storing.specs.FinalLists.{back_done}
 use Rattle.storing.proofs.final_lists.return_list.Goals as goal
-
-pub store_list-requires : goal.store_list-requires
-store_list-requires c = through_ready c.args.handlers c.args.args.now c.args.i c.args.returns.now c.args.targets c.if-handlers.true c.requires.2 c.requires.3
-
-pub returns-then-handlers : goal.returns-then-handlers
-returns-then-handlers c = through_done c.args.handlers c.args.args.now c.args.i c.args.returns.now c.args.targets c.if-handlers.true c.requires.2 c.requires.3 c.store_list.ensures
 
 pub returns : goal.returns
 returns c =

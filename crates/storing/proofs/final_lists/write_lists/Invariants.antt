@@ -1,5 +1,4 @@
 -- `write_lists`: the lists of the first i nodes are written, and the rows of the others are as they were. Assumes nothing.
-use Prim.Native.Nat.{◌≤◌, ◌-◌}
 use mathlib.Core.Path.{◌≡◌}
 use lib.ListN.{length}
 use Rattle.passes.specs.EdgeTable.{lists_to, ListsStored}
@@ -7,7 +6,4 @@ use Rattle.storing.specs.FinalLists.{final_list}
 use Rattle.storing.proofs.final_lists.write_lists.Given as goal
 
 abbrev pub invariant-loop-i : goal.invariant-loop-i
-invariant-loop-i l = (l.i ≤ l.n) × (length l.lists ≡ length l.initial.lists) × (length l.succ ≡ length l.initial.succ) × (length l.buffer ≡ length l.initial.buffer) × ListsStored (lists_to (final_list l.handlers l.stmts l.args l.falls l.links l.initial.lists l.scratch l.returns l.targets) l.i) l.at l.initial.lists l.lists l.initial.succ l.succ
-
-abbrev pub decreases-loop-i : goal.decreases-loop-i
-decreases-loop-i l = l.n - l.i
+invariant-loop-i l = (length l.lists ≡ length l.initial.lists) × (length l.succ ≡ length l.initial.succ) × (length l.buffer ≡ length l.initial.buffer) × ListsStored (lists_to (final_list l.handlers l.stmts l.args l.falls l.links l.initial.lists l.scratch l.returns l.targets) l.i) l.at l.initial.lists l.lists l.initial.succ l.succ

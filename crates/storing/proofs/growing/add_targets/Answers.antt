@@ -6,11 +6,11 @@ use Rattle.graph_laws.specs.Adding.{decode}
 use Rattle.storing.specs.AddWithin.{within_start, within_on}
 use Rattle.storing.proofs.growing.add_targets.Goals as goal
 
-pub loop-k-init : goal.loop-k-init
-loop-k-init c = let a = c.args in (omega arith, refl, within_start decode a.row.now _ _)
+pub loop-t-init : goal.loop-t-init
+loop-t-init c = let a = c.args in (refl, within_start decode a.row.now _ _)
 
-pub loop-k-preserved : goal.loop-k-preserved
-loop-k-preserved c =
+pub loop-t-preserved : goal.loop-t-preserved
+loop-t-preserved c =
     let a = c.args in
-    let l = c.loop-k in
-    (search rules, search rules, within_on decode a.row.now _ _ _ _ _ _ l.k c.loop-k-test.true l.invariant.2 c.add_edge-r.ensures)
+    let l = c.loop-t in
+    (search rules, within_on decode a.row.now _ _ _ _ _ _ l.t-index (omega arith) l.invariant.1 c.add_edge-r.ensures)

@@ -1,19 +1,26 @@
--- `count_edges`: the first m edges are counted. Assumes nothing.
-use mathlib.Core.Path.{refl}
+-- `count_edges`: the first edges are counted. Assumes nothing.
+use Prim.Native.Nat.{◌<◌}
+use mathlib.Core.Path.{refl, ◌∙◌}
 use native.Mathlib.Omega.{arith}
+use Rattle.std.proofs.Common.{length-take-le, get_or-take}
 use lib.ListN.{length-set}
 use Rattle.storing.specs.Predecessors.{counted_none, counted-fits, counted_more}
 use Rattle.storing.proofs.predecessors.count_edges.Goals as goal
 
-pub loop-m-init : goal.loop-m-init
-loop-m-init c =
+pub loop-v-init : goal.loop-v-init
+loop-v-init c =
     let a = c.args in
-    (omega arith, refl, counted_none a.nodes a.succ.now a.lists.now)
+    (refl, counted_none a.nodes a.succ.now a.lists.now)
 
-pub overflow_add-lists : goal.overflow_add-lists
-overflow_add-lists c = omega (arith, counted-fits c.loop-m.m c.requires c.loop-m-test.true c.wide.ensures c.loop-m.invariant.2)
+pub overflow_add-lists-in-loop-v : goal.overflow_add-lists-in-loop-v
+overflow_add-lists-in-loop-v c =
+    let a = c.args in
+    let h : c.loop-v.v-index < a.edges = omega (arith, length-take-le a.edges a.succ.now c.requires.inside) in
+    omega (arith, counted-fits c.loop-v.v-index c.requires h (c.from.ensures ∙ get_or-take a.edges a.succ.now c.loop-v.v-index 0 h) c.loop-v.invariant.1)
 
-pub loop-m-preserved : goal.loop-m-preserved
-loop-m-preserved c =
-    let h = c.loop-m in
-    (omega arith, simp length-set h.invariant.1, counted_more c.loop-m.m c.requires c.loop-m-test.true c.wide.ensures c.loop-m.invariant.2)
+pub loop-v-preserved : goal.loop-v-preserved
+loop-v-preserved c =
+    let a = c.args in
+    let l = c.loop-v in
+    let h : l.v-index < a.edges = omega (arith, length-take-le a.edges a.succ.now c.requires.inside) in
+    (simp length-set l.invariant.0, counted_more l.v-index c.requires h (c.from.ensures ∙ get_or-take a.edges a.succ.now l.v-index 0 h) l.invariant.1)

@@ -12,11 +12,11 @@ pub loop-m-init : goal.loop-m-init
 unfolding sum_to
 loop-m-init c =
     let a = c.args in
-    (omega arith, refl, refl, starting_none a.nodes a.lists.now)
+    (refl, refl, starting_none a.nodes a.lists.now)
 
 pub overflow_add-start : goal.overflow_add-start
 overflow_add-start c =
-    let e = starting_count c.args.nodes c.loop-m.m c.args.lists.now c.loop-m.lists c.loop-m-test.true c.loop-m.invariant.3 in
+    let e = starting_count c.args.nodes c.loop-m.m c.args.lists.now c.loop-m.lists (omega arith) c.loop-m.invariant.2 in
     let n = sum_next (pred_count c.args.lists.now) c.loop-m.m in
     omega (arith, sum-le (pred_count c.args.lists.now) (c.loop-m.m + 1) c.args.nodes (omega arith), c.requires.1)
 
@@ -24,6 +24,6 @@ pub loop-m-preserved : goal.loop-m-preserved
 loop-m-preserved c =
     let h = c.loop-m in
     let a = c.args in
-    let e = starting_count c.args.nodes c.loop-m.m c.args.lists.now c.loop-m.lists c.loop-m-test.true c.loop-m.invariant.3 in
+    let e = starting_count c.args.nodes c.loop-m.m c.args.lists.now c.loop-m.lists (omega arith) c.loop-m.invariant.2 in
     let n = sum_next (pred_count c.args.lists.now) c.loop-m.m in
-    (omega arith, simp length-set h.invariant.1, omega arith, starting_more a.nodes h.m h.start a.lists.now h.lists c.requires.0 c.loop-m-test.true h.invariant.2 h.invariant.3)
+    (simp length-set h.invariant.0, omega arith, starting_more a.nodes h.m h.start a.lists.now h.lists c.requires.0 (omega arith) h.invariant.1 h.invariant.2)

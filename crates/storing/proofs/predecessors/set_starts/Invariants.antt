@@ -1,5 +1,4 @@
 -- `set_starts`: the rows before m have their starts, the sums of the counts before. Assumes nothing.
-use Prim.Native.Nat.{◌≤◌, ◌-◌}
 use mathlib.Core.Path.{◌≡◌}
 use lib.ListN.{length}
 use Rattle.tables.specs.Columns.{pred_count}
@@ -8,7 +7,4 @@ use Rattle.storing.specs.Predecessors.{Starting}
 use Rattle.storing.proofs.predecessors.set_starts.Given as goal
 
 abbrev pub invariant-loop-m : goal.invariant-loop-m
-invariant-loop-m l = (l.m ≤ l.nodes) × (length l.lists ≡ length l.initial.lists) × (l.start ≡ sum_to (pred_count l.initial.lists) l.m) × Starting l.nodes l.m l.initial.lists l.lists
-
-abbrev pub decreases-loop-m : goal.decreases-loop-m
-decreases-loop-m l = l.nodes - l.m
+invariant-loop-m l = (length l.lists ≡ length l.initial.lists) × (l.start ≡ sum_to (pred_count l.initial.lists) l.m) × Starting l.nodes l.m l.initial.lists l.lists

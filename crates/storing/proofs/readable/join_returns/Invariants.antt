@@ -1,11 +1,7 @@
 -- `join_returns`: the sets among the first i nodes. Assumes nothing.
-use Prim.Native.Nat.{◌≤◌, ◌-◌}
 use Rattle.storing.specs.JoinedReturns.{joined_returns}
 use mathlib.Core.Path.{◌≡◌}
 use Rattle.storing.proofs.readable.join_returns.Given as goal
 
 abbrev pub invariant-loop-i : goal.invariant-loop-i
-invariant-loop-i l = (l.i ≤ l.n) × (l.all ≡ joined_returns l.stmts l.args l.i)
-
-abbrev pub decreases-loop-i : goal.decreases-loop-i
-decreases-loop-i l = l.n - l.i
+invariant-loop-i l = l.all ≡ joined_returns l.stmts l.args l.i

@@ -1,13 +1,7 @@
--- `ids_below`: whether the first i ids are. Assumes nothing.
-use Prim.Native.Nat.{◌≤◌, ◌-◌}
-use mathlib.Core.Path.{◌≡◌}
-use lib.Dec.{ltb}
-use lib.ListN.{length, get_or}
-use Rattle.tables.specs.Readable.{every_below}
+-- `ids_below`: whether those met so far are. Assumes nothing.
+use Rattle.std.proofs.Common.{◌≡◌, ltb, take}
+use Rattle.std.specs.List.{list_all}
 use Rattle.tables.proofs.readable.ids_below.Given as goal
 
-abbrev pub invariant-loop-i : goal.invariant-loop-i
-invariant-loop-i l = (l.i ≤ length l.l) × (l.good ≡ every_below (λ k. ltb (get_or l.l k 0) l.n) l.i)
-
-abbrev pub decreases-loop-i : goal.decreases-loop-i
-decreases-loop-i l = length l.l - l.i
+abbrev pub invariant-loop-id : goal.invariant-loop-id
+invariant-loop-id l = l.good ≡ list_all (λ x. ltb x l.n) (take l.id-index l.l)

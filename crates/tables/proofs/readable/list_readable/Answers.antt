@@ -1,14 +1,15 @@
 -- `list_readable`: outside the edge table, or by its ids. Assumes nothing.
-use native.Mathlib.Omega.{arith}
+use Rattle.std.proofs.Common.{arith, ◌∙◌}
+use Rattle.std.proofs.lemmas.Bool.{lt-leb}
 use Rattle.tables.specs.Readable.{list-outside, list_inside}
 use Rattle.tables.proofs.readable.list_readable.Goals as goal
 
-pub returns-then-edges-end : goal.returns-then-edges-end
-returns-then-edges-end c =
+pub returns-then-end-edges : goal.returns-then-end-edges
+returns-then-end-edges c =
     let a = c.args in
-    list-outside a.lists.now a.edges.now a.n a.v c.wide-start.result _ c.wide-start.ensures (omega (arith, c.wide.ensures)) c.if-edges-end.true
+    list_inside a.lists.now a.edges.now a.n a.v c.from-start.result _ c.from-start.ensures (omega (arith, c.from.ensures)) c.if-end-edges.true c.ids_below.result c.ids_below.ensures
 
-pub returns : goal.returns
-returns c =
+pub returns-else-end-edges : goal.returns-else-end-edges
+returns-else-end-edges c =
     let a = c.args in
-    list_inside a.lists.now a.edges.now a.n a.v c.wide-start.result _ c.wide-start.ensures (omega (arith, c.wide.ensures)) (omega (arith, c.if-edges-end.false)) c.ids_below.result c.ids_below.ensures
+    lt-leb _ _ c.if-end-edges.false ∙ list-outside a.lists.now a.edges.now a.n a.v c.from-start.result _ c.from-start.ensures (omega (arith, c.from.ensures)) c.if-end-edges.false

@@ -1,13 +1,9 @@
--- `are_words`: no byte before i breaks a word, so those from i on decide. Assumes nothing.
+-- `are_words`: no byte so far breaks a word, so those still to come decide. Assumes nothing.
 use mathlib.Core.Path.{◌≡◌}
-use Prim.Native.Nat.{◌-◌, ◌≤◌}
-use lib.ListN.{drop, length}
+use lib.ListN.{drop}
 use Rattle.listings.specs.Rows.{are_words, split}
 use Rattle.tokens.specs.Arguments.{words_from}
 use Rattle.tokens.proofs.arguments.are_words.Given as goal
 
-abbrev pub invariant-loop-i : goal.invariant-loop-i
-invariant-loop-i l = (l.i ≤ length l.s) × (words_from l.fresh (drop l.i l.s) ≡ are_words (split 32 l.s))
-
-abbrev pub decreases-loop-i : goal.decreases-loop-i
-decreases-loop-i l = length l.s - l.i
+abbrev pub invariant-loop-b : goal.invariant-loop-b
+invariant-loop-b l = words_from l.fresh (drop l.b-index l.s) ≡ are_words (split 32 l.s)

@@ -1,30 +1,49 @@
 -- `check_kind`: each kind in turn. Assumes nothing.
-use mathlib.Core.Path.{◌∙◌, ap, refl}
-use borrow.Author.Tests.{ne_eqb}
+use mathlib.Core.Path.{◌∙◌, ◌≡◌, ap, sym, refl}
+use mathlib.Core.Logic.{inl, inr}
+use mathlib.Core.List.{List}
+use Prim.Native.Nat.{ℕ}
+use Rattle.std.specs.Prelude.{Result, Ok, Err}
+use Rattle.std.specs.Result.{result_and}
+use Rattle.layout.specs.declared.refusals.Reason.{Reason}
+use Rattle.layout.specs.declared.refusals.Reason.TheVariants as reason
 use Rattle.listings.specs.Rows.{single, split}
-use Rattle.tokens.specs.Arguments.{arg_check, check_is, check_kind, number_refusal_lem, number_refusal}
+use Rattle.tokens.specs.declared.words.Kind.{Kind}
+use Rattle.tokens.specs.declared.words.Kind.TheVariants as kind
+use Rattle.tokens.specs.Arguments.{check_kind, number_counted}
 use Rattle.tokens.proofs.arguments.check_kind.Goals as goal
 
-pub returns-then-kind-eq-NUMBER : goal.returns-then-kind-eq-NUMBER
-unfolding arg_check check_kind
-returns-then-kind-eq-NUMBER c = rw c.if-kind-eq-NUMBER.true (check_is (c.number_refusal.ensures ∙ ap number_refusal c.single_number.ensures ∙ number_refusal_lem (single (split 32 c.args.s.now))) refl)
+others : (k : Kind) (ws : List (List ℕ)) → (k ≡ kind.Number → ⊥) → (k ≡ kind.Run → ⊥) → (k ≡ kind.Numbers → ⊥) → (k ≡ kind.For → ⊥) → (k ≡ kind.Next → ⊥) → check_kind k ws ≡ Err reason.NotAForm
+unfolding check_kind
+others kind.Number ws a b c d e = absurd (a refl)
+others kind.Run ws a b c d e = absurd (b refl)
+others kind.Numbers ws a b c d e = absurd (c refl)
+others kind.For ws a b c d e = absurd (d refl)
+others kind.Next ws a b c d e = absurd (e refl)
+others kind.Module ws a b c d e = refl
+others kind.Line ws a b c d e = refl
+others kind.To ws a b c d e = refl
+others kind.Stmts ws a b c d e = refl
+others kind.Cond ws a b c d e = refl
+others kind.Bare ws a b c d e = refl
 
-pub returns-then-kind-eq-RUN : goal.returns-then-kind-eq-RUN
-unfolding arg_check check_kind
-returns-then-kind-eq-RUN c = rw c.if-kind-eq-RUN.true (check_is (c.number_refusal-then-kind-eq-RUN.ensures ∙ ap number_refusal c.single_number-then-kind-eq-RUN.ensures ∙ number_refusal_lem (single (split 32 c.args.s.now))) refl)
+pub returns-in-Number : goal.returns-in-Number
+unfolding check_kind
+returns-in-Number c =
+    let n = c.and.ensures ∙ ap (λ (r : Result ℕ Reason). result_and r (Ok 0)) c.single_number.ensures ∙ number_counted (single (split 32 c.args.s.now)) 0 in
+    elim c.in-Number.is [ inl e ↦ rw e n | inr e ↦ rw e n ]
 
-pub returns-then-kind-eq-NUMBERS : goal.returns-then-kind-eq-NUMBERS
-unfolding arg_check check_kind
-returns-then-kind-eq-NUMBERS c = rw c.if-kind-eq-NUMBERS.true c.check_all.ensures
+pub returns-in-Numbers : goal.returns-in-Numbers
+unfolding check_kind
+returns-in-Numbers c = rw c.in-Numbers.is c.check_all.ensures
 
-pub returns-then-kind-eq-FOR : goal.returns-then-kind-eq-FOR
-unfolding arg_check check_kind
-returns-then-kind-eq-FOR c = rw c.if-kind-eq-FOR.true c.check_for.ensures
+pub returns-in-For : goal.returns-in-For
+unfolding check_kind
+returns-in-For c = rw c.in-For.is c.check_for.ensures
 
-pub returns-then-kind-eq-NEXT : goal.returns-then-kind-eq-NEXT
-unfolding arg_check check_kind
-returns-then-kind-eq-NEXT c = rw c.if-kind-eq-NEXT.true c.check_next.ensures
+pub returns-in-Next : goal.returns-in-Next
+unfolding check_kind
+returns-in-Next c = rw c.in-Next.is c.check_next.ensures
 
-pub returns : goal.returns
-unfolding arg_check check_kind
-returns c = rw (ne_eqb _ _ c.if-kind-eq-NUMBER.false, ne_eqb _ _ c.if-kind-eq-RUN.false, ne_eqb _ _ c.if-kind-eq-NUMBERS.false, ne_eqb _ _ c.if-kind-eq-FOR.false, ne_eqb _ _ c.if-kind-eq-NEXT.false)
+pub returns-in_default : goal.returns-in_default
+returns-in_default c = sym (others c.args.kind (split 32 c.args.s.now) c.in_default.not-Number c.in_default.not-Run c.in_default.not-Numbers c.in_default.not-For c.in_default.not-Next)

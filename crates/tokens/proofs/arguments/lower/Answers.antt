@@ -1,18 +1,22 @@
--- `lower`: none, or the lower of two. Assumes nothing.
+-- `lower`: the other, where one is none, or the lower of two. Assumes nothing.
 use native.Mathlib.Omega.{arith}
-use mathlib.Core.Path.{◌∙◌, ap, sym}
-use Prim.Native.Nat.{ℕ}
-use Rattle.tokens.specs.Arguments.{lowest, lowest-first, lowest-none, lowest_of_none, lowest_second}
+use borrow.Author.Tests.{lt-ltb, le-ltb}
+use Rattle.layout.specs.Refusals.{number_of}
+use Rattle.tokens.specs.Arguments.{lowest}
 use Rattle.tokens.proofs.arguments.lower.Goals as goal
 
-pub returns-then-a-eq0 : goal.returns-then-a-eq0
-returns-then-a-eq0 c = sym (ap (λ (z : ℕ). lowest z c.args.b) c.if-a-eq0.true ∙ lowest-none c.args.b)
+pub returns-in_default : goal.returns-in_default
+unfolding lowest
+returns-in_default g c = rw c.in_default.is
 
-pub returns-then-b-eq0 : goal.returns-then-b-eq0
-returns-then-b-eq0 c = sym (ap (lowest c.args.a) c.if-b-eq0.true ∙ lowest_of_none c.args.a)
+pub returns-in_default-b : goal.returns-in_default-b
+unfolding lowest
+returns-in_default-b g c = rw (c.in-Err.is, c.in_default-b.is)
 
-pub returns-then-b-a : goal.returns-then-b-a
-returns-then-b-a c = sym (lowest_second c.args.a c.args.b (omega arith) (omega arith))
+pub returns-then-number : goal.returns-then-number
+unfolding lowest
+returns-then-number g c = rw (c.in-Err.is, c.in-Err-b.is, lt-ltb (number_of c.in-Err-b.y) (number_of c.in-Err.x) (omega arith))
 
 pub returns : goal.returns
-returns c = sym (lowest-first c.args.a c.args.b (omega arith) (omega arith))
+unfolding lowest
+returns g c = rw (c.in-Err.is, c.in-Err-b.is, le-ltb (number_of c.in-Err-b.y) (number_of c.in-Err.x) (omega arith))

@@ -11,7 +11,7 @@ use Rattle.listing_laws.specs.WordText.{name_text}
 use Rattle.listings.specs.Records.{name_key}
 use Rattle.listings.specs.Cut.{cut_to}
 use Rattle.tokens.specs.Names.{as_key, cut_from, kept, key_next, key_whole, name_byte, name_invalid, rest_below}
-use Rattle.tokens.specs.declared.names.NameKey.TheVariants.{Key}
+use Rattle.std.specs.Prelude.{Some}
 use Rattle.tokens.proofs.names.key_of.Goals as goal
 
 -- one turn: the byte before i goes in front, or is left out
@@ -29,7 +29,7 @@ pub loop-i-init : goal.loop-i-init
 unfolding cut_from cut_to name_key
 loop-i-init c =
     let w = c.args.w.now in
-    (omega arith, sym (ap (λ (l : List ℕ). name_key (cut_to (2 - length w) l)) (drop_of_length-le w {i = length w} (omega arith)) ∙ none_key (2 - length w)))
+    sym (ap (λ (l : List ℕ). name_key (cut_to (2 - length w) l)) (drop_of_length-le w {i = length w} (omega arith)) ∙ none_key (2 - length w))
   where
     none_key : (k : ℕ) → name_key (cut_to k []) ≡ 0
     none_key zero = refl
@@ -42,11 +42,11 @@ with_byte-a-requires c =
     let w = c.args.w.now in
     let i = c.loop-i.i in
     let h = named in
-    let b = name_byte w (i - 1) h (omega (arith, c.loop-i.invariant.0)) in
-    (omega (arith, c.loop-i.invariant.1, rest_below w i h (omega arith)), b.0, b.1)
+    let b = name_byte w (i - 1) h (omega arith) in
+    (omega (arith, c.loop-i.invariant, rest_below w i h (omega arith)), b.0, b.1)
 
 pub loop-i-preserved : goal.loop-i-preserved
-loop-i-preserved c = (omega (arith, c.loop-i.invariant.0), next_key c.args.w.now c.loop-i.a c.loop-i.i _ (omega arith) c.loop-i.invariant.0 c.loop-i.invariant.1 c.with_byte-a.ensures)
+loop-i-preserved c = next_key c.args.w.now c.loop-i.a c.loop-i.i _ (omega arith) (omega arith) c.loop-i.invariant c.with_byte-a.ensures
 
 pub returns : goal.returns
 returns c =
@@ -54,4 +54,4 @@ returns c =
     sym c.is_name.ensures ∙ c.if-not-is_name.false in
     let w = c.args.w.now in
     let z : c.loop-i.i ≡ 0 = omega arith in
-    ap Key (c.loop-i.invariant.1 ∙ ap (λ (i : ℕ). name_key (cut_from w i)) z ∙ ap name_key (key_whole w)) ∙ ap as_key (sym (name_text w (named)))
+    ap Some (c.loop-i.invariant ∙ ap (λ (i : ℕ). name_key (cut_from w i)) z ∙ ap name_key (key_whole w)) ∙ ap as_key (sym (name_text w (named)))

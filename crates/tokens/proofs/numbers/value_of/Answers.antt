@@ -1,4 +1,4 @@
--- `value_of`: v is the value of the digits before i; once it is above 65535 the whole is. Assumes nothing.
+-- `value_of`: v is the value of the digits read so far; once it is above 65535 the whole is. Assumes nothing.
 use native.Mathlib.Numerals.{add-one}
 use native.Mathlib.Omega.{arith}
 use mathlib.Core.Path.{◌∙◌, ◌≡◌, ap, sym}
@@ -17,26 +17,26 @@ digit_at : (w : List ℕ) (i r : ℕ) → all is_digit w ≡ true → i < length
 digit_at w i r h lt e = let d = digit_range (get_or w i 0) (all-at is_digit w i h lt) in (omega arith, omega arith)
 
 pub overflow_sub-v : goal.overflow_sub-v
-overflow_sub-v c = let d = digit_at c.args.w.now c.loop-i.i c.byte_value.result c.requires (omega arith) c.byte_value.ensures in omega arith
+overflow_sub-v c = let d = digit_at c.args.w.now c.loop-b.b-index c.from.result c.requires (omega arith) c.from.ensures in omega arith
 
 pub returns-then-v-gt65535 : goal.returns-then-v-gt65535
 returns-then-v-gt65535 c =
     let w = c.args.w.now in
-    let x = c.loop-i.v * 10 + (get_or w c.loop-i.i 0 - 48) in
-    let e : c.byte_value.result ≡ get_or w c.loop-i.i 0 = c.byte_value.ensures in
-    let f : value c.loop-i.v (drop c.loop-i.i w) ≡ value x (drop (suc c.loop-i.i) w) = value_next c.loop-i.v w c.loop-i.i (omega arith) in
-    (sym (capped_big w (omega (arith, value_grows x (drop (suc c.loop-i.i) w), f, c.loop-i.invariant.2))), omega arith)
+    let x = c.loop-b.v * 10 + (get_or w c.loop-b.b-index 0 - 48) in
+    let e : c.from.result ≡ get_or w c.loop-b.b-index 0 = c.from.ensures in
+    let f : value c.loop-b.v (drop c.loop-b.b-index w) ≡ value x (drop (suc c.loop-b.b-index) w) = value_next c.loop-b.v w c.loop-b.b-index (omega arith) in
+    (sym (capped_big w (omega (arith, value_grows x (drop (suc c.loop-b.b-index) w), f, c.loop-b.invariant.1))), omega arith)
 
-pub loop-i-preserved : goal.loop-i-preserved
-loop-i-preserved c =
+pub loop-b-preserved : goal.loop-b-preserved
+loop-b-preserved c =
     let w = c.args.w.now in
-    let e : c.byte_value.result ≡ get_or w c.loop-i.i 0 = c.byte_value.ensures in
-    (omega arith, omega arith, rw (add-one, e) (sym (value_next c.loop-i.v w c.loop-i.i (omega arith)) ∙ c.loop-i.invariant.2))
+    let e : c.from.result ≡ get_or w c.loop-b.b-index 0 = c.from.ensures in
+    (omega arith, rw (add-one, e) (sym (value_next c.loop-b.v w c.loop-b.b-index (omega arith)) ∙ c.loop-b.invariant.1))
 
 pub returns : goal.returns
 unfolding value
 returns c =
-    let l = c.loop-i in
+    let l = c.loop-b in
     let w = c.args.w.now in
-    let f : l.v ≡ value 0 w = sym (ap (value l.v) (drop_of_length-le w {i = l.i} (omega arith))) ∙ l.invariant.2 in
+    let f : l.v ≡ value 0 w = sym (ap (value l.v) (drop_of_length-le w {i = l.b-index} (omega arith))) ∙ l.invariant.1 in
     (f ∙ sym (capped_small w (omega (arith, f))), omega arith)

@@ -1,12 +1,9 @@
--- `value_of`: v is the value of the digits before i; once it is above 65535 the whole is. Assumes nothing.
+-- `value_of`: v is the value of the digits read so far; once it is above 65535 the whole is. Assumes nothing.
 use mathlib.Core.Path.{◌≡◌}
-use Prim.Native.Nat.{◌-◌, ◌≤◌}
-use lib.ListN.{drop, length}
+use Prim.Native.Nat.{◌≤◌}
+use lib.ListN.{drop}
 use Rattle.listings.specs.Rows.{value}
 use Rattle.tokens.proofs.numbers.value_of.Given as goal
 
-abbrev pub invariant-loop-i : goal.invariant-loop-i
-invariant-loop-i l = (l.i ≤ length l.w) × (l.v ≤ 65535) × (value l.v (drop l.i l.w) ≡ value 0 l.w)
-
-abbrev pub decreases-loop-i : goal.decreases-loop-i
-decreases-loop-i l = length l.w - l.i
+abbrev pub invariant-loop-b : goal.invariant-loop-b
+invariant-loop-b l = (l.v ≤ 65535) × (value l.v (drop l.b-index l.w) ≡ value 0 l.w)

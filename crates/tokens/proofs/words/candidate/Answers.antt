@@ -13,9 +13,9 @@ pub returns : goal.returns
 unfolding slots
 returns c =
     let w = c.args.w.now in
-    let a = c.wide_byte-first in
-    let b = c.wide_byte-last in
-    let e = c.wide_byte.ensures.0 in (
-      e ∙ by_letters w a.result b.result c.if-n-eq0.false a.ensures.0 b.ensures.0,
+    let a = c.from-first in
+    let b = c.from-last in
+    let e = c.from.ensures in (
+      e ∙ by_letters w a.result b.result c.if-n-eq0.false a.ensures b.ensures,
       omega (arith, e, slot_word_lem ((a.result + 23 * b.result + 5 * (length w % 8)) % 64)),
     )

@@ -2,13 +2,14 @@
 use native.Mathlib.Omega.{arith}
 use mathlib.Core.Path.{sym}
 use Rattle.listings.specs.Rows.{opening_words}
-use Rattle.listings.specs.WordTable.{forms, kind, kind_at, kind_row, kind-none}
+use Rattle.listings.specs.WordTable.{forms}
+use Rattle.tokens.specs.Kinds.{form_kind, opened_kind, opened_row, opened_none}
 use Rattle.tokens.proofs.words.kind_of.Goals as goal
 
 pub returns-then-k-lt28 : goal.returns-then-k-lt28
-unfolding forms kind kind_at opening_words
-returns-then-k-lt28 c = kind_row forms c.args.k (omega arith)
+unfolding forms form_kind opened_kind opening_words
+returns-then-k-lt28 c = opened_row forms c.args.k _ (omega arith)
 
 pub returns : goal.returns
-unfolding forms kind_at opening_words
-returns c = sym (kind-none forms c.args.k (omega arith))
+unfolding forms opened_kind opening_words
+returns c = sym (opened_none forms c.args.k (omega arith))

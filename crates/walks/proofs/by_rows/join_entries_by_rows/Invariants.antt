@@ -1,12 +1,8 @@
 -- `join_entries_by_rows`: the entries before e are done, whichever steps the rows are closed over. Assumes nothing.
-use Prim.Native.Nat.{◌-◌, ◌≤◌}
 use mathlib.Core.Path.{◌≡◌}
 use lib.ListN.{length}
 use Rattle.passes.specs.ByRows.{EntriesByRows}
 use Rattle.walks.proofs.by_rows.join_entries_by_rows.Given as goal
 
 abbrev pub invariant-loop-e : goal.invariant-loop-e
-invariant-loop-e l = (l.e ≤ l.n) × (length l.work ≡ length l.initial.work) × (length l.rows ≡ length l.initial.rows) × EntriesByRows l.stmts l.falls l.links l.n l.e l.initial.rows l.rows
-
-abbrev pub decreases-loop-e : goal.decreases-loop-e
-decreases-loop-e l = l.n - l.e
+invariant-loop-e l = (length l.work ≡ length l.initial.work) × (length l.rows ≡ length l.initial.rows) × EntriesByRows l.stmts l.falls l.links l.n l.e l.initial.rows l.rows

@@ -9,7 +9,7 @@ use Rattle.walks.proofs.by_rows.join_regions_by_rows.Goals as goal
 pub span_calls-requires : goal.span_calls-requires
 span_calls-requires c =
     let r = calls_ready c.requires.0 c.list_calls-count.ensures.list in
-    (targets_fit r.fit, omega (arith, ap length c.list_calls-count.ensures.list, calls_few c.args.stmts.now c.args.n, c.requires.0.few), c.no_spans-spans.ensures)
+    (targets_fit r.fit, omega (arith, ap length c.list_calls-count.ensures.list, calls_few c.args.stmts.now c.args.n, c.requires.0.few), c.all_of-spans.ensures)
 
 pub join_entries_by_rows-requires : goal.join_entries_by_rows-requires
 join_entries_by_rows-requires c = (
@@ -19,5 +19,5 @@ join_entries_by_rows-requires c = (
     in_spans = search rules;
     in_rows = c.requires.1;
   },
-  c.no_work-work.ensures,
+  search rules,
 )

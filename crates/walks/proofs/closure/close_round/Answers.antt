@@ -6,4 +6,4 @@ use Rattle.walks.proofs.closure.close_round.Goals as goal
 pub loop-i-preserved : goal.loop-i-preserved
 loop-i-preserved c =
     let l = c.loop-i in
-    (omega arith, rows_more c.args.k _ l.i c.args.rows.now l.rows _ (omega arith) l.invariant.1 c.close_row.ensures)
+    rows_more c.args.k _ l.i c.args.rows.now l.rows _ (omega arith) l.invariant c.close_row.ensures

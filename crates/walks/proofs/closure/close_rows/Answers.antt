@@ -5,12 +5,12 @@ use Rattle.passes.specs.ClosureLaws.{closed_none, closed_more, closed_end}
 use Rattle.walks.proofs.closure.close_rows.Goals as goal
 
 pub loop-k-init : goal.loop-k-init
-loop-k-init c = (omega arith, closed_none _ _)
+loop-k-init c = closed_none _ _
 
 pub loop-k-preserved : goal.loop-k-preserved
 loop-k-preserved c =
     let l = c.loop-k in
-    (omega arith, closed_more c.args.n l.k _ c.args.rows.now l.rows _ (omega arith) refl l.invariant.1 c.close_round.ensures)
+    closed_more c.args.n l.k _ c.args.rows.now l.rows _ (omega arith) refl l.invariant c.close_round.ensures
 
 pub returns : goal.returns
-returns c = closed_end _ _ _ _ (omega arith) c.loop-k.invariant.1
+returns c = closed_end _ _ _ _ (omega arith) c.loop-k.invariant

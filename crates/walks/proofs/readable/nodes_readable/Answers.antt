@@ -1,14 +1,14 @@
--- `nodes_readable`: whether the first c nodes are. Assumes nothing.
-use native.Mathlib.Omega.{arith}
-use Rattle.tables.specs.Readable.{every_none, every_more}
+-- `nodes_readable`: the tables hold the nodes, then each of them. Assumes nothing.
+use Rattle.std.proofs.Common.{◌∙◌, ◌≡◌, refl, rules, arith}
+use Rattle.std.proofs.lemmas.Iterator.{YieldsList-from_range}
+use Rattle.std.proofs.lemmas.Iterator.Search.{all_from_yields_List}
+use Rattle.tables.specs.Readable.{every_below, every_number}
 use Rattle.passes.specs.WalkTables.{node_readable}
 use Rattle.walks.proofs.readable.nodes_readable.Goals as goal
 
-pub loop-c-init : goal.loop-c-init
-loop-c-init c = (omega arith, every_none _)
-
-pub loop-c-preserved : goal.loop-c-preserved
-loop-c-preserved c =
+pub returns : goal.returns
+returns c =
     let a = c.args in
-    let l = c.loop-c in
-    (omega arith, every_more (node_readable a.stmts.now a.falls.now a.links.now a.n) l.c l.good _ l.invariant.1 c.node_readable-good.ensures)
+    let f = node_readable a.stmts.now a.falls.now a.links.now a.n in
+    let e : c.all.result ≡ every_below f a.n = all_from_yields_List f _ _ c.all.result c.all.ensures.ran (YieldsList-from_range 0 a.n a.n refl (omega arith)) (λ x b q k. search rules) ∙ every_number f a.n in
+    grind arith

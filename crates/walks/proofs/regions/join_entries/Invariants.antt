@@ -1,5 +1,4 @@
 -- `join_entries`: the entries before e are done. Assumes nothing.
-use Prim.Native.Nat.{◌-◌, ◌≤◌}
 use mathlib.Core.Path.{◌≡◌}
 use lib.ListN.{length}
 use Rattle.passes.specs.Walk.{stored_list}
@@ -7,7 +6,4 @@ use Rattle.passes.specs.Regions.{RegionsJoined}
 use Rattle.walks.proofs.regions.join_entries.Given as goal
 
 abbrev pub invariant-loop-e : goal.invariant-loop-e
-invariant-loop-e l = (l.e ≤ l.n) × (length l.work ≡ length l.initial.work) × (length l.sets ≡ length l.initial.sets) × RegionsJoined l.stmts l.falls l.links (stored_list l.lists l.edges) l.n l.e l.initial.sets l.sets
-
-abbrev pub decreases-loop-e : goal.decreases-loop-e
-decreases-loop-e l = l.n - l.e
+invariant-loop-e l = (length l.work ≡ length l.initial.work) × (length l.sets ≡ length l.initial.sets) × RegionsJoined l.stmts l.falls l.links (stored_list l.lists l.edges) l.n l.e l.initial.sets l.sets

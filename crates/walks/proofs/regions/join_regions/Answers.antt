@@ -10,7 +10,7 @@ use Rattle.walks.proofs.regions.join_regions.Goals as goal
 pub span_calls-requires : goal.span_calls-requires
 span_calls-requires c =
     let r = calls_ready c.requires.0 c.list_calls-count.ensures.list in
-    (targets_fit r.fit, omega (arith, ap length c.list_calls-count.ensures.list, calls_few c.args.stmts.now c.args.n, c.requires.0.few), c.no_spans-spans.ensures)
+    (targets_fit r.fit, omega (arith, ap length c.list_calls-count.ensures.list, calls_few c.args.stmts.now c.args.n, c.requires.0.few), c.all_of-spans.ensures)
 
 pub join_entries-requires : goal.join_entries-requires
 join_entries-requires c = (
@@ -21,7 +21,7 @@ join_entries-requires c = (
     stored = c.requires.1;
     in_sets = c.requires.2;
   },
-  c.no_work-work.ensures,
+  search rules,
 )
 
 pub returns : goal.returns

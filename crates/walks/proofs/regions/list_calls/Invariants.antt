@@ -1,5 +1,4 @@
 -- `list_calls`: the calls before i are listed. Assumes nothing.
-use Prim.Native.Nat.{◌-◌, ◌≤◌}
 use mathlib.Core.Path.{◌≡◌}
 use lib.ListN.{length}
 use Rattle.passes.specs.Sets.{Put}
@@ -7,7 +6,4 @@ use Rattle.passes.specs.Regions.{calls_below}
 use Rattle.walks.proofs.regions.list_calls.Given as goal
 
 abbrev pub invariant-loop-i : goal.invariant-loop-i
-invariant-loop-i l = (l.i ≤ l.n) × (length l.calls ≡ length l.initial.calls) × Put l.initial.calls 0 l.calls l.m (calls_below l.stmts l.i)
-
-abbrev pub decreases-loop-i : goal.decreases-loop-i
-decreases-loop-i l = l.n - l.i
+invariant-loop-i l = (length l.calls ≡ length l.initial.calls) × Put l.initial.calls 0 l.calls l.m (calls_below l.stmts l.i)

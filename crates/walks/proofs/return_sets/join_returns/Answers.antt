@@ -3,8 +3,8 @@ use native.Mathlib.Omega.{arith}
 use Rattle.passes.specs.ReturnSetLaws.{returns_more}
 use Rattle.walks.proofs.return_sets.join_returns.Goals as goal
 
-pub loop-k-preserved : goal.loop-k-preserved
-loop-k-preserved c =
+pub loop-i-preserved : goal.loop-i-preserved
+loop-i-preserved c =
     let a = c.args in
-    let l = c.loop-k in
-    (omega arith, returns_more a.stmts.now a.n a.backs.now a.list.now l.k c.wide.result a.sets.now l.sets _ c.loop-k-test.true c.wide.ensures l.invariant.1 c.join_return.ensures)
+    let l = c.loop-i in
+    returns_more a.stmts.now a.n a.backs.now a.list.now l.i-index c.from.result a.sets.now l.sets _ (omega arith) c.from.ensures l.invariant c.join_return.ensures

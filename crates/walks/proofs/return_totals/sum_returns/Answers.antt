@@ -5,16 +5,16 @@ use Rattle.passes.specs.ReturnTotals.{sum_where_none, return_sum_next, return_su
 use Rattle.walks.proofs.return_totals.sum_returns.Goals as goal
 
 pub loop-i-init : goal.loop-i-init
-loop-i-init c = (omega arith, sum_where_none _ _)
+loop-i-init c = sum_where_none _ _
 
 pub overflow_add-sum : goal.overflow_add-sum
 overflow_add-sum c =
     let a = c.args in
     let l = c.loop-i in
-    omega (arith, return_sum_next a.handlers a.stmts.now a.targets a.sets.now l.i l.sum c.return_size-sum.result l.invariant.1 c.return_size-sum.ensures, return_sum_le a.handlers a.stmts.now a.targets a.sets.now (l.i + 1) c.requires.3)
+    omega (arith, return_sum_next a.handlers a.stmts.now a.targets a.sets.now l.i l.sum c.return_size-sum.result l.invariant c.return_size-sum.ensures, return_sum_le a.handlers a.stmts.now a.targets a.sets.now (l.i + 1) c.requires.3)
 
 pub loop-i-preserved : goal.loop-i-preserved
 loop-i-preserved c =
     let a = c.args in
     let l = c.loop-i in
-    (omega arith, return_sum_next a.handlers a.stmts.now a.targets a.sets.now l.i l.sum c.return_size-sum.result l.invariant.1 c.return_size-sum.ensures)
+    return_sum_next a.handlers a.stmts.now a.targets a.sets.now l.i l.sum c.return_size-sum.result l.invariant c.return_size-sum.ensures

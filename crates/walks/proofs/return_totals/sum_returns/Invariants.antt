@@ -1,5 +1,4 @@
 -- `sum_returns`: the edges of the first i nodes are counted. Assumes nothing.
-use Prim.Native.Nat.{◌-◌, ◌≤◌}
 use mathlib.Core.Path.{◌≡◌}
 use lib.Dec.{eqb}
 use Rattle.tables.specs.Columns.{word_of}
@@ -7,7 +6,4 @@ use Rattle.passes.specs.ReturnTotals.{sum_where, return_size}
 use Rattle.walks.proofs.return_totals.sum_returns.Given as goal
 
 abbrev pub invariant-loop-i : goal.invariant-loop-i
-invariant-loop-i l = (l.i ≤ l.n) × (l.sum ≡ sum_where (λ i. eqb (word_of l.stmts i) 9) (λ i. return_size l.handlers l.targets l.sets i) l.i)
-
-abbrev pub decreases-loop-i : goal.decreases-loop-i
-decreases-loop-i l = l.n - l.i
+invariant-loop-i l = l.sum ≡ sum_where (λ i. eqb (word_of l.stmts i) 9) (λ i. return_size l.handlers l.targets l.sets i) l.i

@@ -1,12 +1,8 @@
 -- `join`: the first q words are joined. Assumes nothing.
-use Prim.Native.Nat.{◌-◌, ◌≤◌}
 use mathlib.Core.Path.{◌≡◌}
 use lib.ListN.{length}
 use Rattle.passes.specs.Sets.{joined_to}
 use Rattle.walks.proofs.sets.join.Given as goal
 
 abbrev pub invariant-loop-q : goal.invariant-loop-q
-invariant-loop-q l = (l.q ≤ length l.initial.set) × (length l.set ≡ length l.initial.set) × (l.set ≡ joined_to l.initial.set l.more l.q)
-
-abbrev pub decreases-loop-q : goal.decreases-loop-q
-decreases-loop-q l = length l.initial.set - l.q
+invariant-loop-q l = (length l.set ≡ length l.initial.set) × (l.set ≡ joined_to l.initial.set l.more l.q)

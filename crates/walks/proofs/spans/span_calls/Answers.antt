@@ -10,16 +10,16 @@ use Rattle.walks.proofs.spans.span_calls.Goals as goal
 pub loop-k-init : goal.loop-k-init
 loop-k-init c =
     let a = c.args in
-    (omega arith, ap length c.requires.2 ∙ length-replicate {A = ℕ} 8192 0, spanned_none a.stmts.now a.links.now a.calls.now 8192 _ c.requires.2)
+    (ap length c.requires.2 ∙ length-replicate {A = ℕ} 8192 0, spanned_none a.stmts.now a.links.now a.calls.now 8192 _ c.requires.2)
 
 pub span_call-requires : goal.span_call-requires
 span_call-requires c =
     let l = c.loop-k in
-    (all_get_d c.requires.0 l.k _ c.loop-k-test.true c.wide.ensures, omega (arith, c.narrow.ensures, c.loop-k-test.true, c.requires.1), l.invariant.1)
+    (all_get_d c.requires.0 l.k _ (omega arith) c.from.ensures, omega (arith, c.requires.1), l.invariant.0)
 
 pub loop-k-preserved : goal.loop-k-preserved
 loop-k-preserved c =
     let a = c.args in
     let l = c.loop-k in
     let g = c.span_call.ensures in
-    (omega arith, g.size ∙ l.invariant.1, spanned_more a.stmts.now a.links.now a.calls.now l.k _ l.spans _ c.wide.ensures l.invariant.2 (rw c.narrow.ensures at g))
+    (g.size ∙ l.invariant.0, spanned_more a.stmts.now a.links.now a.calls.now l.k _ l.spans _ c.from.ensures l.invariant.1 g)

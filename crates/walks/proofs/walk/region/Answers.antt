@@ -1,6 +1,6 @@
 -- `region`: the walk's invariant, over the lists that the tables store. Assumes nothing.
 use Prim.Native.Nat.{ℕ, ◌<◌, ◌+◌}
-use mathlib.Core.Path.{ap}
+use mathlib.Core.Path.{refl, ap}
 use native.Mathlib.Omega.{arith}
 use Rattle.passes.specs.Walk.{stored_list}
 use Rattle.passes.specs.WalkLaws.{walk_start, walk_markable, walk_turn, walk_few, walk_end, walk_below, region_listed, stored_part, stored_ids}
@@ -10,32 +10,32 @@ pub loop-done-init : goal.loop-done-init
 loop-done-init c =
     let lt : c.args.from < 4096 = omega (arith, c.requires.0, c.requires.1) in
     walk_start (stored_list c.args.lists.now c.args.edges.now) 4096 c.args.from lt c.args.work.now c.requires.3
-    c.no_marks-marks.result c.narrow.result c.no_marks-marks.ensures c.narrow.ensures
+    c.no_marks-marks.result _ c.no_marks-marks.ensures refl
 
 pub bounds-lists-v : goal.bounds-lists-v
 bounds-lists-v c =
-    let next : c.wide-v.result < c.args.n =
-    rw c.wide-v.ensures (walk_below c.args.n c.requires.2.ids c.requires.1 c.loop-done.invariant c.loop-done.done c.loop-done-test.true) in
+    let next : c.from-v.result < c.args.n =
+    rw c.from-v.ensures (walk_below c.args.n c.requires.2.ids c.requires.1 c.loop-done.invariant c.loop-done.done c.loop-done-test.true) in
     omega (arith, next, c.requires.2.rows)
 
 pub bounds-lists-v-in-loop-done : goal.bounds-lists-v-in-loop-done
 bounds-lists-v-in-loop-done c =
-    let next : c.wide-v.result < c.args.n =
-    rw c.wide-v.ensures (walk_below c.args.n c.requires.2.ids c.requires.1 c.loop-done.invariant c.loop-done.done c.loop-done-test.true) in
+    let next : c.from-v.result < c.args.n =
+    rw c.from-v.ensures (walk_below c.args.n c.requires.2.ids c.requires.1 c.loop-done.invariant c.loop-done.done c.loop-done-test.true) in
     omega (arith, next, c.requires.2.rows)
 
 pub mark_all-count-requires : goal.mark_all-count-requires
 mark_all-count-requires c =
-    let next : c.wide-v.result < c.args.n =
-    rw c.wide-v.ensures (walk_below c.args.n c.requires.2.ids c.requires.1 c.loop-done.invariant c.loop-done.done c.loop-done-test.true) in
-    let e = stored_part c.args.lists.now c.args.edges.now c.wide-v.result c.wide-start.result _ c.wide-start.ensures (ap (λ (x : ℕ). c.wide-start.result + x) c.wide.ensures) in
-    walk_markable c.loop-done.invariant (stored_ids 4096 c.wide-v.result _ c.requires.2 c.requires.0 (next) e)
+    let next : c.from-v.result < c.args.n =
+    rw c.from-v.ensures (walk_below c.args.n c.requires.2.ids c.requires.1 c.loop-done.invariant c.loop-done.done c.loop-done-test.true) in
+    let e = stored_part c.args.lists.now c.args.edges.now c.from-v.result c.from-start.result _ c.from-start.ensures (ap (λ (x : ℕ). c.from-start.result + x) c.from.ensures) in
+    walk_markable c.loop-done.invariant (stored_ids 4096 c.from-v.result _ c.requires.2 c.requires.0 (next) e)
 
 pub loop-done-preserved : goal.loop-done-preserved
 loop-done-preserved c =
     walk_turn (stored_list c.args.lists.now c.args.edges.now) 4096 c.args.from c.loop-done.marks c.mark_all-count.new.marks c.loop-done.work
-    _ c.loop-done.done c.loop-done.count c.mark_all-count.result c.wide-v.result _ c.loop-done.invariant c.loop-done-test.true c.wide-v.ensures
-    (stored_part c.args.lists.now c.args.edges.now c.wide-v.result c.wide-start.result _ c.wide-start.ensures (ap (λ (x : ℕ). c.wide-start.result + x) c.wide.ensures))
+    _ c.loop-done.done c.loop-done.count c.mark_all-count.result c.from-v.result _ c.loop-done.invariant c.loop-done-test.true c.from-v.ensures
+    (stored_part c.args.lists.now c.args.edges.now c.from-v.result c.from-start.result _ c.from-start.ensures (ap (λ (x : ℕ). c.from-start.result + x) c.from.ensures))
     c.mark_all-count.ensures
 
 pub returns : goal.returns
@@ -43,6 +43,6 @@ returns c = region_listed c.requires.2 c.requires.1 (omega (arith, walk_few c.lo
 
 pub slice_bounds-mark_all-end : goal.slice_bounds-mark_all-end
 slice_bounds-mark_all-end c =
-    let next : c.wide-v.result < c.args.n =
-    rw c.wide-v.ensures (walk_below c.args.n c.requires.2.ids c.requires.1 c.loop-done.invariant c.loop-done.done c.loop-done-test.true) in
-    omega (arith, c.requires.2.within c.wide-v.result next, c.wide.ensures, c.wide-start.ensures)
+    let next : c.from-v.result < c.args.n =
+    rw c.from-v.ensures (walk_below c.args.n c.requires.2.ids c.requires.1 c.loop-done.invariant c.loop-done.done c.loop-done-test.true) in
+    omega (arith, c.requires.2.within c.from-v.result next, c.from.ensures, c.from-start.ensures)

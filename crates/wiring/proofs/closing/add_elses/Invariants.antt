@@ -3,8 +3,8 @@ use lib.ListN.{length}
 use Rattle.passes.specs.ChainLaws.{chain_left, Walk}
 use Rattle.wiring.proofs.closing.add_elses.Given as goal
 
-abbrev pub invariant-loop-c : goal.invariant-loop-c
-invariant-loop-c l = Walk l.falls l.frames l.first l.initial.part l.n l.part l.r l.c
+abbrev pub invariant-loop-j : goal.invariant-loop-j
+invariant-loop-j l = Walk l.falls l.frames l.first l.initial.part l.n l.part l.r l.c
 
-abbrev pub decreases-loop-c : goal.decreases-loop-c
-decreases-loop-c l = chain_left (length l.frames) l.c
+abbrev pub decreases-loop-j : goal.decreases-loop-j
+decreases-loop-j l = chain_left (length l.frames) l.c

@@ -1,20 +1,18 @@
 -- `fill_empty_lines`: the lines from l on have their rows, and `next` is the entry of the first of them. Assumes nothing.
 use mathlib.Core.Path.{refl}
 use native.Mathlib.Omega.{arith}
-use borrow.Author.Rules.{rules}
 use lib.ListN.{length-set}
 use Rattle.passes.specs.LineEntries.{filled_start, filled_down, filled_end}
 use Rattle.wiring.proofs.entries.fill_empty_lines.Goals as goal
 
 pub loop-l-init : goal.loop-l-init
-loop-l-init c = (search rules, refl, λ ls others rest g e k. filled_start ls _ others rest _ _ g e k)
+loop-l-init c = (refl, λ ls others rest g e k. filled_start ls _ others rest _ _ g e k)
 
 pub loop-l-preserved : goal.loop-l-preserved
 loop-l-preserved c = (
-  search rules,
-  simp length-set c.loop-l.invariant.1,
-  λ ls others rest g e k. filled_down ls _ rest _ c.loop-l.l _ _ c.loop-l-test.true (c.loop-l.invariant.2 ls others rest g e k) c.entry_or-next.ensures,
+  simp length-set c.loop-l.invariant.0,
+  λ ls others rest g e k. filled_down ls _ rest _ c.loop-l.l _ _ c.loop-l-test.true (c.loop-l.invariant.1 ls others rest g e k) c.entry_or-next.ensures,
 )
 
 pub returns : goal.returns
-returns c = λ ls others rest g e k. filled_end ls _ rest _ _ _ (omega arith) (c.loop-l.invariant.2 ls others rest g e k)
+returns c = λ ls others rest g e k. filled_end ls _ rest _ _ _ (omega arith) (c.loop-l.invariant.1 ls others rest g e k)

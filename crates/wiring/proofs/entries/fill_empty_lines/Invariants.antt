@@ -1,5 +1,5 @@
 -- `fill_empty_lines`: the lines from l on have their rows, and `next` is the entry of the first of them. Assumes nothing.
-use Prim.Native.Nat.{ℕ, ◌≤◌}
+use Prim.Native.Nat.{ℕ}
 use mathlib.Core.List.{List, ◌++◌}
 use mathlib.Core.Path.{◌≡◌}
 use lib.ListN.{length}
@@ -11,8 +11,5 @@ use Rattle.wiring.proofs.entries.fill_empty_lines.Given as goal
 
 abbrev pub invariant-loop-l : goal.invariant-loop-l
 invariant-loop-l l =
-    (l.l ≤ l.count) × (length l.entries ≡ length l.initial.entries)
+    (length l.entries ≡ length l.initial.entries)
     × ((ls : Lines) (others rest : List ℕ) → l.lines ≡ line_numbers ls ++ others → l.count ≡ listing.count ls → l.initial.entries ≡ first_rows ls ++ rest → Filled ls l.lines rest l.l l.next l.entries)
-
-abbrev pub decreases-loop-l : goal.decreases-loop-l
-decreases-loop-l l = l.l

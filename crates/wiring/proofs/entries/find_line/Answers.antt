@@ -9,8 +9,8 @@ use Rattle.wiring.proofs.entries.find_line.Goals as goal
 pub loop-low-init : goal.loop-low-init
 loop-low-init c = (search rules, search rules, λ s. narrow_start _ _ c.args.n (column_length 0 c.args.n c.args.entries.now))
 
-pub returns-then-at-number : goal.returns-then-at-number
-returns-then-at-number c =
+pub returns-then-at-number-clause-found : goal.returns-then-at-number-clause-found
+returns-then-at-number-clause-found c =
     let mid = c.loop-low.low + (c.loop-low.high - c.loop-low.low) / 2 in
     line_here (entry_column 0 c.args.n c.args.entries.now) c.args.number c.loop-low.low c.loop-low.high mid (omega arith) (omega arith) (omega (arith, c.loop-low.invariant.1, column_length 0 c.args.n c.args.entries.now))
     _ (column_at 0 c.args.n c.args.entries.now mid (omega (arith, c.loop-low.invariant.1))) c.if-at-number.true
@@ -33,5 +33,5 @@ loop-low-preserved c =
           _ (column_at 0 c.args.n c.args.entries.now mid (omega (arith, c.loop-low.invariant.1))) s c.if-at-number.false c.if-at-number-2.false (c.loop-low.invariant.2 s),
     )
 
-pub returns : goal.returns
-returns c = line_none _ _ c.loop-low.low c.loop-low.high c.loop-low-test.false c.loop-low.invariant.2
+pub returns-clause-found : goal.returns-clause-found
+returns-clause-found c = line_none _ _ c.loop-low.low c.loop-low.high c.loop-low-test.false c.loop-low.invariant.2

@@ -1,19 +1,17 @@
 -- `store_first_nodes`: the statements from i on are stored, the last one first. Assumes nothing.
 use mathlib.Core.Path.{refl, ◌∙◌}
 use native.Mathlib.Omega.{arith}
-use borrow.Author.Rules.{rules}
 use Rattle.passes.specs.LineEntries.{first-start, first_down}
 use Rattle.wiring.proofs.entries.store_first_nodes.Goals as goal
 
 pub loop-i-init : goal.loop-i-init
-loop-i-init c = (search rules, refl, λ rs rest e k. first-start _ rs _ k)
+loop-i-init c = (refl, λ rs rest e k. first-start _ rs _ k)
 
 pub loop-i-preserved : goal.loop-i-preserved
 loop-i-preserved c =
     let l = c.loop-i in (
-      search rules,
-      c.store.auto.entries ∙ l.invariant.1,
+      c.store.auto.entries ∙ l.invariant.0,
       λ rs rest e k.
           c.store.ensures
-          ∙ first_down rs _ rest _ _ l.i _ _ c.loop-i-test.true (omega (arith, l.invariant.0)) e refl c.narrow.ensures (l.invariant.2 rs rest e k),
+          ∙ first_down rs _ rest _ _ l.i _ _ c.loop-i-test.true (omega arith) e refl refl (l.invariant.1 rs rest e k),
     )

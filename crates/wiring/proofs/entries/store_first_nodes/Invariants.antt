@@ -1,5 +1,5 @@
 -- `store_first_nodes`: the statements from i on are stored, the last one first. Assumes nothing.
-use Prim.Native.Nat.{ℕ, ◌≤◌}
+use Prim.Native.Nat.{ℕ}
 use mathlib.Core.List.{List, ◌++◌}
 use mathlib.Core.Path.{◌≡◌}
 use lib.ListN.{length, drop}
@@ -9,8 +9,5 @@ use Rattle.wiring.proofs.entries.store_first_nodes.Given as goal
 
 abbrev pub invariant-loop-i : goal.invariant-loop-i
 invariant-loop-i l =
-    (l.i ≤ l.n) × (length l.entries ≡ length l.initial.entries)
+    (length l.entries ≡ length l.initial.entries)
     × ((rs : List Rec) (rest : List ℕ) → l.stmts ≡ rec_rows rs ++ rest → l.n ≡ length rs → l.entries ≡ first_nodes l.i l.initial.entries (drop l.i rs))
-
-abbrev pub decreases-loop-i : goal.decreases-loop-i
-decreases-loop-i l = l.i

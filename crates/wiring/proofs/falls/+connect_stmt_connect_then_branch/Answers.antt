@@ -10,19 +10,19 @@ connect_stmt-returns-then-stmts-row-eq-NO_BRANCH t c =
     let a = c.args in
     stmt_leaf a.entries.now a.count a.stmts.now a.depth a.i a.end a.next a.falls.now _ c.if-stmts-row-eq-NO_BRANCH.true c.put_falls.ensures
 
-pub connect_stmt-returns-then-not-connect_then_branch : goal.connect_stmt-returns-then-not-connect_then_branch
-connect_stmt-returns-then-not-connect_then_branch t c =
+pub connect_stmt-returns-else-connect_then_branch : goal.connect_stmt-returns-else-connect_then_branch
+connect_stmt-returns-else-connect_then_branch t c =
     let a = c.args in
     let io = c.out_of_order.ensures.0 c.if-out_of_order.false in
-    stmt_first a.entries.now a.count a.stmts.now a.depth a.i a.end a.next a.falls.now c.if-stmts-row-eq-NO_BRANCH.false _ c.wide-m.ensures _ _ _ io.0
-    c.connect_then_branch.ensures (ap not c.if-not-connect_then_branch.true)
+    rw c.if-connect_then_branch.false (stmt_first a.entries.now a.count a.stmts.now a.depth a.i a.end a.next a.falls.now c.if-stmts-row-eq-NO_BRANCH.false _ c.from-m.ensures _ _ _ io.0
+    c.connect_then_branch.ensures (ap not c.if-connect_then_branch.false))
 
-pub connect_stmt-returns : goal.connect_stmt-returns
-connect_stmt-returns t c =
+pub connect_stmt-returns-then-connect_then_branch : goal.connect_stmt-returns-then-connect_then_branch
+connect_stmt-returns-then-connect_then_branch t c =
     let a = c.args in
     let io = c.out_of_order.ensures.0 c.if-out_of_order.false in
-    stmt_both a.entries.now a.count a.stmts.now a.depth a.i a.end a.next a.falls.now c.if-stmts-row-eq-NO_BRANCH.false _ c.wide-m.ensures _ _ _ _ _ io.0
-    c.connect_row.ensures c.connect_then_branch.ensures c.connect_then_branch-2.ensures
+    stmt_both a.entries.now a.count a.stmts.now a.depth a.i a.end a.next a.falls.now c.if-stmts-row-eq-NO_BRANCH.false _ c.from-m.ensures _ _ _ _ _ io.0
+    c.connect_row.ensures c.connect_then_branch.ensures c.connect_then_branch-then-connect_then_branch.ensures
 
 pub connect_then_branch-loop-i-init : goal.connect_then_branch-loop-i-init
 connect_then_branch-loop-i-init t c =
@@ -41,7 +41,7 @@ connect_then_branch-returns-then-out_of_order t c =
     λ es et d dd s sp ok q.
     let r = branch_in a.entries.now a.count a.stmts.now a.depth a.from a.end a.next a.falls.now es et d dd s sp ok q _ l.i c.loop-i-test.true
     (l.invariant.3 es et d dd s sp ok q) in
-    absurd (c.out_of_order.ensures.1 c.if-out_of_order.true (omega arith, omega (arith, c.wide-e.ensures, r.0), omega (arith, c.wide-e.ensures, r.1)))
+    absurd (c.out_of_order.ensures.1 c.if-out_of_order.true (omega arith, omega (arith, c.from-e.ensures, r.0), omega (arith, c.from-e.ensures, r.1)))
 
 pub connect_then_branch-returns-then-not-connect_stmt : goal.connect_then_branch-returns-then-not-connect_stmt
 connect_then_branch-returns-then-not-connect_stmt t c =
@@ -49,7 +49,7 @@ connect_then_branch-returns-then-not-connect_stmt t c =
     let l = c.loop-i in
     λ es et d dd s sp ok q.
     let r = branch-step a.entries.now a.count a.stmts.now a.depth a.from a.end a.next a.falls.now es et d dd s sp ok q _ l.i c.loop-i-test.true
-    (l.invariant.3 es et d dd s sp ok q) _ _ _ _ c.wide-e.ensures c.target_of-target.ensures c.connect_stmt.ensures in
+    (l.invariant.3 es et d dd s sp ok q) _ _ _ _ c.from-e.ensures c.target_of-target.ensures c.connect_stmt.ensures in
     not_both c.connect_stmt.result r.0 (ap not c.if-not-connect_stmt.true)
 
 pub connect_then_branch-loop-i-preserved : goal.connect_then_branch-loop-i-preserved
@@ -62,7 +62,7 @@ connect_then_branch-loop-i-preserved t c =
       c.connect_stmt.auto.falls ∙ l.invariant.2,
       λ es et d dd s sp ok q.
           (branch-step a.entries.now a.count a.stmts.now a.depth a.from a.end a.next a.falls.now es et d dd s sp ok q _ l.i c.loop-i-test.true
-          (l.invariant.3 es et d dd s sp ok q) _ _ _ _ c.wide-e.ensures c.target_of-target.ensures c.connect_stmt.ensures).1,
+          (l.invariant.3 es et d dd s sp ok q) _ _ _ _ c.from-e.ensures c.target_of-target.ensures c.connect_stmt.ensures).1,
     )
 
 pub connect_then_branch-returns : goal.connect_then_branch-returns

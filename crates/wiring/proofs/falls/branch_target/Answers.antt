@@ -1,15 +1,28 @@
--- `branch_target`: each return is one form of a branch. Assumes nothing.
+-- `branch_target`: each arm is one form of a branch. Assumes nothing.
+use Prim.Native.Nat.{ℕ}
+use mathlib.Core.List.{List}
+use mathlib.Core.Logic.{inl, inr}
+use mathlib.Core.Path.{◌≡◌, ◌∙◌}
+use borrow.Author.Rules.{rules}
+use borrow.Author.Tests.{lt-ltb, le-ltb}
+use Rattle.passes.specs.Compare.{lt-or}
+use Rattle.passes.specs.Falls.{target_of, BranchLed}
 use Rattle.passes.specs.Connecting.{led_line, led_none, led_first, led_empty}
 use Rattle.wiring.proofs.falls.branch_target.Goals as goal
 
-pub returns-then-form-eq-TO_BRANCH : goal.returns-then-form-eq-TO_BRANCH
-returns-then-form-eq-TO_BRANCH c = led_line _ _ _ _ _ _ _ _ c.if-form-eq-TO_BRANCH.true c.entry_of.ensures
+-- its statements, or nothing
+led_target : (entries : List ℕ) (k form number from end next r : ℕ) → (form ≡ 2 → ⊥) → (form ≡ 0 → ⊥) → r ≡ target_of from end next → BranchLed entries k form number from end next r
+led_target entries k form number from end next r f g e =
+    elim (lt-or from end) [
+      | inl h ↦ led_first entries k form number from end next r f g h (e ∙ rw (lt-ltb from end h))
+      | inr h ↦ let z : r ≡ next = e ∙ rw (le-ltb from end h) in rw z (led_empty entries k form number from end next f g h)
+    ]
 
-pub returns-then-form-eq-NO_BRANCH : goal.returns-then-form-eq-NO_BRANCH
-returns-then-form-eq-NO_BRANCH c = led_none _ _ _ _ _ _ _ c.if-form-eq-NO_BRANCH.true
+pub returns-in-2 : goal.returns-in-2
+returns-in-2 c = led_line _ _ _ _ _ _ _ _ c.in-2.is c.entry_of.ensures
 
-pub returns-then-from-end : goal.returns-then-from-end
-returns-then-from-end c = led_first _ _ _ _ _ _ _ _ c.if-form-eq-TO_BRANCH.false c.if-form-eq-NO_BRANCH.false c.if-from-end.true c.narrow.ensures
+pub returns-in-0 : goal.returns-in-0
+returns-in-0 c = led_none _ _ _ _ _ _ _ c.in-0.is
 
-pub returns-else-from-end : goal.returns-else-from-end
-returns-else-from-end c = led_empty _ _ _ _ _ _ _ c.if-form-eq-TO_BRANCH.false c.if-form-eq-NO_BRANCH.false c.if-from-end.false
+pub returns-in_default : goal.returns-in_default
+returns-in_default c = led_target _ _ _ _ _ _ _ _ (search rules) (search rules) c.target_of.ensures

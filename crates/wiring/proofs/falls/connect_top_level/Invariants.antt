@@ -13,9 +13,6 @@ use Rattle.wiring.proofs.falls.connect_top_level.Given as goal
 
 abbrev pub invariant-loop-l : goal.invariant-loop-l
 invariant-loop-l l =
-    (l.l ≤ l.count) × (l.end ≤ l.n) × (length l.falls ≡ length l.initial.falls)
+    (l.end ≤ l.n) × (length l.falls ≡ length l.initial.falls)
     × ((ls : Lines) → LinesOk ls → EntryTable (definition.entries ls) l.entries l.count → StmtsHeld ls l.stmts l.n
     → Ahead (definition.entries ls) (fall_rows (definition.entries ls) (definition.nodes ls)) l.entries l.stmts l.initial.falls l.falls l.l l.end l.next)
-
-abbrev pub decreases-loop-l : goal.decreases-loop-l
-decreases-loop-l l = l.l

@@ -5,7 +5,4 @@ use lib.ListN.{get_or}
 use Rattle.wiring.proofs.falls.start_of.Given as goal
 
 abbrev pub invariant-loop-i : goal.invariant-loop-i
-invariant-loop-i l = (l.i ≤ l.end) × ((k : ℕ) → l.i ≤ k → k < l.end → get_or l.stmts (k * 12 + 1) 0 ≡ l.l)
-
-abbrev pub decreases-loop-i : goal.decreases-loop-i
-decreases-loop-i l = l.i
+invariant-loop-i l = (k : ℕ) → l.i ≤ k → k < l.end → get_or l.stmts (k * 12 + 1) 0 ≡ l.l

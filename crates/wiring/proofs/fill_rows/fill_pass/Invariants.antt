@@ -1,12 +1,8 @@
 -- `fill_pass`: the first i nodes are passed. Assumes nothing.
-use Prim.Native.Nat.{◌-◌, ◌≤◌}
 use mathlib.Core.Path.{◌≡◌}
 use lib.ListN.{length}
 use Rattle.passes.specs.FillRows.{PassFilled}
 use Rattle.wiring.proofs.fill_rows.fill_pass.Given as goal
 
 abbrev pub invariant-loop-i : goal.invariant-loop-i
-invariant-loop-i l = (l.i ≤ l.n) × (length l.part ≡ length l.initial.part) × PassFilled l.stmts l.initial.args l.entries l.falls l.links l.frames l.dispatched l.lines l.n l.d l.nexts l.i l.args
-
-abbrev pub decreases-loop-i : goal.decreases-loop-i
-decreases-loop-i l = l.n - l.i
+invariant-loop-i l = (length l.part ≡ length l.initial.part) × PassFilled l.stmts l.initial.args l.entries l.falls l.links l.frames l.dispatched l.lines l.n l.d l.nexts l.i l.args

@@ -1,12 +1,22 @@
 -- `fill_row`: one row, lent on as the part that it is. Assumes nothing.
-use Prim.Native.Nat.{◌+◌, ◌-◌, ◌*◌}
+use Prim.Native.Nat.{◌≤◌, ◌+◌, ◌-◌, ◌*◌}
 use mathlib.Core.Path.{◌≡◌, sym, ◌∙◌, ap}
 use native.Mathlib.Omega.{arith}
-use lib.ListN.{length}
+use lib.ListN.{length, take}
+use Rattle.std.proofs.Common.{length-take-le}
 use Rattle.passes.specs.ReturnSetLaws.{row_part, row_length}
 use Rattle.passes.specs.FillRows.{passes}
 use Rattle.passes.specs.FillRowLaws.{row_left, row_filled, skip_fits}
+use Rattle.graph_laws.specs.EdgeBounds.{Ids}
 use Rattle.wiring.proofs.fill_rows.fill_row.Goals as goal
+use Rattle.wiring.proofs.fill_rows.fill_row.Goals.{After-skip_list-count}
+
+-- the list that was made fits the part, and has nodes only
+made : (c : After-skip_list-count) → (c.skip_list-count.result ≤ length c.skip_list-count.new.part) × Ids 4096 (take c.skip_list-count.result c.skip_list-count.new.part)
+unfolding passes
+made c =
+    skip_fits c.args.stmts.now c.args.args.now c.args.entries.now c.args.falls.now c.args.links.now c.args.frames.now c.args.dispatched.now c.args.lines c.args.d c.args.i
+    c.args.part.now _ _ (c.requires.skips (sym c.in_pass.ensures ∙ c.if-not-in_pass.false)) c.skip_list-count.ensures
 
 pub returns-then-not-in_pass : goal.returns-then-not-in_pass
 unfolding passes
@@ -18,15 +28,16 @@ pub skip_list-count-requires : goal.skip_list-count-requires
 unfolding passes
 skip_list-count-requires c = c.requires.skips (sym c.in_pass.ensures ∙ c.if-not-in_pass.false)
 
+pub slice_bounds-put_set-end-2 : goal.slice_bounds-put_set-end-2
+slice_bounds-put_set-end-2 c = (made (goal.at.slice_bounds-put_set-end-2 c).After-skip_list-count).0
+
+pub slice_bounds-put_set-end-3 : goal.slice_bounds-put_set-end-3
+slice_bounds-put_set-end-3 c = sym (length-take-le c.skip_list-count.result c.skip_list-count.new.part (made (goal.at.slice_bounds-put_set-end-3 c).After-skip_list-count).0)
+
 pub put_set-requires : goal.put_set-requires
-unfolding passes
 put_set-requires c =
     let k : c.args.i * 64 + 64 - c.args.i * 64 ≡ 64 = omega arith in
-    let ready = c.requires.skips (sym c.in_pass.ensures ∙ c.if-not-in_pass.false) in
-    let f =
-    skip_fits c.args.stmts.now c.args.args.now c.args.entries.now c.args.falls.now c.args.links.now c.args.frames.now c.args.dispatched.now c.args.lines c.args.d c.args.i
-    c.args.part.now _ _ ready c.skip_list-count.ensures in
-    (ap length (row_part c.args.args.now c.args.i _ k) ∙ row_length c.args.args.now c.args.i c.requires.fits, f.0, f.1)
+    (ap length (row_part c.args.args.now c.args.i _ k) ∙ row_length c.args.args.now c.args.i c.requires.fits, (made (goal.at.put_set-requires c).After-skip_list-count).1)
 
 pub returns : goal.returns
 unfolding passes

@@ -1,17 +1,18 @@
--- `put_set`: the row holds the first k nodes of the list. Assumes nothing.
-use Prim.Native.Nat.{◌-◌}
-use mathlib.Core.Path.{sym}
+-- `put_set`: the row holds the first nodes of the list. Assumes nothing.
+use borrow.Author.Rules.{rules}
+use mathlib.Core.Path.{◌≡◌, sym}
+use lib.ListN.{length, replicate}
 use native.Mathlib.Omega.{arith}
-use Rattle.passes.specs.ClosureLaws.{row_none, row_more, row_id}
+use Rattle.passes.specs.ClosureLaws.{row_none, row_more}
+use Rattle.passes.specs.WalkLaws.{id_at}
 use Rattle.wiring.proofs.fill_rows.put_set.Goals as goal
 
-pub loop-k-init : goal.loop-k-init
-loop-k-init c = (omega arith, row_none _ _ c.zero64.ensures c.requires.0)
+pub loop-id-init : goal.loop-id-init
+loop-id-init c = let z : c.fill.new.self ≡ replicate (length c.args.row.now) 0 = search rules in row_none _ _ z c.requires.0
 
-pub loop-k-preserved : goal.loop-k-preserved
-loop-k-preserved c =
-    let l = c.loop-k in
-    let w = c.wide in
-    let h = row_id c.args.list.now c.args.count l.k c.requires.2 c.loop-k-test.true c.requires.1 in
-    let m = row_more l.row c.args.list.now l.k w.result (omega (arith, c.requires.1)) w.ensures (omega (arith, h, w.ensures)) l.invariant.1 in
-    (omega arith, rw (sym c.insert.ensures) at m)
+pub loop-id-preserved : goal.loop-id-preserved
+loop-id-preserved c =
+    let l = c.loop-id in
+    let h = id_at 4096 c.args.list.now l.id-index c.requires.1 c.loop-id-test.true in
+    let m = row_more l.row c.args.list.now l.id-index c.from.result c.loop-id-test.true c.from.ensures (omega (arith, h, c.from.ensures)) l.invariant in
+    rw (sym c.insert.ensures) at m

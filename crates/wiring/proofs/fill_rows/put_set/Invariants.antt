@@ -1,11 +1,7 @@
--- `put_set`: the row holds the first k nodes of the list. Assumes nothing.
-use Prim.Native.Nat.{◌-◌, ◌≤◌}
+-- `put_set`: the row holds the first nodes of the list. Assumes nothing.
 use lib.ListN.{take}
 use Rattle.passes.specs.Closure.{RowIs}
 use Rattle.wiring.proofs.fill_rows.put_set.Given as goal
 
-abbrev pub invariant-loop-k : goal.invariant-loop-k
-invariant-loop-k l = (l.k ≤ l.count) × RowIs (take l.k l.list) l.row
-
-abbrev pub decreases-loop-k : goal.decreases-loop-k
-decreases-loop-k l = l.count - l.k
+abbrev pub invariant-loop-id : goal.invariant-loop-id
+invariant-loop-id l = RowIs (take l.id-index l.list) l.row

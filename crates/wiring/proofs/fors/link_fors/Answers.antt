@@ -15,10 +15,9 @@ use Rattle.wiring.proofs.fors.link_fors.Goals.{else-moves_fors, then-moves_fors}
 pub loop-i-init : goal.loop-i-init
 loop-i-init c =
     let e = new_held _ c.new-s.ensures in (
-      omega arith,
       refl,
       record { openers = []; held = e; below = omega arith },
-      none_noted 512 _ _ _ refl c.no_notes-notes.ensures e,
+      none_noted 512 _ _ _ refl c.all_of-notes.ensures e,
       going_start c.args.stmts.now c.args.args.now c.args.n c.args.links.now _ e,
     )
 
@@ -27,14 +26,13 @@ loop-i-preserved c =
     let e : NodeLinked c.args.stmts.now c.args.args.now c.loop-i.i c.loop-i.s.words c.if-moves_fors.s.words c.loop-i.links c.if-moves_fors.links × (length c.if-moves_fors.links ≡ length c.loop-i.links) × KeysNoted c.args.args.now c.if-moves_fors.notes c.if-moves_fors.s.words
     = elim c.if-moves_fors.branch [
       | then-moves_fors w ↦ rw (w.links-is, w.s-is, w.notes-is) (w.link_node-s.ensures.node_linked, search rules, w.link_node-s.ensures.keys_noted_2)
-      | else-moves_fors w ↦ rw (w.links-is, w.s-is, w.notes-is) (node_other _ _ _ _ _ (sym c.moves_fors.ensures ∙ w.if-moves_fors.false), refl, c.loop-i.invariant.3)
+      | else-moves_fors w ↦ rw (w.links-is, w.s-is, w.notes-is) (node_other _ _ _ _ _ (sym c.moves_fors.ensures ∙ w.if-moves_fors.false), refl, c.loop-i.invariant.2)
     ] in (
-      search rules,
-      e.1 ∙ c.loop-i.invariant.1,
-      node_open _ _ _ _ _ _ _ c.loop-i.invariant.2 e.0,
+      e.1 ∙ c.loop-i.invariant.0,
+      node_open _ _ _ _ _ _ _ c.loop-i.invariant.1 e.0,
       e.2,
-      going_on c.args.stmts.now c.args.args.now c.args.n c.args.links.now _ _ _ _ c.loop-i.i c.loop-i-test.true (omega (arith, c.requires.n_bound)) (omega (arith, c.requires.n_bound)) c.loop-i.invariant.4 e.0,
+      going_on c.args.stmts.now c.args.args.now c.args.n c.args.links.now _ _ _ _ c.loop-i.i c.loop-i-test.true (omega (arith, c.requires.n_bound)) (omega (arith, c.requires.n_bound)) c.loop-i.invariant.3 e.0,
     )
 
 pub returns : goal.returns
-returns c = going_end c.args.stmts.now c.args.args.now c.args.n c.args.links.now _ _ c.loop-i.i (omega arith) c.loop-i.invariant.0 c.loop-i.invariant.4
+returns c = going_end c.args.stmts.now c.args.args.now c.args.n c.args.links.now _ _ c.loop-i.i (omega arith) (omega arith) c.loop-i.invariant.3

@@ -1,12 +1,8 @@
 -- `list_dispatched`: those among the nodes before i are listed. Assumes nothing.
 use mathlib.Core.Path.{◌≡◌}
-use Prim.Native.Nat.{◌-◌, ◌≤◌}
 use lib.ListN.{length}
 use Rattle.passes.specs.Dispatched.{DispatchedTo}
 use Rattle.wiring.proofs.fors.list_dispatched.Given as goal
 
 abbrev pub invariant-loop-i : goal.invariant-loop-i
-invariant-loop-i l = (l.i ≤ l.n) × (length l.dispatched ≡ length l.initial.dispatched) × DispatchedTo l.stmts l.falls l.i l.initial.dispatched l.dispatched l.d
-
-abbrev pub decreases-loop-i : goal.decreases-loop-i
-decreases-loop-i l = l.n - l.i
+invariant-loop-i l = (length l.dispatched ≡ length l.initial.dispatched) × DispatchedTo l.stmts l.falls l.i l.initial.dispatched l.dispatched l.d

@@ -1,6 +1,5 @@
 -- `pop_slots`: the first j slots are popped, the row holds what they pop, and top is what is left open at the top. Assumes nothing.
 use mathlib.Core.Path.{◌≡◌}
-use Prim.Native.Nat.{◌-◌, ◌≤◌}
 use lib.ListN.{length}
 use Rattle.passes.specs.FrameStacks.{HoldsBelow, top_mark}
 use Rattle.passes.specs.ForStackLaws.{PoppingTo}
@@ -8,7 +7,4 @@ use Rattle.passes.specs.NotedKeys.{KeysNoted}
 use Rattle.wiring.proofs.fors.pop_slots.Given as goal
 
 abbrev pub invariant-loop-j : goal.invariant-loop-j
-invariant-loop-j l = (l.j ≤ length l.initial.row) × (length l.row ≡ length l.initial.row) × HoldsBelow l.t.words l.i × (l.top ≡ top_mark l.t.words) × KeysNoted l.args l.notes l.t.words × PoppingTo l.args l.keys l.initial.t.words l.t.words l.initial.row l.row l.j
-
-abbrev pub decreases-loop-j : goal.decreases-loop-j
-decreases-loop-j l = length l.initial.row - l.j
+invariant-loop-j l = (length l.row ≡ length l.initial.row) × HoldsBelow l.s.words l.i × (l.top ≡ top_mark l.s.words) × KeysNoted l.args l.notes l.s.words × PoppingTo l.args l.keys l.initial.s.words l.s.words l.initial.row l.row l.j

@@ -1,16 +1,27 @@
 -- `join_frame`: one law for each move that leaves the stack alone. Assumes nothing.
-use mathlib.Core.Path.{ap}
+use mathlib.Core.Bool.{false}
+use mathlib.Core.Path.{◌≡◌, refl, ap}
 use native.Mathlib.Omega.{arith}
-use Rattle.passes.specs.FramePass.{move_of}
+use Rattle.graph.specs.Edges.{stays}
+use Rattle.passes.specs.FramePass.{move_of, moves_stack}
+use Rattle.passes.specs.declared.moves.FrameMove.{FrameMove}
+use Rattle.passes.specs.declared.moves.FrameMove.TheVariants.{Stays, Opens, Closes, Joins}
 use Rattle.passes.specs.FrameStackLaws.{top_le}
 use Rattle.passes.specs.FramePassLaws.{step_stays, step_joins}
 use Rattle.wiring.proofs.frames.join_frame.Goals as goal
 
-pub returns-in-Stays : goal.returns-in-Stays
-returns-in-Stays c = step_stays c.args.i c.args.words.now c.args.frames.now (move_of c.args.m) (ap move_of c.in-Stays.is)
+-- a move that leaves the stack alone and joins no frame
+must_stay : (m : FrameMove) → moves_stack (move_of m) ≡ false → (m ≡ Joins → ⊥) → move_of m ≡ stays
+must_stay Stays h n = refl
+must_stay Opens h n = absurd (cc)
+must_stay Closes h n = absurd (cc)
+must_stay Joins h n = absurd (n refl)
 
-pub narrow-requires : goal.narrow-requires
-narrow-requires c = omega (arith, top_le c.args.words.now c.newest.result c.args.i c.requires.holds_below c.newest.ensures, c.requires.i_bound)
+pub returns-in_default : goal.returns-in_default
+returns-in_default c = step_stays c.args.i c.args.s.now.words c.args.frames.now (move_of c.args.m) (must_stay c.args.m c.requires.m_value c.in_default.not-Joins)
+
+pub overflow_cast-frames : goal.overflow_cast-frames
+overflow_cast-frames c = omega (arith, top_le c.args.s.now.words c.newest.result c.args.i c.requires.holds_below c.newest.ensures, c.requires.i_bound)
 
 pub returns-in-Joins : goal.returns-in-Joins
-returns-in-Joins c = step_joins c.args.i c.args.words.now c.args.frames.now (move_of c.args.m) c.newest.result c.narrow.result (ap move_of c.in-Joins.is) c.newest.ensures c.narrow.ensures
+returns-in-Joins c = step_joins c.args.i c.args.s.now.words c.args.frames.now (move_of c.args.m) c.newest.result _ (ap move_of c.in-Joins.is) c.newest.ensures refl

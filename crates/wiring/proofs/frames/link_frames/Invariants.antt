@@ -1,12 +1,8 @@
 -- `link_frames`: the nodes from i on are linked. Assumes nothing.
-use Prim.Native.Nat.{◌≤◌, ◌-◌}
 use mathlib.Core.Path.{◌≡◌}
 use lib.ListN.{length}
 use Rattle.passes.specs.LinkLaws.{Linking}
 use Rattle.wiring.proofs.frames.link_frames.Given as goal
 
 abbrev pub invariant-loop-i : goal.invariant-loop-i
-invariant-loop-i l = (l.i ≤ l.n) × (length l.frames ≡ length l.initial.frames) × Linking l.stmts l.n l.frames l.i
-
-abbrev pub decreases-loop-i : goal.decreases-loop-i
-decreases-loop-i l = l.i
+invariant-loop-i l = (length l.frames ≡ length l.initial.frames) × Linking l.stmts l.n l.frames l.i

@@ -1,12 +1,8 @@
 -- `meet_frames`: both stacks and the first column before node i. Assumes nothing.
-use Prim.Native.Nat.{◌≤◌, ◌-◌}
 use mathlib.Core.Path.{◌≡◌}
 use lib.ListN.{length}
 use Rattle.passes.specs.FramePassLaws.{Meeting}
 use Rattle.wiring.proofs.frames.meet_frames.Given as goal
 
 abbrev pub invariant-loop-i : goal.invariant-loop-i
-invariant-loop-i l = (l.i ≤ l.n) × (length l.frames ≡ length l.initial.frames) × Meeting l.stmts l.n l.loops.words l.dos.words l.frames l.i
-
-abbrev pub decreases-loop-i : goal.decreases-loop-i
-decreases-loop-i l = l.n - l.i
+invariant-loop-i l = (length l.frames ≡ length l.initial.frames) × Meeting l.stmts l.n l.loops.words l.dos.words l.frames l.i

@@ -1,5 +1,4 @@
 -- `link_jumps`: the rows of the first i statements are written; the part of row i comes back with its links. Assumes nothing.
-use Prim.Native.Nat.{◌≤◌, ◌-◌}
 use mathlib.Core.Path.{◌≡◌}
 use lib.ListN.{length, take}
 use Rattle.passes.specs.Jumps.{linked}
@@ -12,9 +11,6 @@ use Rattle.wiring.proofs.jumps.link_jumps.Given as goal
 
 abbrev pub invariant-loop-i : goal.invariant-loop-i
 invariant-loop-i l =
-    (l.i ≤ l.n) × (length l.links ≡ length l.initial.links)
+    (length l.links ≡ length l.initial.links)
     × ((ls : Lines) → LinesOk ls → EntryTable (definition.entries ls) l.entries l.count → StmtsHeld ls l.stmts l.n → ArgsHeld ls l.args
     → l.links ≡ linked (definition.entries ls) l.initial.links 0 (take l.i (definition.nodes ls)))
-
-abbrev pub decreases-loop-i : goal.decreases-loop-i
-decreases-loop-i l = l.n - l.i

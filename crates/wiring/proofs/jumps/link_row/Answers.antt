@@ -1,17 +1,15 @@
 -- `link_row`: the first j arguments are linked. Assumes nothing.
 use mathlib.Core.Path.{refl}
 use native.Mathlib.Omega.{arith}
-use borrow.Author.Rules.{rules}
 use lib.ListN.{length-set}
 use Rattle.passes.specs.JumpLaws.{link_start, link_step}
 use Rattle.wiring.proofs.jumps.link_row.Goals as goal
 
 pub loop-j-init : goal.loop-j-init
-loop-j-init c = (search rules, refl, λ es et. link_start es c.args.args.now _)
+loop-j-init c = (refl, λ es et. link_start es c.args.args.now _)
 
 pub loop-j-preserved : goal.loop-j-preserved
 loop-j-preserved c = (
-  omega (arith, c.loop-j-test.true),
-  simp length-set c.loop-j.invariant.1,
-  λ es et. link_step es c.args.args.now _ _ c.loop-j.j _ (omega (arith, c.loop-j-test.true, c.requires)) (c.entry_of_argument.ensures es et) (c.loop-j.invariant.2 es et),
+  simp length-set c.loop-j.invariant.0,
+  λ es et. link_step es c.args.args.now _ _ c.loop-j.j _ (omega (arith, c.loop-j-test.true, c.requires)) (c.entry_of_argument.ensures es et) (c.loop-j.invariant.1 es et),
 )

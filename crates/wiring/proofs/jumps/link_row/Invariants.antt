@@ -1,5 +1,4 @@
 -- `link_row`: the first j arguments are linked. Assumes nothing.
-use Prim.Native.Nat.{◌≤◌, ◌-◌}
 use mathlib.Core.Path.{◌≡◌}
 use lib.Seq.{sets}
 use lib.ListN.{length, take}
@@ -9,7 +8,4 @@ use Rattle.graph.specs.Nodes.{Entries}
 use Rattle.wiring.proofs.jumps.link_row.Given as goal
 
 abbrev pub invariant-loop-j : goal.invariant-loop-j
-invariant-loop-j l = (l.j ≤ l.c) × (length l.links ≡ length l.initial.links) × ((es : Entries) → EntryTable es l.entries l.count → l.links ≡ sets l.initial.links 0 (link_row es (take l.j l.args)))
-
-abbrev pub decreases-loop-j : goal.decreases-loop-j
-decreases-loop-j l = l.c - l.j
+invariant-loop-j l = (length l.links ≡ length l.initial.links) × ((es : Entries) → EntryTable es l.entries l.count → l.links ≡ sets l.initial.links 0 (link_row es (take l.j l.args)))

@@ -1,6 +1,5 @@
 -- `all_line_entry_nodes`: the nodes of the first k rows are added, and those that are left ascend from the last one. Assumes nothing.
 use mathlib.Core.Path.{◌≡◌}
-use Prim.Native.Nat.{◌-◌, ◌≤◌}
 use lib.ListN.{length, take, drop}
 use Rattle.graph.specs.Lists.{each}
 use Rattle.graph_laws.specs.Adding.{decode}
@@ -10,7 +9,4 @@ use Rattle.passes.specs.EntryOrder.{Rises, LastAdded}
 use Rattle.wiring.proofs.list_of.all_line_entry_nodes.Given as goal
 
 abbrev pub invariant-loop-k : goal.invariant-loop-k
-invariant-loop-k l = (l.k ≤ l.rows) × (length l.part ≡ length l.initial.part) × Grows l.initial.part 0 l.part l.n (each decode (take l.k (entry_column 1 l.rows l.entries))) × LastAdded l.part l.n l.last × Rises l.last (drop l.k (entry_column 1 l.rows l.entries))
-
-abbrev pub decreases-loop-k : goal.decreases-loop-k
-decreases-loop-k l = l.rows - l.k
+invariant-loop-k l = (length l.part ≡ length l.initial.part) × Grows l.initial.part 0 l.part l.n (each decode (take l.k (entry_column 1 l.rows l.entries))) × LastAdded l.part l.n l.last × Rises l.last (drop l.k (entry_column 1 l.rows l.entries))

@@ -1,8 +1,10 @@
 -- `read_fitting`: the front parts as the reader leaves them, zeros behind. Assumes nothing.
 use Rattle.program_files.specs.Inputs.{meaning}
 use Rattle.reader.specs.FileLoop.{input_within}
+use Rattle.layout.specs.Zeroed.{cleared_behind}
 use Rattle.passes.specs.Reading.{fitting_read}
 use Rattle.wiring.proofs.reading.read_fitting.Goals as goal
 
 pub returns : goal.returns
-returns c = fitting_read (meaning c.args.program c.args.input.now) (input_within c.args.program c.args.input.now) c.args.line_room c.args.stmt_room c.args.lines.now c.args.stmts.now c.args.args.now c.requires.0 c.requires.1 c.requires.2 _ _ _ c.clear_behind.ensures c.clear_behind-2.ensures c.clear_words_behind.ensures _ _ _ _ _ c.read_input.ensures
+unfolding cleared_behind
+returns c = fitting_read (meaning c.args.program c.args.input.now) (input_within c.args.program c.args.input.now) c.args.line_room c.args.stmt_room c.args.lines.now c.args.stmts.now c.args.args.now c.requires.0 c.requires.1 c.requires.2 _ _ _ c.fill_behind.ensures c.fill_behind-2.ensures c.fill_behind-3.ensures _ _ _ _ _ c.read_input.ensures

@@ -1,12 +1,9 @@
 -- `put_targets`: the continuations of the first i nodes are listed. Assumes nothing.
-use Prim.Native.Nat.{◌-◌, ◌≤◌}
+use Prim.Native.Nat.{◌≤◌}
 use Rattle.graph.specs.Lists.{each, below}
 use Rattle.tables.specs.Columns.{continuation_entry}
 use Rattle.passes.specs.ReturnTargets.{TargetsAdded}
 use Rattle.wiring.proofs.return_targets.put_targets.Given as goal
 
 abbrev pub invariant-loop-i : goal.invariant-loop-i
-invariant-loop-i l = (l.i ≤ l.n) × (l.k ≤ l.i) × TargetsAdded 4096 (each (continuation_entry l.stmts l.falls) (below l.i)) l.initial.returns 0 l.marks l.returns l.k
-
-abbrev pub decreases-loop-i : goal.decreases-loop-i
-decreases-loop-i l = l.n - l.i
+invariant-loop-i l = (l.k ≤ l.i) × TargetsAdded 4096 (each (continuation_entry l.stmts l.falls) (below l.i)) l.initial.returns 0 l.marks l.returns l.k

@@ -1,5 +1,4 @@
 -- `store_skip_lists`: the first i nodes are done. Assumes nothing.
-use Prim.Native.Nat.{◌-◌}
 use mathlib.Core.Path.{◌≡◌, refl}
 use native.Mathlib.Omega.{arith}
 use borrow.Author.Rules.{rules}
@@ -8,7 +7,7 @@ use Rattle.passes.specs.SkipLists.{skips_none, skips_fit, skips_more, skips_done
 use Rattle.wiring.proofs.skip_lists.store_skip_lists.Goals as goal
 
 pub loop-i-init : goal.loop-i-init
-loop-i-init c = (omega arith, refl, refl, refl, omega arith, λ L p r. skips_none (wire L) c.args.lists.now c.args.scratch.now)
+loop-i-init c = (refl, refl, refl, omega arith, λ L p r. skips_none (wire L) c.args.lists.now c.args.scratch.now)
 
 pub store_skip_list-e-requires : goal.store_skip_list-e-requires
 store_skip_list-e-requires c =
@@ -18,11 +17,11 @@ store_skip_list-e-requires c =
       prepared = c.requires.prepared;
       roles = c.requires.roles;
       node = c.loop-i-test.true;
-      rows = omega (arith, c.requires.rows, c.loop-i.invariant.1);
-      scratch_size = omega (arith, c.requires.scratch_size, c.loop-i.invariant.2);
-      buffer_size = omega (arith, c.requires.buffer_size, c.loop-i.invariant.3);
-      few = c.loop-i.invariant.4;
-      fits = skips_fit c.requires.roles (c.loop-i.invariant.5 c.requires.listing c.requires.prepared c.requires.roles) c.loop-i.invariant.0;
+      rows = omega (arith, c.requires.rows, c.loop-i.invariant.0);
+      scratch_size = omega (arith, c.requires.scratch_size, c.loop-i.invariant.1);
+      buffer_size = omega (arith, c.requires.buffer_size, c.loop-i.invariant.2);
+      few = c.loop-i.invariant.3;
+      fits = skips_fit c.requires.roles (c.loop-i.invariant.4 c.requires.listing c.requires.prepared c.requires.roles) (omega arith);
     }
 
 pub loop-i-preserved : goal.loop-i-preserved
@@ -34,12 +33,11 @@ loop-i-preserved c =
       search rules,
       search rules,
       search rules,
-      search rules,
-      omega (arith, l.invariant.4, (m q.listing c.args.n q.prepared q.roles h).few),
-      λ L p r. skips_more r (l.invariant.5 L p r) q.rows h (m L c.args.n p r h),
+      omega (arith, l.invariant.3, (m q.listing c.args.n q.prepared q.roles h).few),
+      λ L p r. skips_more r (l.invariant.4 L p r) q.rows h (m L c.args.n p r h),
     )
 
 pub returns : goal.returns
 returns c =
     let e : c.loop-i.i ≡ c.args.n = omega arith in
-    λ L p r. skips_done e c.loop-i.invariant.1 c.loop-i.invariant.2 (c.loop-i.invariant.5 L p r)
+    λ L p r. skips_done e c.loop-i.invariant.0 c.loop-i.invariant.1 (c.loop-i.invariant.4 L p r)

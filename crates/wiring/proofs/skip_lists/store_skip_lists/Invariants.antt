@@ -1,12 +1,9 @@
 -- `store_skip_lists`: the first i nodes are done. Assumes nothing.
-use Prim.Native.Nat.{◌≤◌, ◌-◌, ◌*◌}
+use Prim.Native.Nat.{◌≤◌, ◌*◌}
 use mathlib.Core.Path.{◌≡◌}
 use lib.ListN.{length}
 use Rattle.passes.specs.SkipLists.{Skipping}
 use Rattle.wiring.proofs.skip_lists.store_skip_lists.Given as goal
 
 abbrev pub invariant-loop-i : goal.invariant-loop-i
-invariant-loop-i l = (l.i ≤ l.n) × (length l.lists ≡ length l.initial.lists) × (length l.scratch ≡ length l.initial.scratch) × (length l.buffer ≡ length l.initial.buffer) × (l.e.total ≤ l.i * 4096) × Skipping l.stmts l.args l.entries l.falls l.links l.frames l.dispatched l.lines l.n l.d l.i l.e.total l.e.at l.initial.lists l.lists l.initial.scratch l.scratch
-
-abbrev pub decreases-loop-i : goal.decreases-loop-i
-decreases-loop-i l = l.n - l.i
+invariant-loop-i l = (length l.lists ≡ length l.initial.lists) × (length l.scratch ≡ length l.initial.scratch) × (length l.buffer ≡ length l.initial.buffer) × (l.e.total ≤ l.i * 4096) × Skipping l.stmts l.args l.entries l.falls l.links l.frames l.dispatched l.lines l.n l.d l.i l.e.total l.e.at l.initial.lists l.lists l.initial.scratch l.scratch

@@ -1,11 +1,7 @@
 -- `highest`: the words from q on are passed over. Assumes nothing.
 use Rattle.passes.specs.FrameStacks.{highest_mark}
 use mathlib.Core.Path.{◌≡◌}
-use Prim.Native.Nat.{◌≤◌}
 use Rattle.wiring.proofs.stacks.highest.Given as goal
 
 abbrev pub invariant-loop-q : goal.invariant-loop-q
-invariant-loop-q l = (l.q ≤ l.n) × (highest_mark l.words l.n ≡ highest_mark l.words l.q)
-
-abbrev pub decreases-loop-q : goal.decreases-loop-q
-decreases-loop-q l = l.q
+invariant-loop-q l = highest_mark l.words l.n ≡ highest_mark l.words l.q

@@ -1,19 +1,29 @@
 -- `pop`: the highest mark is the newest frame. Assumes nothing.
+use Prim.Native.Nat.{◌-◌}
+use mathlib.Core.Path.{◌≡◌}
 use native.Mathlib.Omega.{arith}
 use Rattle.passes.specs.FrameStackLaws.{pop_none, pop_some, pop_fits}
 use Rattle.wiring.proofs.stacks.FrameStack.pop.Goals as goal
 
-pub returns-then-t-eq0 : goal.returns-then-t-eq0
-returns-then-t-eq0 c = pop_none c.args.self.words c.newest-t.result c.newest-t.ensures c.if-t-eq0.true
+pub bounds-self-id : goal.bounds-self-id
+bounds-self-id c =
+    let e : c.in-Some.id ≡ c.newest-t.result - 1 = omega (arith, c.in-Some.ensures) in
+    rw e (pop_fits c.args.self.words c.newest-t.result c.newest-t.ensures c.args.i c.requires.holds_below (omega (arith, c.in-Some.ensures))).0
 
-pub bounds-self-q : goal.bounds-self-q
-bounds-self-q c = (pop_fits c.args.self.words c.newest-t.result c.newest-t.ensures c.args.i c.requires.holds_below c.if-t-eq0.false).0
+pub bounds-self-id-in-Some : goal.bounds-self-id-in-Some
+bounds-self-id-in-Some c =
+    let e : c.in-Some.id ≡ c.newest-t.result - 1 = omega (arith, c.in-Some.ensures) in
+    rw e (pop_fits c.args.self.words c.newest-t.result c.newest-t.ensures c.args.i c.requires.holds_below (omega (arith, c.in-Some.ensures))).0
 
 pub overflow_sub-self : goal.overflow_sub-self
-overflow_sub-self c = omega (arith, (pop_fits c.args.self.words c.newest-t.result c.newest-t.ensures c.args.i c.requires.holds_below c.if-t-eq0.false).1, c.bit-b.ensures)
+overflow_sub-self c =
+    let e : c.in-Some.id ≡ c.newest-t.result - 1 = omega (arith, c.in-Some.ensures) in
+    rw (c.bit-b.ensures, e) (pop_fits c.args.self.words c.newest-t.result c.newest-t.ensures c.args.i c.requires.holds_below (omega (arith, c.in-Some.ensures))).1
 
-pub bounds-self-q-2 : goal.bounds-self-q-2
-bounds-self-q-2 c = (pop_fits c.args.self.words c.newest-t.result c.newest-t.ensures c.args.i c.requires.holds_below c.if-t-eq0.false).0
+pub returns-in-Some : goal.returns-in-Some
+returns-in-Some c =
+    let e : c.in-Some.id ≡ c.newest-t.result - 1 = omega (arith, c.in-Some.ensures) in
+    (c.newest-t.ensures, rw e (pop_some c.args.self.words c.newest-t.result c.newest-t.ensures c.bit-b.result (omega (arith, c.in-Some.ensures)) (rw e at c.bit-b.ensures)))
 
-pub returns : goal.returns
-returns c = (c.newest-t.ensures, pop_some c.args.self.words c.newest-t.result c.newest-t.ensures c.bit-b.result c.if-t-eq0.false c.bit-b.ensures)
+pub returns-in_default : goal.returns-in_default
+returns-in_default c = (c.newest-t.ensures, (pop_none c.args.self.words c.newest-t.result c.newest-t.ensures (omega (arith, c.in_default.ensures))).1)

@@ -1,0 +1,133 @@
+// Bytes and numbers for a lent part. Bytes that do not fit are dropped.
+ghost use Rattle.std.specs.Prelude.{◌≡◌, [], ◌∷◌, ◌++◌, ◌<◌, get_or};
+ghost use Rattle.listings.specs.Bytes.{decimal};
+ghost use Rattle.listings.specs.WordTable.{words};
+ghost use Rattle.graph.specs.Print.{spaced, printed_refusal};
+ghost use Rattle.layout.specs.Refusals.{number_of};
+ghost use Rattle.formatting.specs.Printing.{Puts};
+ghost use Rattle.formatting.specs.Pages.{Wrote, pair_text};
+
+use layout::refusals::Refusal;
+use tokens::words::{word_length, word_letter};
+
+// A lent part, and where its next byte goes.
+#[derive(Drop)]
+pub struct Page<'a> {
+    bytes: &'a mut [u8],
+    at: usize,
+}
+
+impl<'a> Page<'a> {
+    pub fn new(bytes: &'a mut [u8]) -> Page<'a>
+        ensures same_reference { result.bytes.ghost_name ≡ bytes.entry.ghost_name }
+        ensures blank { (result.bytes.now ≡ bytes.old) × (result.at ≡ 0) }
+    {
+        Page { bytes, at: 0 }
+    }
+
+    // Where the next byte goes: the length of the part where not all of them fitted.
+    pub fn len(&self) -> usize
+        ensures { result ≡ self.now.at }
+    {
+        self.at
+    }
+
+    // A byte that does not fit is dropped.
+    pub fn put_byte(&mut self, b: u8)
+        ensures { Wrote self.old self.new (b ∷ []) }
+    {
+        if self.at < self.bytes.len() {
+            self.bytes[self.at] = b;
+            self.at += 1;
+        }
+    }
+
+    // Bytes one after the other, as many as fit.
+    pub fn put_bytes(&mut self, word: &[u8])
+        ensures { Wrote self.old self.new word.now }
+    {
+        for b in word {
+            self.put_byte(*b);
+        }
+    }
+
+    // Opening word k, nothing where there is no such word.
+    pub fn put_word(&mut self, k: usize)
+        ensures { Wrote self.old self.new (get_or words k []) }
+    {
+        for j in 0..word_length(k) {
+            self.put_byte(word_letter(k, j));
+        }
+    }
+
+    // The digits before the last one are those of a tenth.
+    pub fn put_decimal(&mut self, x: usize)
+        ensures { Wrote self.old self.new (decimal x) }
+    {
+        if x < 10 {
+            return self.put_byte(b'0' + x as u8);
+        }
+        self.put_decimal(x / 10);
+        self.put_byte(b'0' + (x % 10) as u8);
+    }
+
+    // A number with a space before it.
+    pub fn put_number(&mut self, x: usize)
+        ensures { Wrote self.old self.new (32 ∷ decimal x) }
+    {
+        self.put_byte(b' ');
+        self.put_decimal(x);
+    }
+
+    // Each number of a list with a space before it.
+    pub fn put_spaced(&mut self, list: &[u16])
+        ensures { Wrote self.old self.new (spaced list.now) }
+    {
+        for x in list {
+            self.put_number(usize::from(*x));
+        }
+    }
+
+    // A word and two numbers.
+    pub fn put_pair(&mut self, word: &[u8], a: usize, b: usize)
+        ensures { Wrote self.old self.new (word.now ++ spaced (a ∷ b ∷ [])) }
+    {
+        self.put_bytes(word);
+        self.put_number(a);
+        self.put_number(b);
+    }
+
+    // A row of a word and two numbers.
+    pub fn put_pair_row(&mut self, word: &[u8], a: usize, b: usize)
+        ensures { Wrote self.old self.new (pair_text word.now a b) }
+    {
+        self.put_pair(word, a, b);
+        self.put_bytes(b")\n");
+    }
+
+    // "A refusal prints only" its number and place.
+    pub fn put_refusal(&mut self, refusal: Refusal)
+        ensures { Wrote self.old self.new (printed_refusal (number_of refusal.reason) refusal.place) }
+    {
+        let number = usize::from(refusal.reason.number());
+        self.put_pair_row(b"(refused", number, refusal.place);
+    }
+}
+
+// Bytes alone, in a lent part; answers where the next byte would go.
+pub fn print_bytes(out: &mut [u8], bytes: &[u8]) -> usize
+    ensures { Puts out.old 0 out.new result bytes.now }
+{
+    let mut page = Page::new(out);
+    page.put_bytes(bytes);
+    page.len()
+}
+
+// A printed refusal alone, in a lent part; answers where the next byte would go.
+pub fn print_refusal(out: &mut [u8], refusal: Refusal) -> usize
+    ensures { Puts out.old 0 out.new result (printed_refusal (number_of refusal.reason) refusal.place) }
+{
+    let mut page = Page::new(out);
+    page.put_refusal(refusal);
+    page.len()
+}

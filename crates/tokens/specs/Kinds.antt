@@ -1,0 +1,77 @@
+-- The kinds of forms, by the numbers of their opening words. Assumes nothing.
+use Rattle.std.specs.Prelude.{ℕ, zero, suc, ◌<◌, ◌≤◌, ◌≡◌, refl, List, [], ◌∷◌, map, length, get_or, Option, Some, None, Bool, true, false, ltb}
+use Rattle.std.proofs.Common.{arith, not-suc-le-zero, le_of_suc-le-suc}
+use Rattle.std.proofs.Math.Option as M
+use Rattle.std.proofs.Math.Option.{none, some}
+use Rattle.std.proofs.Math.ListN.{get_elem?}
+use borrow.Author.Tests.{lt-ltb, ltb-false}
+use Rattle.listings.specs.Bytes.{pick}
+use Rattle.listings.specs.Rows.{Form, module_form, line_form, to_form, stmts_form, run_form, for_form, next_form, cond_form, bare_form, number_form, numbers_form, opening_words}
+use Rattle.listings.specs.WordTable.{forms, word_index}
+use Rattle.tokens.specs.declared.words.Kind.{Kind}
+use Rattle.tokens.specs.declared.words.Kind.TheVariants as kind
+
+-- the number of the opening word that a text is
+unfoldable pub word_found : List ℕ → Option ℕ
+word_found w = pick (ltb (word_index w) 28) (Some (word_index w)) None
+
+unfoldable pub form_kind : Form → Kind
+form_kind module_form = kind.Module
+form_kind line_form = kind.Line
+form_kind to_form = kind.To
+form_kind stmts_form = kind.Stmts
+form_kind (cond_form x) = kind.Cond
+form_kind (bare_form o) = kind.Bare
+form_kind (number_form x) = kind.Number
+form_kind (numbers_form x) = kind.Numbers
+form_kind run_form = kind.Run
+form_kind for_form = kind.For
+form_kind next_form = kind.Next
+
+abbrev pub kind_found : M.Option Form → Option Kind
+kind_found none = None
+kind_found (some h) = Some (form_kind h)
+
+-- the kind of form that opening word k opens
+unfoldable pub opened_kind : ℕ → Option Kind
+unfolding forms
+opened_kind k = kind_found (get_elem? forms k)
+
+pub found_word : (w : List ℕ) (k : ℕ) → k < 28 → k ≡ word_index w → word_found w ≡ Some k
+unfolding word_found
+found_word w k h e = rw (← e, lt-ltb k 28 h)
+
+pub found_none : (w : List ℕ) → 28 ≡ word_index w → word_found w ≡ None
+unfolding word_found
+found_none w e = rw (← e)
+
+pub opened_row : (hs : List Form) (k : ℕ) (d : Kind) → k < length hs → Some (get_or (map form_kind hs) k d) ≡ kind_found (get_elem? hs k)
+opened_row [] k d h = absurd (not-suc-le-zero h)
+opened_row (h ∷ hs) zero d q = refl
+opened_row (h ∷ hs) (suc k) d q = opened_row hs k d (le_of_suc-le-suc q)
+
+pub opened_none : (hs : List Form) (k : ℕ) → length hs ≤ k → kind_found (get_elem? hs k) ≡ None
+opened_none [] zero h = refl
+opened_none [] (suc k) h = refl
+opened_none (h ∷ hs) zero q = absurd (omega arith)
+opened_none (h ∷ hs) (suc k) q = opened_none hs k (le_of_suc-le-suc q)
+
+pub word_is : (w : List ℕ) (k : ℕ) → Some k ≡ word_found w → k ≡ word_index w
+unfolding word_found
+word_is w k e = go (ltb (word_index w) 28) e
+  where
+    go : (t : Bool) → Some k ≡ pick t (Some (word_index w)) None → k ≡ word_index w
+    go true q = cc
+    go false q = cc
+
+pub no_word_is : (w : List ℕ) → None ≡ word_found w → 28 ≤ word_index w
+unfolding word_found
+no_word_is w e = go (ltb (word_index w) 28) refl e
+  where
+    go : (t : Bool) → ltb (word_index w) 28 ≡ t → None ≡ pick t (Some (word_index w)) None → 28 ≤ word_index w
+    go true q r = absurd (let z : ◌≡◌ {A = ℕ} 0 1 = cc in omega arith)
+    go false q r = ltb-false (word_index w) 28 q
+
+pub opened_past : (k : ℕ) → 28 ≤ k → opened_kind k ≡ None
+unfolding forms opening_words opened_kind
+opened_past k h = opened_none forms k h
