@@ -17,8 +17,8 @@ import sys
 HERE = os.path.dirname(os.path.abspath(__file__))
 HEADER, RUST, WORDS = "include/flowgraph.h", "rust/src/ffi.rs", "rust/src/word.rs"
 LIBRARY = "crates/flowgraph/src"
-CHECK, COMPARE = "crates/flowgraph/src/check.rt", "crates/comparing/src/compare.rt"
-PROGRAM_LINES, PROGRAM_END = "crates/basic/src/lines.rt", "crates/basic/src/judge.rt"
+CHECK = "crates/flowgraph/src/check.rt"
+PROGRAM_LINES = "crates/basic/src/lines.rt"
 DECISIONS, ROOM, SIZES = "docs/DECISIONS.md", "crates/wiring/src/room.rt", "crates/at_limits/src/list.rt"
 COLUMNS, LIMIT_CONSTANTS, OPENING = "crates/layout/src/columns.rt", "crates/layout/src/limits.rt", "crates/tokens/src/words.rt"
 LIMITS = {"MAX_BYTES": "MAX_BYTES", "MAX_LINES": "MAX_LINES", "MAX_STATEMENTS": "MAX_STMTS", "MAX_EDGES": "MAX_EDGES", "MAX_DEPTH": "MAX_DEPTH"}
@@ -28,8 +28,7 @@ PER = {"lines": "MAX_LINES", "entries": "MAX_LINES", "succ": "MAX_EDGES", "pred"
 C_TYPES = {"u8": "uint8_t", "u16": "uint16_t", "u32": "uint32_t", "u64": "uint64_t", "usize": "size_t", "bool": "bool"}
 CRATES = ["tokens", "basic", "reader", "walks", "wiring", "adjacency", "statements", "frame_slices", "frame_lists", "comparing"]
 
-# How the sources give a refusal's number; 0 is none.
-GIVEN = [r"\bnumber: (\d+)\b", r"\b[Rr]efused\((\d+)[,)]", r"\brefuse_graph\(\s*(\d+)\b", r"\bsooner\([^;]*, (\d+), \w+\);"]
+REASONS = "crates/layout/src/refusals.rt"
 
 
 class Files:
@@ -141,10 +140,10 @@ def value(files, name):
 def entries_by_room(files):
     """Entries for each line or statement, as the wiring divides by them; an edge table has one for each edge."""
     found = {"succ": 1, "pred": 1}
-    for pair in re.findall(r"\bleast\(([^()]*)\)", files[ROOM]):
-        for table, by in re.findall(r"\b([a-z]+)(?: / (\w+))?(?:,|$)", pair):
+    for row in re.findall(r"^.*\.min\(.*$", files[ROOM], flags=re.M):
+        for table, by in re.findall(r"\b([a-z]+)(?: / (\w+))?", row):
             if table in TABLES:
-                found[table] = 1 if not by else int(by) if by.isdigit() else constant(files[COLUMNS], by)
+                found[table] = constant(files[COLUMNS], by) if by else 1
     return found
 
 
@@ -163,21 +162,18 @@ def page_size(files):
 
 
 def opening_words(files):
-    table = re.search(r"const WORDS: .*? = \[(.*?)\];", files[OPENING], flags=re.S)[1]
-    lengths = re.search(r"const LENGTHS: .*? = \[(.*?)\];", files[OPENING], flags=re.S)[1]
-    rows = [[int(n) for n in row.split(",")] for row in re.findall(r"\[([\d, ]+)\]", table)]
-    return [bytes(row[:int(n)]).decode() for row, n in zip(rows, re.findall(r"\d+", lengths), strict=True)]
+    table = re.search(r"static WORDS: .*? = \[(.*?)\];", files[OPENING], flags=re.S)[1]
+    return re.findall(r'b"(\w+)"', table)
 
 
 def given_refusals(files):
-    """The numbers that the sources give."""
-    found = set()
+    """The numbers of the reasons that the sources give."""
+    numbers = {name: int(n) for name, n in re.findall(r"\bReason::(\w+) => (\d+),", files[REASONS])}
+    given = set()
     for crate in CRATES:
         for _, text in files.sources(f"crates/{crate}/src"):
-            text = re.sub(r"//.*", "", text)
-            for pattern in GIVEN:
-                found.update(int(n) for n in re.findall(pattern, text))
-    return found - {0}
+            given.update(re.findall(r"\bReason::(\w+)", re.sub(r"//.*", "", text)))
+    return {numbers[name] for name in given}
 
 
 def due_constants(files):
@@ -304,15 +300,15 @@ DAMAGE = [
     (RUST, r"page: \*mut \[u8; 1048576\]", "page: *mut [u8; 1048575]"),
     (CHECK, r"page: &mut \[u8; 1048576\]", "page: &mut [u8; 1048577]"),
     (CHECK, r"    graph: &\[u8\],\n", ""),
-    (COMPARE, r"\bnumber: 32,", "number: 36,"),
-    (PROGRAM_END, r"\bnumber: 33,", "number: 36,"),
-    (PROGRAM_LINES, r"sooner\(f, 34, o\)", "sooner(f, 36, o)"),
+    (REASONS, r"Reason::WrongRow => 32,", "Reason::WrongRow => 36,"),
+    (REASONS, r"Reason::EndsEarly => 33,", "Reason::EndsEarly => 36,"),
+    (PROGRAM_LINES, r"Reason::ForeignByte\.", "Reason::Lacking."),
     (WORDS, r'    For "for",\n    Next "next",', '    Next "next",\n    For "for",'),
     (ROOM, r"falls / FALL_ENTRIES", "falls / LIST_ENTRIES"),
     (SIZES, r"\[0u16; FALLS_LENGTH\]", "[0u16; LISTS_LENGTH]"),
     (SIZES, r"out: &mut \[u8; 1048576\]", "out: &mut [u8; 1048577]"),
     (DECISIONS, r"\| `lists` \| 4 a", "| `lists` | 5 a"),
-    (OPENING, r"\[105, 102, 0,", "[105, 103, 0,"),
+    (OPENING, r'b"if", b"ifelse"', 'b"ig", b"ifelse"'),
     (COLUMNS, r"const INDEX: usize = 3", "const INDEX: usize = 4"),
     (COLUMNS, r"const ENTRY_NODE: usize = 1", "const ENTRY_NODE: usize = 0"),
     (COLUMNS, r"const ENTRY_ENTRIES: usize = 2", "const ENTRY_ENTRIES: usize = 3"),
