@@ -4,10 +4,12 @@
 usage: forms.py [ROOT]            one row for each point: how many places, and how many of them have a reason beside them
        forms.py [ROOT] POINT..    each place of these points, with file and line (POINT: 1a, 1b, .. 7b)
 
-A place is kept where the comment above its item, or above its line, holds the word `Kept:`, which a reason follows.
+A place is kept where the comment above its item, or above its line, holds the word `Kept:`, which a reason follows; for constants the comment at the head
+of their file says it for all, and for calls of a conversion the comment above the conversion.
 What this cannot see (a fact that many contracts say, twins in shape only) docs/DESIGN-PASS.md counts by hand.
 """
 
+import itertools
 import os
 import re
 import sys
@@ -39,9 +41,9 @@ CAST = re.compile(r"\{\s*(?:\(?\w+(?:[.+ \w]*)\)?) as \w+\s*\}\s*$")
 class Item:
     """A function, type or constant of one file, with the line that it begins at and the comment above it."""
 
-    def __init__(self, path, line, kind, name, text, comment):
+    def __init__(self, path, line, kind, name, text, comment, head):
         self.path, self.line, self.kind, self.name, self.text, self.comment = path, line, kind, name, text, comment
-        self.kept = "Kept:" in comment
+        self.kept = "Kept:" in comment or kind == "const" and "Kept:" in head
 
     def where(self, line=None):
         return f"{self.path}:{self.line if line is None else line} {self.name}"
@@ -50,6 +52,7 @@ class Item:
 def items_of(root, path):
     lines = open(os.path.join(root, path), encoding="utf-8").read().split("\n")
     found, i, comment = [], 0, []
+    head = "\n".join(itertools.takewhile(lambda row: row.startswith("//"), lines))
     while i < len(lines):
         row = lines[i]
         if row.strip().startswith("//"):
@@ -70,7 +73,7 @@ def items_of(root, path):
                 i += 1
                 comment = []
                 continue
-            found.append(Item(path, i + 1, m[1], m[2], "\n".join(lines[i:end + 1]), "\n".join(comment)))
+            found.append(Item(path, i + 1, m[1], m[2], "\n".join(lines[i:end + 1]), "\n".join(comment), head))
             i, comment = end, []
         elif not row.strip().startswith("#["):
             comment = []
@@ -101,7 +104,7 @@ def places(root):
         src = os.path.join("crates", folder, "src")
         for name in sorted(os.listdir(os.path.join(root, src))):
             items += items_of(root, os.path.join(src, name))
-    casts = {i.name for i in items if i.kind == "fn" and CAST.search(body(i.text))}
+    casts = {i.name: i.kept for i in items if i.kind == "fn" and CAST.search(body(i.text))}
     shapes = defaultdict(list)
 
     def put(point, item, line=None, kept=False):
@@ -125,23 +128,23 @@ def places(root):
         if CAST.search(code):
             put("4a", item)
         else:
-            for name in casts:
+            for name, kept in casts.items():
                 for m in re.finditer(r"(?<![\w.:])" + name + r"\(", code):
-                    put("4b", item)
+                    put("4b", item, kept=kept)
         for m in re.finditer(r"(\w+)::(\w+) \{ ([\w, ]+) \} => (?:return )?(\w+)::(\w+) \{ \3 \}", code):
             if m[2] == m[5]:
                 put("4c", item)
         head = text.split("\n{")[0]
         if len({n for n in re.findall(r"(\w+): &", head)} & TABLES) >= 4 and "extern" not in head:
             put("5", item)
-        if re.search(r"out: &mut \[u8\],\s+at: usize", head):
+        if re.search(r"(?:out|part): &mut \[u8\],\s+at: usize", head):
             put("6a", item)
         if re.search(r"if (\w+) == 0 \{\s+return\b[^}]*\}[^}]*?(\1\)?) - 1", code, re.S):
             put("6c", item)
         for value in set(re.findall(r"if (\w+(?:\.\w+)?) == [\w:]+ \{", code)):
             if len(re.findall(r"if " + re.escape(value) + r" == [\w:]+ \{\s+return\b", code)) >= 3:
                 put("7a", item)
-        if re.search(r"\b(program|names|slots): bool", head):
+        if re.search(r"\b(program|names|slots|nexts|closed|second|handlers|found): bool", head):
             put("7b", item)
         for m in re.finditer(r"^( *)while [^\n{]*\{\n(.*?)^\1\}", text, re.S | re.M):
             if re.search(r"\b(\w+) [+-]= 1;", m[2]):

@@ -24,6 +24,7 @@ fn first_entry(entries: &[u16], n: usize, number: u16) -> u16
 }
 
 // The node where a jump to the line with that number starts, or none; refused 25 if the rows, or the entry itself, point outside.
+// Kept: `count_of`, since std has no conversion from `u32` to `usize` that cannot fail.
 pub fn ask_entry(counts: &[u32; 6], entries: &[u16], number: u16) -> Result<Option<usize>, Refusal>
     ensures { told_by node_of result ≡ entry_at counts.now entries.now number }
 {

@@ -8,6 +8,7 @@ use layout::refusals::{Reason, Refusal};
 use layout::widths::count_of;
 
 // Start and length of the list whose start stands in this column of the node's record, and whose length stands in the next.
+// Kept: `count_of`, since std has no conversion from `u32` to `usize` that cannot fail.
 fn ask_list(
     counts: &[u32; 6],
     lists: &[u16],
@@ -34,6 +35,7 @@ fn ask_list(
 }
 
 // Where a node's successors stand in the edge table, start and length, or the refusal.
+// Kept: two public names, each thin over one function.
 pub fn ask_successors(
     counts: &[u32; 6],
     lists: &[u16],
@@ -46,6 +48,7 @@ pub fn ask_successors(
 }
 
 // The same of its predecessors, whose columns come after.
+// Kept: two public names, each thin over one function.
 pub fn ask_predecessors(
     counts: &[u32; 6],
     lists: &[u16],
@@ -75,6 +78,7 @@ fn list_part<'a>(
 }
 
 // The successors themselves, as they stand in the caller's table.
+// Kept: two public names, each thin over one function.
 pub fn successors<'a>(counts: &[u32; 6], lists: &[u16], succ: &'a [u16], node: usize) -> &'a [u16]
     ensures { result.now ≡ part_of (successors_at counts.now lists.now (length succ.now) node) succ.now }
 {
@@ -82,6 +86,7 @@ pub fn successors<'a>(counts: &[u32; 6], lists: &[u16], succ: &'a [u16], node: u
 }
 
 // The predecessors, whose columns come after.
+// Kept: two public names, each thin over one function.
 pub fn predecessors<'a>(counts: &[u32; 6], lists: &[u16], pred: &'a [u16], node: usize) -> &'a [u16]
     ensures { result.now ≡ part_of (predecessors_at counts.now lists.now (length pred.now) node) pred.now }
 {

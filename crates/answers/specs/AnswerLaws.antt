@@ -1,6 +1,5 @@
 -- From a question's words to its answer, as the code goes. Assumes nothing.
 use Rattle.std.specs.Prelude.{ℕ, ◌-◌, ◌≤◌, ◌<◌, ◌≡◌, refl, List, [], ◌∷◌, ◌++◌, map, Result, Ok, Err, Bool, true, false, leb, length, get_or, take, drop, replicate}
-use Rattle.std.specs.Result.{result_and}
 use Rattle.std.proofs.Common.{sym, ap, ◌∙◌, subst, arith, not-suc-le-zero, length-drop, length-append, take_at}
 use Rattle.std.proofs.lemmas.List.{length-map}
 use borrow.Author.Tests.{le-leb, lt-leb}
@@ -15,7 +14,8 @@ use Rattle.layout.specs.declared.refusals.Reason.TheVariants as reason
 use Rattle.layout.specs.declared.refusals.Refusal.{Refusal}
 use Rattle.layout.specs.Refusals.{number_of, refusal_at}
 use Rattle.tokens.specs.Numbers.{as_number}
-use Rattle.tokens.specs.Arguments.{Verdict, verdict, verdict_number, refusal_by, lowest, lowest_of, refusal_with, numbers_refusal}
+use Rattle.tokens.specs.declared.arguments.Checked.{Checked}
+use Rattle.tokens.specs.Arguments.{Verdict, checked, verdict, verdict_number, refusal_by, lowest, lowest_of, refusal_with, numbers_refusal}
 use Rattle.reader.specs.Operands.{number_entry, entry_by}
 use Rattle.graph.specs.Print.{printed_refusal}
 use Rattle.formatting.specs.Pages.{Wrote, wrote_is}
@@ -74,14 +74,6 @@ read_ok : {A : Type 0} (p : Parse A) (u : Unit {0}) → verdict p ≡ Ok u → (
 read_ok malformed u h = absurd (let z : ◌≡◌ {A = ℕ} 0 1 = cc in omega arith)
 read_ok invalid u h = absurd (let z : ◌≡◌ {A = ℕ} 0 1 = cc in omega arith)
 read_ok (parsed a) u h = (a, refl)
-
-counted_err : (v : Verdict) (n : ℕ) (r : Reason) → result_and v (Ok n) ≡ Err r → v ≡ Err r
-counted_err (Ok u) n r h = cc
-counted_err (Err s) n r h = let z : s ≡ r = cc in ap Err z
-
-counted_ok : (v : Verdict) (n m : ℕ) → result_and v (Ok n) ≡ Ok m → (v ≡ Ok tt) × (m ≡ n)
-counted_ok (Ok u) n m h = let z : n ≡ m = cc in (refl, sym z)
-counted_ok (Err s) n m h = absurd (let z : ◌≡◌ {A = ℕ} 0 1 = cc in omega arith)
 
 with_parsed : {A B C : Type 0} (f : A → B → C) (p : Parse A) (q : Parse B) (r : C) → with_parse f p q ≡ parsed r → (a : A) × (b : B) × (p ≡ parsed a) × (q ≡ parsed b) × (r ≡ f a b)
 unfolding with_parse
@@ -147,32 +139,35 @@ module _ (f : Question → List ℕ) (k : ℕ) where
       go false = refl
 
   -- the words of a path, as they were judged
-  module _ (s : List ℕ) (x : Result ℕ Reason) (e : x ≡ result_and (lowest_of (refusal_by false) (split 32 s)) (Ok (length (split 32 s)))) where
+  module _ (s : List ℕ) (x : Checked) (e : x ≡ checked (length (split 32 s)) (lowest_of (refusal_by false) (split 32 s))) where
     abbrev ws : List (List ℕ)
     ws = split 32 s
 
     abbrev ns : List ℕ
     ns = map (entry_by false) (split 32 s)
 
-    pub path_refused : (r : Reason) → x ≡ Err r → printed_refusal (number_of r) k ≡ outcome_row f k (or_refused (path_question (split 32 s)) short)
-    path_refused r h = refused_by (path_question ws) r (path_verdict ws (split-some 32 s) ∙ counted_err (lowest_of (refusal_by false) ws) (length ws) r (sym e ∙ h))
+    verdict_is : x.verdict ≡ lowest_of (refusal_by false) ws
+    verdict_is = ap (λ (c : Checked). c.verdict) e
 
-    module _ (n : ℕ) (h : x ≡ Ok n) where
-      pub count_is : n ≡ length (split 32 s)
-      count_is = (counted_ok (lowest_of (refusal_by false) ws) (length ws) n (sym e ∙ h)).1
+    pub path_refused : (r : Reason) → x.verdict ≡ Err r → printed_refusal (number_of r) k ≡ outcome_row f k (or_refused (path_question (split 32 s)) short)
+    path_refused r h = refused_by (path_question ws) r (path_verdict ws (split-some 32 s) ∙ sym verdict_is ∙ h)
 
+    pub count_is : x.count ≡ length (split 32 s)
+    count_is = ap (λ (c : Checked). c.count) e
+
+    module _ (h : x.verdict ≡ Ok tt) where
       parsed_is : path_question ws ≡ parsed (of_path (get_or ns 0 0) (drop 1 ns))
       parsed_is =
-          let d = read_ok (path_question ws) tt (path_verdict ws (split-some 32 s) ∙ (counted_ok (lowest_of (refusal_by false) ws) (length ws) n (sym e ∙ h)).0) in
+          let d = read_ok (path_question ws) tt (path_verdict ws (split-some 32 s) ∙ sym verdict_is ∙ h) in
           d.1 ∙ ap parsed (path_is ws d.0 d.1)
 
-      long : length (drop 1 ns) ≡ n - 1
+      long : length (drop 1 ns) ≡ x.count - 1
       long = length-drop 1 ns ∙ omega (arith, length-map ws (entry_by false), count_is)
 
-      pub path_8 : 65 < n → printed_refusal 8 k ≡ outcome_row f k (or_refused (path_question (split 32 s)) short)
+      pub path_8 : 65 < x.count → printed_refusal 8 k ≡ outcome_row f k (or_refused (path_question (split 32 s)) short)
       path_8 m = sym (asked_path (path_question ws) (get_or ns 0 0) (drop 1 ns) parsed_is ∙ ap (λ (t : Bool). pick t (f (of_path (get_or ns 0 0) (drop 1 ns))) (printed_refusal 8 k)) (lt-leb (length (drop 1 ns)) 64 (omega (arith, long))))
 
-      pub path_answered : n ≤ 65 → f (of_path (get_or (map (entry_by false) (split 32 s)) 0 0) (drop 1 (map (entry_by false) (split 32 s)))) ≡ outcome_row f k (or_refused (path_question (split 32 s)) short)
+      pub path_answered : x.count ≤ 65 → f (of_path (get_or (map (entry_by false) (split 32 s)) 0 0) (drop 1 (map (entry_by false) (split 32 s)))) ≡ outcome_row f k (or_refused (path_question (split 32 s)) short)
       path_answered m = sym (asked_path (path_question ws) (get_or ns 0 0) (drop 1 ns) parsed_is ∙ ap (λ (t : Bool). pick t (f (of_path (get_or ns 0 0) (drop 1 ns))) (printed_refusal 8 k)) (le-leb (length (drop 1 ns)) 64 (omega (arith, long))))
 
 -- a frame question's answer; x, y: header and node as they are handed on

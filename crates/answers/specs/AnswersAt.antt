@@ -15,6 +15,7 @@ use Rattle.frame_lists.specs.FrameAt.{frame_at}
 use Rattle.layout.specs.declared.refusals.Refusal.{Refusal}
 use Rattle.layout.specs.Refusals.{number_of}
 use Rattle.tables.specs.Told.{told, told_by}
+use Rattle.tables.specs.declared.graphs.Graph.{Graph}
 use Rattle.answers.specs.declared.words.Form.{Form}
 use Rattle.answers.specs.declared.words.Form.TheVariants as form
 use Rattle.answers.specs.Flowask.{Question, of_successors, of_predecessors, of_statement, of_entry, of_path, of_frame, list_row, stmt_row, reply_row}
@@ -50,6 +51,10 @@ answer_at c t a e f i u p (of_statement n) = statement_answer c t n
 answer_at c t a e f i u p (of_entry n) = entry_answer c e n
 answer_at c t a e f i u p (of_path j ns) = path_answer c t j ns
 answer_at c t a e f i u p (of_frame h n v flag) = frame_answer c t a f i u h n v flag
+
+-- by a graph's tables
+abbrev pub answer_of : Graph → Question → List ℕ
+answer_of g = answer_at g.counts.now g.stmts.now g.args.now g.entries.now g.falls.now g.lists.now g.succ.now g.pred.now
 
 -- the question of one number, by the opening word, and its answer; a path's and a frame's are not asked so
 abbrev pub number_question : Form → ℕ → Question

@@ -4,14 +4,16 @@ ghost use Rattle.listings.specs.Rows.{split};
 ghost use Rattle.formatting.specs.Printing.{Puts};
 ghost use Rattle.formatting.specs.Pages.{Wrote};
 ghost use Rattle.answers.specs.Flowask.{answer_rows, parts};
-ghost use Rattle.answers.specs.AnswersAt.{answer_at};
+ghost use Rattle.answers.specs.AnswersAt.{answer_of};
 
 use crate::answers::answer_row;
 use formatting::page::Page;
 use layout::refusals::Reason;
+use tables::graphs::Graph;
 use tokens::scan::{equal, find};
 
 // "What stands before the first row that is exactly `(questions` is the listing": how many bytes that are, all of them where there is no such row.
+// Kept: `loop`, since where a row stands is what is asked, and what no byte 10 ends is no row: pieces of `split` would need both told beside them.
 pub fn listing_length(text: &[u8]) -> usize
     ensures { result ≡ length (parts (split 10 text.now)).0 }
 {
@@ -30,19 +32,9 @@ pub fn listing_length(text: &[u8]) -> usize
 }
 
 // Rows of questions, as far as the `)` that closes them.
-fn put_rows(
-    page: &mut Page<'_>,
-    text: &[u8],
-    counts: &[u32; 6],
-    stmts: &[u16],
-    args: &[u64],
-    entries: &[u16],
-    falls: &[u16],
-    lists: &[u16],
-    succ: &[u16],
-    pred: &[u16],
-)
-    ensures { Wrote page.old page.new (answer_rows (answer_at counts.now stmts.now args.now entries.now falls.now lists.now succ.now pred.now) 0 (split 10 text.now)) }
+// Kept: `loop`, as `listing_length`: what stands behind a row, or that nothing does, decides.
+fn put_rows(page: &mut Page<'_>, text: &[u8], g: &Graph<'_>)
+    ensures { Wrote page.old page.new (answer_rows (answer_of g.now) 0 (split 10 text.now)) }
 {
     let mut k: usize = 0;
     let mut at: usize = 0;
@@ -59,32 +51,17 @@ fn put_rows(
             }
             return page.put_refusal(Reason::NotAForm.at(k + 1));
         }
-        answer_row(
-            page, k, row, counts, stmts, args, entries, falls, lists, succ, pred,
-        );
+        answer_row(page, g, k, row);
         k += 1;
         at = to + 1;
     }
 }
 
 // The same into a lent part; answers where the next byte would go.
-pub fn answer_rows(
-    out: &mut [u8],
-    text: &[u8],
-    counts: &[u32; 6],
-    stmts: &[u16],
-    args: &[u64],
-    entries: &[u16],
-    falls: &[u16],
-    lists: &[u16],
-    succ: &[u16],
-    pred: &[u16],
-) -> usize
-    ensures { Puts out.old 0 out.new result (answer_rows (answer_at counts.now stmts.now args.now entries.now falls.now lists.now succ.now pred.now) 0 (split 10 text.now)) }
+pub fn answer_rows(out: &mut [u8], text: &[u8], g: &Graph<'_>) -> usize
+    ensures { Puts out.old 0 out.new result (answer_rows (answer_of g.now) 0 (split 10 text.now)) }
 {
     let mut page = Page::new(out);
-    put_rows(
-        &mut page, text, counts, stmts, args, entries, falls, lists, succ, pred,
-    );
+    put_rows(&mut page, text, g);
     page.len()
 }

@@ -1,50 +1,30 @@
 // A text with a listing and questions: the listing's graph built in the lent tables, and the questions answered.
 ghost use Rattle.passes.specs.TableForms.{sizes_of};
-ghost use Rattle.answers.specs.AnswersAt.{answer_at};
+ghost use Rattle.answers.specs.AnswersAt.{answer_of};
 ghost use Rattle.answers.specs.TextLaws.{CutAt};
 ghost use Rattle.asking.specs.Asked.{QuestionsAnswered, TextAsked};
 
 use answers::text::{answer_rows, listing_length};
 use formatting::page::print_refusal;
+use tables::graphs::Graph;
 use wiring::build::build;
 
 // The questions behind the first n bytes, if there are any.
-fn answer_questions(
-    out: &mut [u8],
-    text: &[u8],
-    n: usize,
-    counts: &[u32; 6],
-    stmts: &[u16],
-    args: &[u64],
-    entries: &[u16],
-    falls: &[u16],
-    lists: &[u16],
-    succ: &[u16],
-    pred: &[u16],
-) -> usize
+fn answer_questions(out: &mut [u8], text: &[u8], n: usize, g: &Graph<'_>) -> usize
     requires { CutAt text.now n }
-    ensures { QuestionsAnswered text.now (answer_at counts.now stmts.now args.now entries.now falls.now lists.now succ.now pred.now) out.old out.new result }
+    ensures { QuestionsAnswered text.now (answer_of g.now) out.old out.new result }
 {
     if n == text.len() {
         return 0;
     }
     // past the row `(questions` and its byte 10
     let from = n + 11;
-    answer_rows(
-        out,
-        &text[from..],
-        counts,
-        stmts,
-        args,
-        entries,
-        falls,
-        lists,
-        succ,
-        pred,
-    )
+    answer_rows(out, &text[from..], g)
 }
 
-// Builds the graph of a text's listing in the lent tables and answers its questions, or gives the listing's refusal; answers where the next byte would go (the length of `out` if it did not fit).
+// Builds the graph of a text's listing in the lent tables and answers its questions, or gives the listing's refusal; answers where the next byte would go (the length of `out` if it did not fit). Inlined, so that a program that makes the tables as zeros does not zero them twice.
+// Kept: the C interface lends the tables one by one.
+#[inline(always)]
 pub fn ask_text(
     text: &[u8],
     counts: &mut [u32; 6],
@@ -79,8 +59,20 @@ pub fn ask_text(
     );
     match built {
         Err(refusal) => print_refusal(out, refusal),
-        Ok(()) => answer_questions(
-            out, text, n, counts, stmts, args, entries, falls, lists, succ, pred,
-        ),
+        Ok(()) => {
+            let graph = Graph {
+                counts,
+                lines,
+                stmts,
+                args,
+                entries,
+                falls,
+                lists,
+                returns,
+                succ,
+                pred,
+            };
+            answer_questions(out, text, n, &graph)
+        }
     }
 }

@@ -1,16 +1,18 @@
 // An input to its graph or refusal, for programs: the tables are lent here, once for all of them.
 ghost use Rattle.wiring.specs.BuiltAnswer.{built_told};
 ghost use Rattle.printing.specs.Limits.{InputWhole, ListedWhole};
+ghost use Rattle.reader.specs.Inputs.{is_program, bytes_of};
 
 use layout::limits::{
     ARGS_LENGTH, ENTRIES_LENGTH, FALLS_LENGTH, LINKS_LENGTH, LISTS_LENGTH, MAX_EDGES, MAX_LINES,
     MAX_STMTS, STMTS_LENGTH,
 };
 use printing::list::Printed;
+use reader::listing::Input;
 
 // With tables that suffice at all limits, and room for the longest graph.
-pub fn list_input(program: bool, input: &[u8], out: &mut [u8; 1048576]) -> Printed
-    ensures { InputWhole program input.now out.old out.new (built_told result.built) result.len }
+pub fn list_input(input: Input<'_>, out: &mut [u8; 1048576]) -> Printed
+    ensures { InputWhole (is_program input.entry) (bytes_of input.entry) out.old out.new (built_told result.built) result.len }
 {
     let mut counts = [0u32; 6];
     let mut lines = [0u16; MAX_LINES];
@@ -24,7 +26,6 @@ pub fn list_input(program: bool, input: &[u8], out: &mut [u8; 1048576]) -> Print
     let mut succ = [0u16; MAX_EDGES];
     let mut pred = [0u16; MAX_EDGES];
     printing::list::list_input(
-        program,
         input,
         &mut counts,
         &mut lines,
@@ -45,5 +46,5 @@ pub fn list_input(program: bool, input: &[u8], out: &mut [u8; 1048576]) -> Print
 pub fn list_text(text: &[u8], out: &mut [u8; 1048576]) -> Printed
     ensures { ListedWhole text.now out.old out.new (built_told result.built) result.len }
 {
-    list_input(false, text, out)
+    list_input(Input::Text(text), out)
 }

@@ -10,7 +10,7 @@ use Rattle.listings.specs.ListingText.{last_number}
 use Rattle.listings.specs.Read.{Outcome, Answer, check, ascends, taken, refused, refusal}
 use Rattle.listings.specs.Scan.{index_of, rest_all}
 use Rattle.program_files.specs.Program.{Offence, Body, body, bad, join_go, body_of, shallow, short, lacking, sooner, soonest, offences, with_line, stmts_in, judged, lines_from}
-use Rattle.basic.specs.Lines.{after_number, word_at, bytes_at, stmts_at, zero_at, offence_of, offence_in, IsLeast, WithTold, Kept, LineTold}
+use Rattle.basic.specs.Lines.{maybe, word_at, bytes_at, stmts_at, zero_at, offence_of, offence_in, IsLeast, WithTold, Kept, LineTold}
 use Rattle.basic.specs.Bodies.{summary}
 use Rattle.basic.specs.Fuel.{body_more}
 use Rattle.basic.specs.Cursors.{join-length}
@@ -24,64 +24,52 @@ use Rattle.layout.specs.declared.refusals.Refusal.{Refusal}
 
 -- ---- behind other lines
 
-ascends-not : (o : Option ℕ) (n : ℕ) → n < after_number o → ascends n o ≡ false
-unfolding ascends
-ascends-not none n h = absurd (omega arith)
-ascends-not (some m) n h = le-ltb m n (omega arith)
-
-ascends_yes : (o : Option ℕ) (n : ℕ) → after_number o ≤ n → ascends n o ≡ true
-unfolding ascends
-ascends_yes none n h = refl
-ascends_yes (some m) n h = lt-ltb m n (omega arith)
-
 module _ (s : Counted) (n : ℕ) (st : Stmts) where
-  pub told_4 : n < s.last → WithTold s n st (Err (refusal_at reason.LineOrder s.lines))
-  unfolding with_line check
-  told_4 h ls a = let e = a.last in (rw (ascends-not (last_number ls) n (omega arith)) refl, a.lines)
+  above : (ls : Lines) → maybe s.last ≡ last_number ls → ascends n (last_number ls) ≡ ascends n (maybe s.last)
+  above ls e = ap (ascends n) (sym e)
 
-  module _ (up : s.last ≤ n) where
+  pub told_4 : ascends n (maybe s.last) ≡ false → WithTold s n st (Err (refusal_at reason.LineOrder s.lines))
+  unfolding with_line check
+  told_4 h ls a = (rw (above ls a.last ∙ h) refl, a.lines)
+
+  module _ (up : ascends n (maybe s.last) ≡ true) where
     pub told_5 : 1024 ≤ s.lines → WithTold s n st (Err (refusal_at reason.TooManyLines s.lines))
     unfolding with_line check
     told_5 h ls a =
-        let e = a.last in
         let f = a.lines in
-        (rw (ascends_yes (last_number ls) n (omega arith), le-ltb (count ls) 1024 (omega arith)) refl, f)
+        (rw (above ls a.last ∙ up, le-ltb (count ls) 1024 (omega arith)) refl, f)
 
     module _ (few : s.lines < 1024) where
       pub told_6 : 4096 < s.stmts + size st → WithTold s n st (Err (refusal_at reason.TooManyStatements s.lines))
       unfolding with_line check
       told_6 h ls a =
-          let e = a.last in
           let f = a.lines in
           let g = a.stmts in
-          (rw (ascends_yes (last_number ls) n (omega arith), lt-ltb (count ls) 1024 (omega arith), lt-leb (total ls + size st) 4096 (omega arith)) refl, f)
+          (rw (above ls a.last ∙ up, lt-ltb (count ls) 1024 (omega arith), lt-leb (total ls + size st) 4096 (omega arith)) refl, f)
 
       module _ (little : s.stmts + size st ≤ 4096) where
         pub told_7 : shallow 0 st ≡ false → WithTold s n st (Err (refusal_at reason.TooDeep s.lines))
         unfolding with_line check
         told_7 h ls a =
-            let e = a.last in
             let f = a.lines in
             let g = a.stmts in
-            (rw (ascends_yes (last_number ls) n (omega arith), lt-ltb (count ls) 1024 (omega arith), le-leb (total ls + size st) 4096 (omega arith), h) refl, f)
+            (rw (above ls a.last ∙ up, lt-ltb (count ls) 1024 (omega arith), le-leb (total ls + size st) 4096 (omega arith), h) refl, f)
 
         module _ (flat : shallow 0 st ≡ true) where
           pub told_8 : short st ≡ false → WithTold s n st (Err (refusal_at reason.TooWide s.lines))
           unfolding with_line check
           told_8 h ls a =
-              let e = a.last in
               let f = a.lines in
               let g = a.stmts in
-              (rw (ascends_yes (last_number ls) n (omega arith), lt-ltb (count ls) 1024 (omega arith), le-leb (total ls + size st) 4096 (omega arith), flat, h) refl, f)
+              (rw (above ls a.last ∙ up, lt-ltb (count ls) 1024 (omega arith), le-leb (total ls + size st) 4096 (omega arith), flat, h) refl, f)
 
-          pub told-taken : (next : ℕ) → short st ≡ true → WithTold s n st (Ok (record { counted = record { last = n + 1; lines = s.lines + 1; stmts = s.stmts + size st }; next = next }))
+          pub told-taken : (next : ℕ) → short st ≡ true → WithTold s n st (Ok (record { counted = record { last = Some n; lines = s.lines + 1; stmts = s.stmts + size st }; next = next }))
           unfolding with_line check last_number count total
           told-taken next h ls a =
-              let e = a.last in
               let f = a.lines in
               let g = a.stmts in (
-                rw (ascends_yes (last_number ls) n (omega arith), lt-ltb (count ls) 1024 (omega arith), le-leb (total ls + size st) 4096 (omega arith), flat, h) refl,
-                record { last = add-one n; lines = omega arith; stmts = omega arith },
+                rw (above ls a.last ∙ up, lt-ltb (count ls) 1024 (omega arith), le-leb (total ls + size st) 4096 (omega arith), flat, h) refl,
+                record { last = refl; lines = omega arith; stmts = omega arith },
               )
 
 -- ---- a line of the file

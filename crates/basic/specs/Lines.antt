@@ -33,14 +33,14 @@ abbrev pub offence_in : std.Option Refusal → Option definition.Offence
 offence_in None = none
 offence_in (Some r) = some (offence_of r)
 
--- one more than the last number, or 0
-abbrev pub after_number : Option ℕ → ℕ
-after_number none = 0
-after_number (some n) = suc n
+-- the definition's option
+abbrev pub maybe : std.Option ℕ → Option ℕ
+maybe None = none
+maybe (Some n) = some n
 
 -- what is counted of the lines before
 pub record IsAfter (ls : Lines) (s : Counted) : Type 0 where
-  pub last : s.last ≡ after_number (last_number ls)
+  pub last : maybe s.last ≡ last_number ls
   pub lines : s.lines ≡ count ls
   pub stmts : s.stmts ≡ total ls
 

@@ -1,5 +1,5 @@
 -- The lines of a file, one after the other. Assumes nothing.
-use Rattle.std.specs.Prelude.{ℕ, zero, suc, ◌+◌, ◌*◌, ◌≤◌, ◌<◌, ◌≡◌, refl, List, [], ◌∷◌, length, get_or, drop, Ok, Err}
+use Rattle.std.specs.Prelude.{ℕ, zero, suc, ◌+◌, ◌*◌, ◌≤◌, ◌<◌, ◌≡◌, refl, List, [], ◌∷◌, length, get_or, drop, None, Ok, Err}
 use Rattle.std.proofs.Common.{arith, sym, ap, ◌∙◌, length-drop, get_or-drop}
 use borrow.Author.Tests.{le-leb, lt-leb}
 use Rattle.listings.specs.Listing.{Lines, nolines, total, count}
@@ -10,7 +10,7 @@ use Rattle.program_files.specs.Program.{program, lines_from, loaded, read_progra
 use Rattle.basic.specs.Judge as judged
 use Rattle.basic.specs.Judge.{judged_of}
 use Rattle.basic.specs.LineLaws.{linked, unlinked}
-use Rattle.basic.specs.Lines.{word_at, zero_at, IsAfter, LineTold}
+use Rattle.basic.specs.Lines.{maybe, word_at, zero_at, IsAfter, LineTold}
 use Rattle.basic.specs.declared.lines.Counted.{Counted}
 use Rattle.basic.specs.declared.lines.Taken.{Taken}
 use Rattle.layout.specs.Refusals.{number_of}
@@ -74,11 +74,11 @@ pub record Follows (f : List ℕ) (s : Counted) (at : ℕ) : Type 0 where
   pub enough : length (drop at f) ≤ fuel
   pub rest : lines_from fuel (length f) lines at (drop at f) ≡ read_program f
 
-pub follows_start : (f : List ℕ) (s : Counted) → length f ≤ 65536 → s.last ≡ 0 → s.lines ≡ 0 → s.stmts ≡ 0 → Follows f s 2
+pub follows_start : (f : List ℕ) (s : Counted) → length f ≤ 65536 → s.last ≡ None → s.lines ≡ 0 → s.stmts ≡ 0 → Follows f s 2
 unfolding last_number count total
 follows_start f s h a b c = record {
   lines = nolines;
-  after = record { last = a; lines = b; stmts = c };
+  after = record { last = ap maybe a; lines = b; stmts = c };
   fuel = suc (length f);
   enough = let g = length-drop 2 f in omega arith;
   rest = sym (file_short f h);

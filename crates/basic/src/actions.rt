@@ -6,12 +6,14 @@ ghost use Rattle.basic.specs.Found.{found_by};
 ghost use Rattle.basic.specs.Items.{put_front};
 ghost use Rattle.basic.specs.Actions.{coded, IsOne, IsList, one_in, args_in, fuel};
 
+use super::codes;
 use super::cursors::{Cursor, token_at};
 use super::found::{Found, Lack};
 use super::items::{Item, count_items, put_items};
-use super::names::{is_capital, key_at};
+use super::names::key_at;
 use super::numbers::line_number;
 use layout::words::{CLR, FOR, GOSUB, GOTO, NEXT, ONGOSUB, ONGOTO, PLAIN, RETURN, RUN, STOP};
+use tokens::names::is_capital;
 use tokens::numbers::is_digit;
 
 // A statement that holds no others, by the number of its opening word, with so many arguments; an IF with a jump branch; an IF whose THEN holds the rest of its
@@ -24,6 +26,8 @@ pub enum Action {
 }
 
 // The first of two tokens in a statement.
+// Kept: `loop`, since tokens are found from cursor to cursor and no iterator gives them. One function of a test for this loop, `pass_over`, `foreign_at` and
+// `statement_row_at` would be no plainer: they answer a token, the cursor before one, and a place among the bytes that GO and TO are not joined in.
 fn seek_at(file: &[u8], c: Cursor, x: u8, y: u8) -> Result<Found<u8>, Lack>
     ensures { found_by (tokens_at file.now) result ≡ seek x y (tokens_at file.now c) }
 {
@@ -31,7 +35,7 @@ fn seek_at(file: &[u8], c: Cursor, x: u8, y: u8) -> Result<Found<u8>, Lack>
     loop {
         let t = token_at(file, at);
         match t.byte {
-            0 | 58 => return Err(Lack { place: t.place }),
+            0 | b':' => return Err(Lack { place: t.place }),
             byte if byte == x || byte == y => {
                 return Ok(Found {
                     value: byte,
@@ -44,6 +48,7 @@ fn seek_at(file: &[u8], c: Cursor, x: u8, y: u8) -> Result<Found<u8>, Lack>
 }
 
 // "The rest of a statement is passed over": up to its colon or zero.
+// Kept: `loop`, as `seek_at`.
 pub(crate) fn pass_over(file: &[u8], c: Cursor) -> Cursor
     ensures { tokens_at file.now result ≡ pass_over (tokens_at file.now c) }
 {
@@ -51,7 +56,7 @@ pub(crate) fn pass_over(file: &[u8], c: Cursor) -> Cursor
     loop {
         let t = token_at(file, at);
         match t.byte {
-            0 | 58 => return at,
+            0 | b':' => return at,
             _ => at = t.next,
         }
     }
@@ -109,7 +114,7 @@ fn branch_at(file: &[u8], b: u8, c: Cursor) -> Result<Found<Action>, Lack>
     if is_digit(t.byte) {
         return jump_at(file, c);
     }
-    if b != 167 || t.byte == 0 {
+    if b != codes::THEN || t.byte == 0 {
         return Err(Lack { place: t.place });
     }
     Ok(Found {
@@ -122,7 +127,7 @@ fn branch_at(file: &[u8], b: u8, c: Cursor) -> Result<Found<Action>, Lack>
 fn if_at(file: &[u8], c: Cursor) -> Result<Found<Action>, Lack>
     ensures { found_by (tokens_at file.now) result ≡ map_found coded (if_action (tokens_at file.now c)) }
 {
-    let then = seek_at(file, c, 167, 137)?;
+    let then = seek_at(file, c, codes::THEN, codes::GOTO)?;
     branch_at(file, then.value, then.next)
 }
 
@@ -130,8 +135,12 @@ fn if_at(file: &[u8], c: Cursor) -> Result<Found<Action>, Lack>
 fn on_at(file: &[u8], c: Cursor) -> Result<Found<Action>, Lack>
     ensures { found_by (tokens_at file.now) result ≡ map_found coded (on_action (fuel file.now c) (tokens_at file.now c)) }
 {
-    let jump = seek_at(file, c, 137, 141)?;
-    let word = if jump.value == 137 { ONGOTO } else { ONGOSUB };
+    let jump = seek_at(file, c, codes::GOTO, codes::GOSUB)?;
+    let word = if jump.value == codes::GOTO {
+        ONGOTO
+    } else {
+        ONGOSUB
+    };
     list_at(word, count_items(file, jump.next, Item::Number))
 }
 
@@ -168,16 +177,16 @@ pub fn action_at(file: &[u8], b: u8, c: Cursor) -> Result<Found<Action>, Lack>
     ensures { found_by (tokens_at file.now) result ≡ map_found coded (action (fuel file.now c) b (tokens_at file.now c)) }
 {
     match b {
-        128 | 144 => bare_at(STOP, c),
-        142 => bare_at(RETURN, c),
-        156 => bare_at(CLR, c),
-        129 => one_at(FOR, key_at(file, c)),
-        130 => next_at(file, c),
-        137 => one_at(GOTO, line_number(file, c)),
-        141 => one_at(GOSUB, line_number(file, c)),
-        138 => run_at(file, c),
-        139 => if_at(file, c),
-        145 => on_at(file, c),
+        codes::END | codes::STOP => bare_at(STOP, c),
+        codes::RETURN => bare_at(RETURN, c),
+        codes::CLR => bare_at(CLR, c),
+        codes::FOR => one_at(FOR, key_at(file, c)),
+        codes::NEXT => next_at(file, c),
+        codes::GOTO => one_at(GOTO, line_number(file, c)),
+        codes::GOSUB => one_at(GOSUB, line_number(file, c)),
+        codes::RUN => run_at(file, c),
+        codes::IF => if_at(file, c),
+        codes::ON => on_at(file, c),
         _ => bare_at(PLAIN, c),
     }
 }
@@ -187,11 +196,11 @@ pub fn put_args(file: &[u8], b: u8, c: Cursor, part: &mut [u64])
     ensures { part.new ≡ put_front (args_in (action (fuel file.now c) b (tokens_at file.now c))) part.old }
 {
     match b {
-        129 => put_one(key_at(file, c), part),
-        130 => put_slots(file, c, part),
-        137 | 141 => put_one(line_number(file, c), part),
-        138 => put_run(file, c, part),
-        145 => put_targets(file, c, part),
+        codes::FOR => put_one(key_at(file, c), part),
+        codes::NEXT => put_slots(file, c, part),
+        codes::GOTO | codes::GOSUB => put_one(line_number(file, c), part),
+        codes::RUN => put_run(file, c, part),
+        codes::ON => put_targets(file, c, part),
         _ => {}
     }
 }
@@ -240,7 +249,7 @@ fn put_run(file: &[u8], c: Cursor, part: &mut [u64])
 fn put_targets(file: &[u8], c: Cursor, part: &mut [u64])
     ensures { part.new ≡ put_front (args_in (on_action (fuel file.now c) (tokens_at file.now c))) part.old }
 {
-    if let Ok(jump) = seek_at(file, c, 137, 141) {
+    if let Ok(jump) = seek_at(file, c, codes::GOTO, codes::GOSUB) {
         put_items(file, jump.next, Item::Number, part);
     }
 }

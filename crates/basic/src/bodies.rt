@@ -20,6 +20,7 @@ pub(crate) struct Body {
 }
 
 // The statements from c on.
+// Kept: `loop`, since a statement says where the next is looked for, and no iterator gives them.
 pub(crate) fn judge_body(file: &[u8], c: Cursor) -> Result<Body, Lack>
     ensures told { result ≡ summary (body_of (fuel file.now c) ∅ (tokens_at file.now c)) }
     ensures few { AtMost (length file.now) result }
@@ -34,7 +35,7 @@ pub(crate) fn judge_body(file: &[u8], c: Cursor) -> Result<Body, Lack>
         if t.byte == 0 {
             return Ok(Body { stmts, deep, long });
         }
-        if t.byte == 58 {
+        if t.byte == b':' {
             at = t.next;
             continue;
         }

@@ -3,6 +3,8 @@ ghost use Rattle.std.specs.Prelude.{◌≡◌};
 ghost use Rattle.program_files.specs.Program.{behind, counts};
 ghost use Rattle.basic.specs.Covers.{cover_of};
 
+use super::codes;
+
 // Nothing, quotes, a REM, a DATA, quotes in a DATA.
 #[derive(Clone, Copy)]
 pub enum Cover {
@@ -19,13 +21,13 @@ pub(crate) fn behind(c: Cover, b: u8) -> Cover
     ensures { cover_of result ≡ behind (cover_of c) b }
 {
     match (c, b) {
-        (Cover::Uncovered, 34) => Cover::Quoted,
-        (Cover::Uncovered, 143) => Cover::Remark,
-        (Cover::Uncovered, 131) => Cover::Items,
-        (Cover::Quoted, 34) => Cover::Uncovered,
-        (Cover::Items, 34) => Cover::QuotedItem,
-        (Cover::Items, 58) => Cover::Uncovered,
-        (Cover::QuotedItem, 34) => Cover::Items,
+        (Cover::Uncovered, b'"') => Cover::Quoted,
+        (Cover::Uncovered, codes::REM) => Cover::Remark,
+        (Cover::Uncovered, codes::DATA) => Cover::Items,
+        (Cover::Quoted, b'"') => Cover::Uncovered,
+        (Cover::Items, b'"') => Cover::QuotedItem,
+        (Cover::Items, b':') => Cover::Uncovered,
+        (Cover::QuotedItem, b'"') => Cover::Items,
         _ => c,
     }
 }
@@ -36,8 +38,8 @@ pub(crate) fn is_counted(c: Cover, b: u8) -> bool
     ensures { result ≡ counts (cover_of c) b }
 {
     match c {
-        Cover::Uncovered => b != 32,
-        Cover::Items => b == 58,
+        Cover::Uncovered => b != b' ',
+        Cover::Items => b == b':',
         Cover::Quoted | Cover::Remark | Cover::QuotedItem => false,
     }
 }

@@ -29,6 +29,7 @@ fn item_at(file: &[u8], c: Cursor, kind: Item) -> Result<Found<u64>, Lack>
 }
 
 // "a comma brings ON a further number and NEXT a further name": how many there are.
+// Kept: `loop`, since an item says where its comma is looked for, and no iterator gives them.
 pub(crate) fn count_items(file: &[u8], c: Cursor, kind: Item) -> Result<Found<usize>, Lack>
     ensures { found_by (tokens_at file.now) result ≡ map_found length (items_from kind (tokens_at file.now c)) }
 {
@@ -38,7 +39,7 @@ pub(crate) fn count_items(file: &[u8], c: Cursor, kind: Item) -> Result<Found<us
         let next = item_at(file, at, kind)?.next;
         count += 1;
         let t = token_at(file, next);
-        if t.byte != 44 {
+        if t.byte != b',' {
             return Ok(Found { value: count, next });
         }
         at = t.next;

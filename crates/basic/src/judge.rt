@@ -15,6 +15,7 @@ pub struct Counts {
 }
 
 // "lines are judged in order". "33, the file ends early": the place is the file's length.
+// Kept: `loop`, since a line says where the next link stands, and no iterator gives them.
 pub fn judge_program(file: &[u8]) -> Result<Counts, Refusal>
     ensures { told_of result ≡ judged_of (read_program file.now) }
 {
@@ -24,7 +25,7 @@ pub fn judge_program(file: &[u8]) -> Result<Counts, Refusal>
     }
     let mut at: usize = 2;
     let mut s = Counted {
-        last: 0,
+        last: None,
         lines: 0,
         stmts: 0,
     };

@@ -3,6 +3,7 @@
 
 pub mod actions;
 mod bodies;
+mod codes;
 pub mod cover;
 pub mod cursors;
 pub mod found;

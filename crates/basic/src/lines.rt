@@ -1,24 +1,24 @@
 // A line, judged: its offences first, the least of them; then 4 to 8.
 ghost use Rattle.std.specs.Prelude.{◌≡◌, ◌<◌, ◌≤◌, ◌+◌, length};
 ghost use Rattle.listings.specs.Listing.{Stmts};
+ghost use Rattle.listings.specs.Read.{ascends};
 ghost use Rattle.program_files.specs.Program.{sooner};
 ghost use Rattle.program_files.specs.Program as definition;
 ghost use Rattle.basic.specs.Bodies.{summary};
 ghost use Rattle.basic.specs.Cursors.{raw_at};
-ghost use Rattle.basic.specs.Lines.{LineTold, WithTold, Kept, IsCut, IsInnerLeast, IsLeast, word_at, bytes_at, with_foreign, zero_at, first_foreign, offence_of, offence_in};
+ghost use Rattle.basic.specs.Lines.{maybe, LineTold, WithTold, Kept, IsCut, IsInnerLeast, IsLeast, word_at, bytes_at, with_foreign, zero_at, first_foreign, offence_of, offence_in};
 
 use super::bodies::{Body, judge_body};
-use super::cover::Cover;
 use super::cursors::{Cursor, counted_at};
 use super::found::Lack;
 use layout::limits::{MAX_LINES, MAX_STMTS};
 use layout::refusals::{Reason, Refusal};
 use tokens::scan::find;
 
-// Behind some lines: one more than the last number, or 0; how many lines and statements.
+// Behind some lines: the last number, if there is a line; how many lines and statements.
 #[derive(Clone, Copy)]
 pub(crate) struct Counted {
-    pub(crate) last: u32,
+    pub(crate) last: Option<u16>,
     pub(crate) lines: usize,
     pub(crate) stmts: usize,
 }
@@ -39,6 +39,7 @@ pub(crate) fn word_at(file: &[u8], at: usize) -> u32
 }
 
 // The place of the first 64 that counts from c on.
+// Kept: `loop`, as `actions::seek_at`.
 fn foreign_at(file: &[u8], c: Cursor) -> Option<usize>
     ensures { result ≡ first_foreign (raw_at file.now c) }
 {
@@ -54,6 +55,7 @@ fn foreign_at(file: &[u8], c: Cursor) -> Option<usize>
 }
 
 // "The first offending byte decides", and of two on one byte the lower number.
+// Kept: by the numbers, as `tokens::arguments::lower`.
 fn sooner(a: Refusal, b: Option<Refusal>) -> Option<Refusal>
     ensures { offence_in result ≡ sooner (offence_of a) (offence_in b) }
 {
@@ -77,10 +79,7 @@ fn or_foreign(file: &[u8], at: usize, o: Option<Refusal>) -> Option<Refusal>
     requires { at + 3 < length file.now }
     ensures { offence_in result ≡ with_foreign (first_foreign (bytes_at file.now at)) (offence_in o) }
 {
-    let from = Cursor {
-        at: at + 4,
-        cover: Cover::Uncovered,
-    };
+    let from = Cursor::uncovered(at + 4);
     match foreign_at(file, from) {
         Some(place) => sooner(Reason::ForeignByte.at(place), o),
         None => o,
@@ -133,18 +132,23 @@ pub(crate) fn judge_line(file: &[u8], at: usize, s: Counted) -> Result<Taken, Re
 {
     let n = word_at(file, at + 2);
     let from = at + 4;
-    let body = judge_body(
-        file,
-        Cursor {
-            at: from,
-            cover: Cover::Uncovered,
-        },
-    );
+    let body = judge_body(file, Cursor::uncovered(from));
     let zero = find(&file[from..], 0);
     if let Some(offence) = offence_at(file, at, n, body, from + zero == file.len()) {
         return Err(offence);
     }
     with_line(n, body?, from + zero + 1, s)
+}
+
+// Whether a number is above the last, if there is one.
+#[tactic(auto, unfolding(listings::specs::Read::ascends))]
+fn ascends(n: u32, last: Option<u16>) -> bool
+    ensures { result ≡ ascends n (maybe last) }
+{
+    match last {
+        Some(m) => u32::from(m) < n,
+        None => true,
+    }
 }
 
 // "within a line 4 to 8 come after 33 to 35, lowest first"
@@ -155,7 +159,7 @@ fn with_line(n: u32, body: Body, next: usize, s: Counted) -> Result<Taken, Refus
     ensures told { (st : Stmts) → Ok body ≡ summary (definition.body st) → WithTold s n st result }
     ensures kept { Kept next result }
 {
-    if n < s.last {
+    if !ascends(n, s.last) {
         return Err(Reason::LineOrder.at(s.lines));
     }
     if MAX_LINES <= s.lines {
@@ -172,7 +176,7 @@ fn with_line(n: u32, body: Body, next: usize, s: Counted) -> Result<Taken, Refus
     }
     Ok(Taken {
         counted: Counted {
-            last: n + 1,
+            last: Some(n as u16),
             lines: s.lines + 1,
             stmts: s.stmts + body.stmts,
         },

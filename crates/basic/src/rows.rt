@@ -6,7 +6,6 @@ ghost use Rattle.basic.specs.Rows.{Yields, StartsRows, FirstOf, IsDue, ends_then
 ghost use Rattle.basic.specs.Rests.{zero_at, Ordered};
 
 use super::actions::{Action, action_at, pass_over};
-use super::cover::Cover;
 use super::cursors::{Cursor, token_at};
 use super::lines::word_at;
 use super::sources::{FileRow, Source, Sourced, Stage};
@@ -18,10 +17,7 @@ pub fn first_row() -> Source
 {
     Source {
         stage: Stage::Module,
-        at: Cursor {
-            at: 2,
-            cover: Cover::Uncovered,
-        },
+        at: Cursor::uncovered(2),
         ends: 1,
     }
 }
@@ -45,10 +41,7 @@ fn module_end() -> Sourced
         row: FileRow::End,
         next: Source {
             stage: Stage::Ended,
-            at: Cursor {
-                at: 0,
-                cover: Cover::Uncovered,
-            },
+            at: Cursor::uncovered(0),
             ends: 0,
         },
     }
@@ -66,10 +59,7 @@ fn line_row_at(file: &[u8], at: usize) -> Sourced
         row: FileRow::Line(word_at(file, at + 2) as u16),
         next: Source {
             stage: Stage::Statements,
-            at: Cursor {
-                at: at + 4,
-                cover: Cover::Uncovered,
-            },
+            at: Cursor::uncovered(at + 4),
             ends: 1,
         },
     }
@@ -95,10 +85,7 @@ fn end_row_at(file: &[u8], s: Source) -> Sourced
             row: FileRow::End,
             next: Source {
                 stage: Stage::Line,
-                at: Cursor {
-                    at: link_behind(file, s.at),
-                    cover: Cover::Uncovered,
-                },
+                at: Cursor::uncovered(link_behind(file, s.at)),
                 ends: 0,
             },
         },
@@ -114,6 +101,7 @@ fn end_row_at(file: &[u8], s: Source) -> Sourced
 }
 
 // The next statement behind colons, or the end of them.
+// Kept: `loop`, as `actions::seek_at`.
 fn statement_row_at(file: &[u8], s: Source) -> Sourced
     ensures { FirstOf file.now (statements_at file.now s.at s.ends) result }
 {
@@ -122,7 +110,7 @@ fn statement_row_at(file: &[u8], s: Source) -> Sourced
         let t = token_at(file, at);
         match t.byte {
             0 => return end_row_at(file, s),
-            58 => at = t.next,
+            b':' => at = t.next,
             byte => return action_row(file, byte, t.next, s),
         }
     }
@@ -169,10 +157,7 @@ fn due(file: &[u8], stage: Stage, c: Cursor, s: Source, more: usize) -> Source
     let t = token_at(file, c);
     Source {
         stage,
-        at: Cursor {
-            at: t.place,
-            cover: Cover::Uncovered,
-        },
+        at: Cursor::uncovered(t.place),
         ends: s.ends + more,
     }
 }

@@ -28,6 +28,7 @@ pub struct Source {
 
 // A row: the module's, without handlers; a line's; a statement's, by the number of its opening word, with so many arguments, its first byte and where what follows
 // that stands; `(if`, `(to N)`, `(stmts`, `)`.
+// Kept: `End` is the row `)`, and not that there is none.
 #[derive(Clone, Copy)]
 pub enum FileRow {
     Module,

@@ -18,7 +18,7 @@ use Rattle.layout.specs.Refusals.{number_of}
 use Rattle.formatting.specs.Printing.{Puts}
 use Rattle.printing.specs.ListGraph.{GraphListed}
 use Rattle.printing.specs.PrintLength.{written-length, refusal_length}
-use Rattle.printing.specs.Limits.{Whole, puts_whole}
+use Rattle.formatting.specs.Whole.{Whole, puts_whole}
 
 -- "Both come after all of the listing's refusals": what is said where the graph given ends
 unfoldable pub concluded : BuiltAnswer → Standing → List ℕ → Verdict

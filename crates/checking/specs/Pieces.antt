@@ -10,7 +10,8 @@ use Rattle.comparing.specs.Comparing.{Standing, same, fed}
 use Rattle.comparing.specs.ComparingLaws.{fed-append}
 use Rattle.comparing.specs.ComparingStates.{verdict_of}
 use Rattle.layout.specs.declared.refusals.Refusal.{Refusal}
-use Rattle.printing.specs.Limits.{Whole, ListedWhole}
+use Rattle.formatting.specs.Whole.{Whole}
+use Rattle.printing.specs.Limits.{ListedWhole}
 use Rattle.checking.specs.Checking.{concluded, concluded_so}
 
 -- some bytes were fed, from the first on

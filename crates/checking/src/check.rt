@@ -15,10 +15,8 @@ use printing::list::list_graph;
 pub fn conclude(built: Result<(), Refusal>, s: Comparing, due: &[u8]) -> Result<(), Refusal>
     ensures { verdict_of result ≡ concluded (built_told built) (standing_of s) due.now }
 {
-    match built {
-        Err(refusal) => Err(refusal),
-        Ok(()) => rule(s, due),
-    }
+    built?;
+    rule(s, due)
 }
 
 // The graph given beside the one due, the first n bytes of a page.
@@ -37,6 +35,7 @@ fn check_page(
 }
 
 // Builds the graph of a text in the lent tables, prints it on the lent page, and compares the graph given with it.
+// Kept: the C interface lends the tables one by one.
 pub fn check_graph(
     text: &[u8],
     graph: &[u8],

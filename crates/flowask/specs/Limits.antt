@@ -11,7 +11,7 @@ use Rattle.passes.specs.TableForms.{Sizes}
 use Rattle.formatting.specs.Printing.{Puts, puts_is}
 use Rattle.printing.specs.PrintLength.{refusal_length}
 use Rattle.wiring.specs.Limits.{at_limits}
-use Rattle.printing.specs.Limits.{Whole, puts_whole}
+use Rattle.formatting.specs.Whole.{Whole, puts_whole}
 use Rattle.answers.specs.Flowask.{ask_text, in_room, flowask}
 use Rattle.asking.specs.Asked.{TextAsked}
 

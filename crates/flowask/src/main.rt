@@ -3,7 +3,7 @@
 
 ghost use Rattle.graph.specs.Build.{limits};
 ghost use Rattle.formatting.specs.Printing.{Puts};
-ghost use Rattle.printing.specs.Limits.{Whole};
+ghost use Rattle.formatting.specs.Whole.{Whole};
 ghost use Rattle.answers.specs.Flowask.{ask_text, flowask};
 
 use asking::ask::ask_text;

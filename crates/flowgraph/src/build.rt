@@ -1,4 +1,5 @@
 // The graph of a listing, or of the listing that a saved program means.
+// Kept: C lends the tables one by one.
 ghost use Rattle.std.specs.Prelude.{true};
 ghost use Rattle.program_files.specs.Inputs.{meaning};
 ghost use Rattle.graph.specs.Build.{build as built_by, built_of_answer};
@@ -6,6 +7,7 @@ ghost use Rattle.passes.specs.TableForms.{sizes_of, capacity};
 ghost use Rattle.c_answers.specs.BuildNumbers.{BuildNumbered};
 
 use c_answers::build::number_of_done;
+use reader::listing::Input;
 use wiring::build::{build, build_input};
 
 #[unsafe(no_mangle)]
@@ -52,9 +54,9 @@ pub extern "C" fn flow_build_program(
 ) -> u8
     ensures { BuildNumbered (built_of_answer (capacity (sizes_of lines.old stmts.old args.old entries.old falls.old links.old lists.old returns.old succ.old pred.old)) (meaning true program.now)) (sizes_of lines.old stmts.old args.old entries.old falls.old links.old lists.old returns.old succ.old pred.old) counts.new lines.new stmts.new args.new entries.new falls.new links.new lists.new returns.new succ.new pred.new result place.new }
 {
+    let input = Input::Program(program);
     let found = build_input(
-        true, program, counts, lines, stmts, args, entries, falls, links, lists, returns, succ,
-        pred,
+        input, counts, lines, stmts, args, entries, falls, links, lists, returns, succ, pred,
     );
     number_of_done(found, place)
 }

@@ -1,4 +1,5 @@
 // A graph that came from elsewhere, beside its listing.
+// Kept: C lends the tables one by one.
 ghost use Rattle.passes.specs.TableForms.{sizes_of};
 ghost use Rattle.flowgraph.specs.CheckNumbers.{CheckNumbered};
 

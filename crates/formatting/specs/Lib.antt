@@ -1,2 +1,4 @@
 pub mod Printing
 pub mod Pages
+pub mod Whole
+pub mod Digits

@@ -1,11 +1,10 @@
 -- A page: bytes are put into a lent part, one piece after the other. Assumes nothing.
-use Rattle.std.specs.Prelude.{ℕ, ◌+◌, ◌*◌, ◌/◌, ◌%◌, ◌≤◌, ◌<◌, ◌≡◌, refl, List, [], ◌∷◌, ◌++◌, length, get_or, take}
-use Rattle.std.proofs.Common.{sym, ap, ◌∙◌, append_assoc, append-nil, arith, add-one, take-suc, take_all}
+use Rattle.std.specs.Prelude.{ℕ, ◌+◌, ◌≤◌, ◌<◌, ◌≡◌, refl, List, [], ◌∷◌, ◌++◌, length, get_or, take}
+use Rattle.std.proofs.Common.{◌∙◌, append_assoc, append-nil, add-one, take-suc, take_all}
 use Rattle.listings.specs.Bytes.{bytes, decimal}
-use Rattle.listing_laws.specs.NumberText.{decimal_small, decimal_more}
 use Rattle.graph.specs.Lists.{each, below}
 use Rattle.graph.specs.Print.{spaced}
-use Rattle.formatting.specs.Printing.{Puts, puts_none, puts_both}
+use Rattle.formatting.specs.Printing.{Puts, puts_none, puts_both, each_snoc}
 use Rattle.formatting.specs.declared.page.Page.{Page}
 
 -- l was put on the page p, which is p' then and still holds the same part
@@ -30,11 +29,6 @@ pub put_on : {out : List ℕ} {p p' : Page} {l : List ℕ} → (p.bytes.now ≡ 
 put_on b w = rw (b.0, b.1) at w.puts
 
 -- ---- loops
-
-pub each_snoc : {A : Type 0} (f : A → List ℕ) (l : List A) (a : A) → each f (l ++ (a ∷ [])) ≡ each f l ++ f a
-unfolding each
-each_snoc f [] a = append-nil (f a)
-each_snoc f (x ∷ l) a = rw (each_snoc f l a, append_assoc)
 
 -- over a list: the pieces of the first k
 module _ (f : ℕ → List ℕ) (xs : List ℕ) (p : Page) where
@@ -63,17 +57,6 @@ pub bytes_on : (xs : List ℕ) {p q s : Page} (k : ℕ) → k < length xs → Wr
 bytes_on xs k h a b = rw (add-one, take-suc xs k 0 h) (wrote_both a b)
 
 -- ---- numbers
-
--- a digit behind the others
-pub wrote_digit : {p q s : Page} (x d : ℕ) → 10 ≤ x → d ≡ 48 + x % 10 → Wrote p q (decimal (x / 10)) → Wrote q s (d ∷ []) → Wrote p s (decimal x)
-wrote_digit x d h e a b =
-    let z : x / 10 * 10 + x % 10 ≡ x = omega arith in
-    let t : decimal (x / 10) ++ (d ∷ []) ≡ decimal x
-    = ap (λ (y : ℕ). decimal (x / 10) ++ (y ∷ [])) e ∙ sym (decimal_more (x / 10) (x % 10) (omega arith) (omega arith)) ∙ ap decimal z in
-    wrote_is t (wrote_both a b)
-
-pub wrote_small : {p q : Page} (x d : ℕ) → x < 10 → d ≡ 48 + x → Wrote p q (d ∷ []) → Wrote p q (decimal x)
-wrote_small x d h e a = wrote_is (ap (λ (y : ℕ). y ∷ []) e ∙ sym (decimal_small x h)) a
 
 -- one more number
 pub spaced_snoc : (l : List ℕ) (a : ℕ) → spaced (l ++ (a ∷ [])) ≡ spaced l ++ (32 ∷ decimal a)

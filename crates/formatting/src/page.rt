@@ -7,6 +7,7 @@ ghost use Rattle.layout.specs.Refusals.{number_of};
 ghost use Rattle.formatting.specs.Printing.{Puts};
 ghost use Rattle.formatting.specs.Pages.{Wrote, pair_text};
 
+use crate::parts;
 use layout::refusals::Refusal;
 use tokens::words::{word_length, word_letter};
 
@@ -36,19 +37,14 @@ impl<'a> Page<'a> {
     pub fn put_byte(&mut self, b: u8)
         ensures { Wrote self.old self.new (b ∷ []) }
     {
-        if self.at < self.bytes.len() {
-            self.bytes[self.at] = b;
-            self.at += 1;
-        }
+        self.at = parts::put_byte(self.bytes, self.at, b);
     }
 
     // Bytes one after the other, as many as fit.
     pub fn put_bytes(&mut self, word: &[u8])
         ensures { Wrote self.old self.new word.now }
     {
-        for b in word {
-            self.put_byte(*b);
-        }
+        self.at = parts::put_bytes(self.bytes, self.at, word);
     }
 
     // Opening word k, nothing where there is no such word.
@@ -60,32 +56,27 @@ impl<'a> Page<'a> {
         }
     }
 
-    // The digits before the last one are those of a tenth.
+    // A number.
+    // Kept: two names that callers have, each thin over its routine of a part.
     pub fn put_decimal(&mut self, x: usize)
         ensures { Wrote self.old self.new (decimal x) }
     {
-        if x < 10 {
-            return self.put_byte(b'0' + x as u8);
-        }
-        self.put_decimal(x / 10);
-        self.put_byte(b'0' + (x % 10) as u8);
+        self.at = parts::put_decimal(self.bytes, self.at, x);
     }
 
     // A number with a space before it.
+    // Kept: two names that callers have, each thin over its routine of a part.
     pub fn put_number(&mut self, x: usize)
         ensures { Wrote self.old self.new (32 ∷ decimal x) }
     {
-        self.put_byte(b' ');
-        self.put_decimal(x);
+        self.at = parts::put_number(self.bytes, self.at, x);
     }
 
     // Each number of a list with a space before it.
     pub fn put_spaced(&mut self, list: &[u16])
         ensures { Wrote self.old self.new (spaced list.now) }
     {
-        for x in list {
-            self.put_number(usize::from(*x));
-        }
+        self.at = parts::put_spaced(self.bytes, self.at, list);
     }
 
     // A word and two numbers.

@@ -1,15 +1,15 @@
 -- Laws of what the frame question checks, and of its list by the opening word. Assumes nothing.
 use Prim.Native.Nat.{ℕ, ◌+◌, ◌*◌, ◌-◌, ◌/◌, ◌<◌, ◌≤◌}
-use Rattle.std.specs.Prelude.{◌≡◌, List, [], Bool, Result, ◌||◌, length, get_or}
+use Rattle.std.specs.Prelude.{◌≡◌, List, [], Bool, Result, Ok, Err, ◌||◌, length, get_or}
 use Rattle.std.proofs.Math.Path.{refl, sym}
 use Rattle.std.proofs.Common.{subst, ◌∙◌, arith}
 use Rattle.std.proofs.Math.Bool.{true, false}
 use borrow.Author.Tests.{ltb-true, ltb-false, lt-ltb, le-ltb}
 use Rattle.std.proofs.Math.Dec.{ltb}
 use Rattle.listings.specs.Listing.{Name}
-use Rattle.listings.specs.Rows.{is_name, parse_name}
+use Rattle.listings.specs.Bytes.{pick}
+use Rattle.listings.specs.Rows.{invalid, parsed, is_name, parse_name}
 use Rattle.tokens.specs.Names.{as_key}
-use Rattle.reader.specs.Operands.{key_answer}
 use Rattle.listings.specs.Records.{name_key}
 use Rattle.listings.specs.Cut.{cut_name}
 use Rattle.tables.specs.Columns.{call_word, word_of, fall_entry, succ_start, succ_count, succ_part}
@@ -20,6 +20,8 @@ use Rattle.frame_lists.specs.FrameAt.{ends_frame, keeps_shared, frame_read, shor
 use Rattle.frame_slices.specs.FrameAnswer.{FrameAnswered}
 use Rattle.statements.specs.StatementAt.{no_statement_in, unless_refused, refused_by}
 use Rattle.statements.specs.StatementLaws.{refusal_passes, answer_passes, statement_inside}
+use Rattle.layout.specs.declared.refusals.Reason.{Reason}
+use Rattle.layout.specs.declared.refusals.Reason.TheVariants as reason
 use Rattle.layout.specs.declared.refusals.Refusal.{Refusal}
 
 -- ---- inside the tables
@@ -204,9 +206,22 @@ module _ (stmts args falls lists succ : List ℕ) (h i k : ℕ) (flag : Bool) wh
 
 -- ---- the name
 
-pub name_key_lem : (v : Name) → is_name v ≡ true → key_answer (as_key (parse_name v)) ≡ name_key (cut_name v)
+-- it is judged and its key taken at once
+pub name_taken : (v : Name) (k : ℕ) → Ok k ≡ as_key (parse_name v) → (is_name v ≡ true) × (k ≡ name_key (cut_name v))
 unfolding parse_name
-name_key_lem v e = rw e
+name_taken v k = go (is_name v) refl
+  where
+    go : (t : Bool) → is_name v ≡ t → Ok k ≡ as_key (pick t (parsed v) invalid) → (is_name v ≡ true) × (k ≡ name_key (cut_name v))
+    go true e h = (e, cc)
+    go false e h = cc
+
+pub name_refused : (v : Name) (r : Reason) → Err r ≡ as_key (parse_name v) → (is_name v ≡ false) × (r ≡ reason.BadWord)
+unfolding parse_name
+name_refused v r = go (is_name v) refl
+  where
+    go : (t : Bool) → is_name v ≡ t → Err r ≡ as_key (pick t (parsed v) invalid) → (is_name v ≡ false) × (r ≡ reason.BadWord)
+    go true e h = cc
+    go false e h = (e, cc)
 
 pub answer_as : (q p : Reply (List ℕ)) (out t : List ℕ) (r : Result ℕ Refusal) → q ≡ p → FrameAnswered q out t r → FrameAnswered p out t r
 answer_as q p out t r e g = subst (λ (z : Reply (List ℕ)). FrameAnswered z out t r) e g

@@ -14,7 +14,18 @@ use layout::widths::count_of;
 use layout::words::{CLR, FOR, NEXT, RETURN, RUN};
 use statements::statement::no_statement;
 use tables::calls::is_call;
-use tokens::names::{is_name, key_of};
+use tokens::names::key_of;
+
+// The tables that the question reads, whoever wrote them.
+#[derive(Clone, Copy)]
+pub struct FrameTables<'a> {
+    pub counts: &'a [u32; 6],
+    pub stmts: &'a [u16],
+    pub args: &'a [u64],
+    pub falls: &'a [u16],
+    pub lists: &'a [u16],
+    pub succ: &'a [u16],
+}
 
 // The words that end a frame of any name.
 #[tactic(auto, unfolding(crate::specs::FrameAt::forgets_word))]
@@ -42,128 +53,101 @@ fn keeps_shared(word: u16, flag: bool) -> bool
 
 // Of the successors of a NEXT those that the header has.
 fn keep_part(
-    counts: &[u32; 6],
-    lists: &[u16],
-    succ: &[u16],
+    t: &FrameTables<'_>,
     header: usize,
     node: usize,
     out: &mut [u16],
 ) -> Result<usize, Refusal>
-    requires { PartInside counts.now lists.now succ.now header × PartInside counts.now lists.now succ.now node }
-    ensures { FrameAnswered (if_room (length out.old) (kept (succ_part lists.now succ.now header) (succ_part lists.now succ.now node))) out.old out.new result }
+    requires { PartInside t.now.counts.now t.now.lists.now t.now.succ.now header × PartInside t.now.counts.now t.now.lists.now t.now.succ.now node }
+    ensures { FrameAnswered (if_room (length out.old) (kept (succ_part t.now.lists.now t.now.succ.now header) (succ_part t.now.lists.now t.now.succ.now node))) out.old out.new result }
 {
-    let own = successors(counts, lists, succ, node);
-    let shared = successors(counts, lists, succ, header);
+    let own = successors(t.counts, t.lists, t.succ, node);
+    let shared = successors(t.counts, t.lists, t.succ, header);
     keep_shared(own, shared, out)
 }
 
 // All successors.
-fn copy_part(
-    counts: &[u32; 6],
-    lists: &[u16],
-    succ: &[u16],
-    node: usize,
-    out: &mut [u16],
-) -> Result<usize, Refusal>
-    requires { PartInside counts.now lists.now succ.now node }
-    ensures { FrameAnswered (if_room (length out.old) (succ_part lists.now succ.now node)) out.old out.new result }
+fn copy_part(t: &FrameTables<'_>, node: usize, out: &mut [u16]) -> Result<usize, Refusal>
+    requires { PartInside t.now.counts.now t.now.lists.now t.now.succ.now node }
+    ensures { FrameAnswered (if_room (length out.old) (succ_part t.now.lists.now t.now.succ.now node)) out.old out.new result }
 {
-    copy_list(successors(counts, lists, succ, node), out)
+    copy_list(successors(t.counts, t.lists, t.succ, node), out)
 }
 
 // By the node's opening word.
 fn write_frame(
-    counts: &[u32; 6],
-    stmts: &[u16],
-    args: &[u64],
-    falls: &[u16],
-    lists: &[u16],
-    succ: &[u16],
+    t: &FrameTables<'_>,
     header: usize,
     node: usize,
     key: u64,
     flag: bool,
     out: &mut [u16],
 ) -> Result<usize, Refusal>
-    requires { FrameInside counts.now stmts.now args.now falls.now lists.now succ.now header node }
-    ensures { FrameAnswered (if_room (length out.old) (frame_read stmts.now args.now falls.now lists.now succ.now header node key flag)) out.old out.new result }
+    requires { FrameInside t.now.counts.now t.now.stmts.now t.now.args.now t.now.falls.now t.now.lists.now t.now.succ.now header node }
+    ensures { FrameAnswered (if_room (length out.old) (frame_read t.now.stmts.now t.now.args.now t.now.falls.now t.now.lists.now t.now.succ.now header node key flag)) out.old out.new result }
 {
-    let word = stmts[node * STMT_ENTRIES];
-    if ends_frame(word, args[node * ARG_ENTRIES], key) {
+    let word = t.stmts[node * STMT_ENTRIES];
+    if ends_frame(word, t.args[node * ARG_ENTRIES], key) {
         return give_nothing(out);
     }
     if keeps_shared(word, flag) {
-        return keep_part(counts, lists, succ, header, node, out);
+        return keep_part(t, header, node, out);
     }
     if is_call(word) {
-        return give_fall(falls[node * FALL_ENTRIES], out);
+        return give_fall(t.falls[node * FALL_ENTRIES], out);
     }
-    copy_part(counts, lists, succ, node, out)
+    copy_part(t, node, out)
 }
 
 // By division, so that no product can wrap.
-fn short_tables(n: usize, stmts: &[u16], args: &[u64], falls: &[u16], lists: &[u16]) -> bool
-    ensures { result ≡ short_tables n (length stmts.now) (length args.now) (length falls.now) (length lists.now) }
+fn short_tables(t: &FrameTables<'_>, n: usize) -> bool
+    ensures { result ≡ short_tables n (length t.now.stmts.now) (length t.now.args.now) (length t.now.falls.now) (length t.now.lists.now) }
 {
-    stmts.len() / STMT_ENTRIES < n
-        || (args.len() / ARG_ENTRIES < n
-            || (falls.len() / FALL_ENTRIES < n || lists.len() / LIST_ENTRIES < n))
+    t.stmts.len() / STMT_ENTRIES < n
+        || (t.args.len() / ARG_ENTRIES < n
+            || (t.falls.len() / FALL_ENTRIES < n || t.lists.len() / LIST_ENTRIES < n))
 }
 
 // By a difference, so that no sum can wrap.
-fn part_outside(lists: &[u16], succ: &[u16], i: usize) -> bool
-    requires { i * 4 + 1 < length lists.now }
-    ensures { result ≡ part_outside lists.now succ.now i }
+fn part_outside(t: &FrameTables<'_>, i: usize) -> bool
+    requires { i * 4 + 1 < length t.now.lists.now }
+    ensures { result ≡ part_outside t.now.lists.now t.now.succ.now i }
 {
-    let start = usize::from(lists[i * LIST_ENTRIES]);
-    succ.len() < start || succ.len() - start < usize::from(lists[i * LIST_ENTRIES + SUCC_COUNT])
+    let start = usize::from(t.lists[i * LIST_ENTRIES]);
+    let count = usize::from(t.lists[i * LIST_ENTRIES + SUCC_COUNT]);
+    t.succ.len() < start || t.succ.len() - start < count
 }
 
 // Only a call's fall is read, so only that one is tested.
-fn fall_outside(n: usize, stmts: &[u16], falls: &[u16], i: usize) -> bool
-    requires { (i * 12 < length stmts.now) × (i * 3 < length falls.now) }
-    ensures { result ≡ fall_outside n stmts.now falls.now i }
+fn fall_outside(t: &FrameTables<'_>, n: usize, i: usize) -> bool
+    requires { (i * 12 < length t.now.stmts.now) × (i * 3 < length t.now.falls.now) }
+    ensures { result ≡ fall_outside n t.now.stmts.now t.now.falls.now i }
 {
-    is_call(stmts[i * STMT_ENTRIES]) && n < usize::from(falls[i * FALL_ENTRIES])
+    is_call(t.stmts[i * STMT_ENTRIES]) && n < usize::from(t.falls[i * FALL_ENTRIES])
 }
 
 // Whether a used count or a record that the question reads points outside its table.
-fn frame_outside(
-    n: usize,
-    stmts: &[u16],
-    args: &[u64],
-    falls: &[u16],
-    lists: &[u16],
-    succ: &[u16],
-    header: usize,
-    node: usize,
-) -> bool
+fn frame_outside(t: &FrameTables<'_>, n: usize, header: usize, node: usize) -> bool
     requires { (header < n) × (node < n) }
-    ensures { result ≡ frame_outside n stmts.now args.now falls.now lists.now succ.now header node }
+    ensures { result ≡ frame_outside n t.now.stmts.now t.now.args.now t.now.falls.now t.now.lists.now t.now.succ.now header node }
 {
-    short_tables(n, stmts, args, falls, lists)
-        || (part_outside(lists, succ, header)
-            || (part_outside(lists, succ, node) || fall_outside(n, stmts, falls, node)))
+    short_tables(t, n)
+        || (part_outside(t, header) || (part_outside(t, node) || fall_outside(t, n, node)))
 }
 
 // Once the name is known to be one. All is decided before the first entry is written.
 fn frame_of(
-    counts: &[u32; 6],
+    t: &FrameTables<'_>,
     lines: usize,
     n: usize,
-    stmts: &[u16],
-    args: &[u64],
-    falls: &[u16],
-    lists: &[u16],
-    succ: &[u16],
     header: usize,
     node: usize,
     key: u64,
     flag: bool,
     out: &mut [u16],
 ) -> Result<usize, Refusal>
-    requires { n ≡ get_or counts.now 1 0 }
-    ensures { FrameAnswered (frame_in lines n stmts.now args.now falls.now lists.now succ.now header node key flag (length out.old)) out.old out.new result }
+    requires { n ≡ get_or t.now.counts.now 1 0 }
+    ensures { FrameAnswered (frame_in lines n t.now.stmts.now t.now.args.now t.now.falls.now t.now.lists.now t.now.succ.now header node key flag (length out.old)) out.old out.new result }
 {
     if n <= header {
         return Err(Reason::NoNode.at(header));
@@ -171,47 +155,30 @@ fn frame_of(
     if n <= node {
         return Err(Reason::NoNode.at(node));
     }
-    if frame_outside(n, stmts, args, falls, lists, succ, header, node) {
+    if frame_outside(t, n, header, node) {
         return Err(Reason::Outside.at(0));
     }
-    no_statement(lines, stmts, n, node)?;
-    write_frame(
-        counts, stmts, args, falls, lists, succ, header, node, key, flag, out,
-    )
+    no_statement(lines, t.stmts, n, node)?;
+    write_frame(t, header, node, key, flag, out)
 }
 
 // The frame question (document 01), on any tables.
+// Kept: `count_of`, since std has no conversion from `u32` to `usize` that cannot fail.
 pub fn ask_frame(
-    counts: &[u32; 6],
-    stmts: &[u16],
-    args: &[u64],
-    falls: &[u16],
-    lists: &[u16],
-    succ: &[u16],
+    t: &FrameTables<'_>,
     header: usize,
     node: usize,
     name: &[u8],
     flag: bool,
     out: &mut [u16],
 ) -> Result<usize, Refusal>
-    ensures { FrameAnswered (frame_at (get_or counts.now 0 0) (get_or counts.now 1 0) stmts.now args.now falls.now lists.now succ.now header node name.now flag (length out.old)) out.old out.new result }
+    ensures { FrameAnswered (frame_at (get_or t.now.counts.now 0 0) (get_or t.now.counts.now 1 0) t.now.stmts.now t.now.args.now t.now.falls.now t.now.lists.now t.now.succ.now header node name.now flag (length out.old)) out.old out.new result }
 {
-    if !is_name(name) {
-        return Err(Reason::BadWord.at(0));
-    }
-    frame_of(
-        counts,
-        count_of(counts[0]),
-        count_of(counts[1]),
-        stmts,
-        args,
-        falls,
-        lists,
-        succ,
-        header,
-        node,
-        key_of(name).unwrap_or(0),
-        flag,
-        out,
-    )
+    let key = match key_of(name) {
+        Ok(key) => key,
+        Err(reason) => return Err(reason.at(0)),
+    };
+    let lines = count_of(t.counts[0]);
+    let n = count_of(t.counts[1]);
+    frame_of(t, lines, n, header, node, key, flag, out)
 }

@@ -1,4 +1,5 @@
 // The layout of the lent tables (docs/DECISIONS.md, "Tables"): how many entries a statement has in each, and what stands in them.
+// Kept: forms, tiers and marks are numbers, as entries that C reads.
 // How many entries the table of line entries has for a line: its number, and its node.
 pub const ENTRY_ENTRIES: usize = 2;
 

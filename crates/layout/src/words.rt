@@ -1,4 +1,5 @@
 // The numbers of the opening words: their places in the one table of 28 (specs/Layout checks them against it).
+// Kept: they are entries of the lent tables, which C reads.
 pub const MODULE: u16 = 0;
 
 pub const LINE: u16 = 1;

@@ -26,7 +26,6 @@ EntriesByRows stmts falls links n m rows rows' = (step : ℕ → List ℕ) → O
 pub record ByRowsReady (stmts falls links : List ℕ) (n : ℕ) (calls spans rows : List ℕ) : Type 0 where
   pub calls_ready : CallsReady stmts falls links n calls
   pub spanned : Spanned stmts links calls (length calls) spans
-  pub in_spans : length spans ≡ 8192
   pub in_rows : n * 64 ≤ length rows
 
 -- ---- rows that anyone may have written

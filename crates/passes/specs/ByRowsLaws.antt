@@ -37,7 +37,7 @@ entries_more stmts falls links n m xs ys zs fits s t step o =
 -- the same tables, with other rows
 pub by_rows_again : {stmts falls links : List ℕ} {n : ℕ} {calls spans xs : List ℕ} (ys : List ℕ) → length ys ≡ length xs
     → ByRowsReady stmts falls links n calls spans xs → ByRowsReady stmts falls links n calls spans ys
-by_rows_again ys e r = record { calls_ready = r.calls_ready; spanned = r.spanned; in_spans = r.in_spans; in_rows = omega (arith, r.in_rows) }
+by_rows_again ys e r = record { calls_ready = r.calls_ready; spanned = r.spanned; in_rows = omega (arith, r.in_rows) }
 
 -- ---- steps of rows
 

@@ -398,7 +398,7 @@ module _ (stmts falls links : List ℕ) (step : ℕ → List ℕ) (n : ℕ) wher
 -- the same tables, with other sets
 pub entries_again : {stmts falls links lists edges : List ℕ} {n : ℕ} {calls spans xs : List ℕ} (ys : List ℕ) → length ys ≡ length xs
     → EntriesReady stmts falls links lists edges n calls spans xs → EntriesReady stmts falls links lists edges n calls spans ys
-entries_again ys e r = record { calls_ready = r.calls_ready; spanned = r.spanned; in_spans = r.in_spans; stored = r.stored; in_sets = omega (arith, r.in_sets) }
+entries_again ys e r = record { calls_ready = r.calls_ready; spanned = r.spanned; stored = r.stored; in_sets = omega (arith, r.in_sets) }
 
 -- ---- the RETURNs' lists
 

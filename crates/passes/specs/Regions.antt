@@ -117,6 +117,5 @@ ListedJoined stmts falls links n e l sets sets' = (step : ℕ → List ℕ) → 
 pub record EntriesReady (stmts falls links lists edges : List ℕ) (n : ℕ) (calls spans sets : List ℕ) : Type 0 where
   pub calls_ready : CallsReady stmts falls links n calls
   pub spanned : Spanned stmts links calls (length calls) spans
-  pub in_spans : length spans ≡ 8192
   pub stored : Stored lists edges n (stored_list lists edges)
   pub in_sets : n * 64 ≤ length sets

@@ -16,7 +16,8 @@ use Rattle.passes.specs.OpenerLaws.{in_range}
 use Rattle.passes.specs.EntryColumn.{table_row}
 use Rattle.wiring.specs.WrittenLaws.{held_table}
 use Rattle.passes.specs.TableReads.{fall_of_lem}
-use Rattle.formatting.specs.Pages.{Wrote, wrote_both, each_snoc, pair_text}
+use Rattle.formatting.specs.Printing.{each_snoc}
+use Rattle.formatting.specs.Pages.{Wrote, wrote_both, pair_text}
 use Rattle.formatting.specs.declared.page.Page.{Page}
 use Rattle.printing.specs.PrintedTables.{head_text, lists_text, node_text, some_text, entry_text, back_text, returns_text}
 use Rattle.passes.specs.GraphHeld.{GraphHeld}

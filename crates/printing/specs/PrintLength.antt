@@ -1,8 +1,7 @@
 -- What is written for an input, a text or a saved program, has at most 1,048,576 bytes: a row has so many, and there are so many rows. Assumes nothing.
-use Rattle.std.specs.Prelude.{ℕ, zero, suc, ◌+◌, ◌*◌, ◌/◌, ◌%◌, ◌≤◌, ◌<◌, ◌≡◌, refl, Bool, true, false, ◌&&◌, List, [], ◌∷◌, ◌++◌, leb, length, get_or}
+use Rattle.std.specs.Prelude.{ℕ, zero, suc, ◌+◌, ◌*◌, ◌≤◌, ◌<◌, ◌≡◌, refl, Bool, true, false, ◌&&◌, List, [], ◌∷◌, ◌++◌, leb, length, get_or}
 use Rattle.std.proofs.Common.{sym, ap, ◌∙◌, arith, suc-mul, leb→le}
 use Rattle.std.proofs.Math.Option.{Option, none, some}
-use Rattle.std.proofs.Math.Decide.{dec_lt}
 use Rattle.std.proofs.Math.ListN.{length-append}
 use Rattle.listings.specs.Bytes.{bytes, decimal, pick}
 use Rattle.listings.specs.Listing.{Listing, total, count}
@@ -11,7 +10,6 @@ use Rattle.program_files.specs.Program.{read_program}
 use Rattle.program_files.specs.Inputs.{meaning}
 use Rattle.program_laws.specs.Accepted.{ProgramNumber, too_long, of_line, ended, foreign_byte, misses, program_within, program-numbers}
 use Rattle.program_laws.specs.Extent.{program_places}
-use Rattle.listing_laws.specs.NumberText.{decimal_small, decimal_more}
 use Rattle.listings.specs.Every.{All, all[], all∷}
 use Rattle.listings.specs.Read.{Answer, listing, refusal}
 use Rattle.listings.specs.Cut.{meant}
@@ -24,6 +22,7 @@ use Rattle.graph_laws.specs.Distinct.{dist[], few, distinct_all}
 use Rattle.graph.specs.Graph.{Role, call, returns, forgets, steps, no_node, Wired, wire, role, fall_from, continuation_by, continuation, return_targets, successors, all_successors, predecessors_in}
 use Rattle.graph_laws.specs.GraphLaws.{node_count, entry_ids, continuation-ids, target-ids, lists_ok}
 use Rattle.graph_laws.specs.NodeBounds.{Small, NodeShort, all_get, pred_ids, below_all, entry_numbers, below-le, all_both, node_count_lem, small, nodes-short}
+use Rattle.formatting.specs.Digits.{tens, decimal-length}
 use Rattle.graph.specs.Print.{spaced, joined, node_row, node_rows, entry_row, back_row, printed, printed_refusal}
 use Rattle.graph.specs.Build.{lengths, edge_count, Capacity, graph, refused, fitted, built_of_answer, build, written, limits, flowlist}
 use Rattle.graph_laws.specs.Numbers.{read_refusal}
@@ -33,23 +32,6 @@ use Rattle.passes.specs.Predecessors.{preds_of, preds_at, length_preds, preds_to
 use Rattle.passes.specs.EdgeCount.{edges-joined}
 
 -- ---- numbers
-
-unfoldable tens : ℕ → ℕ
-tens zero = 1
-tens (suc k) = tens k * 10
-
--- a number below 10, 100, .. has at most 1, 2, .. digits
-decimal-length : (k n : ℕ) → n < tens (suc k) → length (decimal n) ≤ suc k
-unfolding tens
-decimal-length zero n h = omega (arith, ap length (decimal_small n (omega arith)))
-decimal-length (suc k) n h =
-    elim (dec_lt n 10) [
-      | yes g ↦ omega (arith, ap length (decimal_small n g))
-      | no g ↦ let a = n / 10 in let d = n % 10 in
-          let z : a * 10 + d ≡ n = omega arith in
-          let f = ap length (sym (ap decimal z) ∙ decimal_more a d (omega arith) (omega arith)) in
-          omega (arith, f, length-append (decimal a) ((48 + d) ∷ []), decimal-length k a (omega arith))
-    ]
 
 -- node ids, line indices and path numbers have at most 4 digits
 id_length : (n : ℕ) → n ≤ 4096 → length (decimal n) ≤ 4

@@ -8,6 +8,7 @@ use crate::print_nodes::put_nodes;
 use formatting::page::Page;
 use layout::columns::{ENTRY_ENTRIES, ENTRY_NODE, ENTRY_NUMBER, FALL_ENTRIES, STMT_ENTRIES};
 use tables::calls::is_call;
+use tables::graphs::Graph;
 
 // The row of a number with a node, one more than its id, or nothing where it is 0.
 fn put_some(page: &mut Page<'_>, word: &[u8], a: usize, e: u16)
@@ -72,29 +73,15 @@ fn put_returns(page: &mut Page<'_>, returns: &[u16], targets: usize)
 }
 
 // Prints the graph that the tables hold, of so many entry rows, n nodes and so many return targets.
-pub(crate) fn print_graph(
-    counts: &[u32; 6],
-    lines: &[u16],
-    stmts: &[u16],
-    entries: &[u16],
-    falls: &[u16],
-    lists: &[u16],
-    returns: &[u16],
-    succ: &[u16],
-    pred: &[u16],
-    rows: usize,
-    n: usize,
-    targets: usize,
-    page: &mut Page<'_>,
-)
-    requires { SomeGraph lines.now stmts.now entries.now falls.now lists.now returns.now succ.now pred.now rows n targets × (n ≡ get_or counts.now 1 0) }
-    ensures { GraphWrote lines.now stmts.now entries.now falls.now lists.now returns.now succ.now pred.now rows n targets page.old page.new }
+pub(crate) fn print_graph(g: &Graph<'_>, rows: usize, n: usize, targets: usize, page: &mut Page<'_>)
+    requires { SomeGraph g.now.lines.now g.now.stmts.now g.now.entries.now g.now.falls.now g.now.lists.now g.now.returns.now g.now.succ.now g.now.pred.now rows n targets × (n ≡ get_or g.now.counts.now 1 0) }
+    ensures { GraphWrote g.now.lines.now g.now.stmts.now g.now.entries.now g.now.falls.now g.now.lists.now g.now.returns.now g.now.succ.now g.now.pred.now rows n targets page.old page.new }
 {
     page.put_pair(b"(graph", 0, n);
     page.put_bytes(b"\n");
-    put_nodes(page, counts, lines, stmts, lists, succ, pred, n);
-    put_entries(page, entries, rows);
-    put_returns(page, returns, targets);
-    put_backs(page, stmts, falls, n);
+    put_nodes(page, g, n);
+    put_entries(page, g.entries, rows);
+    put_returns(page, g.returns, targets);
+    put_backs(page, g.stmts, g.falls, n);
     page.put_bytes(b")\n");
 }

@@ -10,6 +10,7 @@ use adjacency::successors::{predecessors, successors};
 use formatting::page::Page;
 use layout::columns::{HOLDER, INDEX, LINE, STMT_ENTRIES};
 use layout::limits::MAX_DEPTH;
+use tables::graphs::Graph;
 
 // The path of node i among n: that of the IF that holds it, and then its own number. It goes up through `left` IFs at most.
 fn put_path(page: &mut Page<'_>, stmts: &[u16], n: usize, i: usize, left: usize)
@@ -47,60 +48,34 @@ fn put_list(page: &mut Page<'_>, word: &[u8], list: &[u16])
 }
 
 // Both lists of node i, which are parts of the edge tables, and the end of the row.
-fn put_lists(
-    page: &mut Page<'_>,
-    counts: &[u32; 6],
-    lists: &[u16],
-    succ: &[u16],
-    pred: &[u16],
-    i: usize,
-)
-    requires { (i < get_or counts.now 1 0) × (get_or counts.now 1 0 * 4 ≤ length lists.now) × (succ_start lists.now i + succ_count lists.now i ≤ length succ.now) × (pred_start lists.now i + pred_count lists.now i ≤ length pred.now) }
-    ensures { Wrote page.old page.new (lists_text (succ_part lists.now succ.now i) (pred_part lists.now pred.now i)) }
+fn put_lists(page: &mut Page<'_>, g: &Graph<'_>, i: usize)
+    requires { (i < get_or g.now.counts.now 1 0) × (get_or g.now.counts.now 1 0 * 4 ≤ length g.now.lists.now) × (succ_start g.now.lists.now i + succ_count g.now.lists.now i ≤ length g.now.succ.now) × (pred_start g.now.lists.now i + pred_count g.now.lists.now i ≤ length g.now.pred.now) }
+    ensures { Wrote page.old page.new (lists_text (succ_part g.now.lists.now g.now.succ.now i) (pred_part g.now.lists.now g.now.pred.now i)) }
 {
-    let own = successors(counts, lists, succ, i);
-    let before = predecessors(counts, lists, pred, i);
+    let own = successors(g.counts, g.lists, g.succ, i);
+    let before = predecessors(g.counts, g.lists, g.pred, i);
     put_list(page, b") (succ", own);
     put_list(page, b") (pred", before);
     page.put_bytes(b"))\n");
 }
 
 // The row of node i.
-fn put_node(
-    page: &mut Page<'_>,
-    counts: &[u32; 6],
-    lines: &[u16],
-    stmts: &[u16],
-    lists: &[u16],
-    succ: &[u16],
-    pred: &[u16],
-    n: usize,
-    i: usize,
-)
-    requires { (i < n) × NodesReadable lines.now stmts.now lists.now succ.now pred.now n × (n ≡ get_or counts.now 1 0) }
-    ensures { Wrote page.old page.new (node_text lines.now stmts.now lists.now succ.now pred.now i) }
+fn put_node(page: &mut Page<'_>, g: &Graph<'_>, n: usize, i: usize)
+    requires { (i < n) × NodesReadable g.now.lines.now g.now.stmts.now g.now.lists.now g.now.succ.now g.now.pred.now n × (n ≡ get_or g.now.counts.now 1 0) }
+    ensures { Wrote page.old page.new (node_text g.now.lines.now g.now.stmts.now g.now.lists.now g.now.succ.now g.now.pred.now i) }
 {
-    let line = usize::from(stmts[i * STMT_ENTRIES + LINE]);
-    put_head(page, i, usize::from(lines[line]), line);
-    put_path(page, stmts, n, i, MAX_DEPTH);
-    put_lists(page, counts, lists, succ, pred, i);
+    let line = usize::from(g.stmts[i * STMT_ENTRIES + LINE]);
+    put_head(page, i, usize::from(g.lines[line]), line);
+    put_path(page, g.stmts, n, i, MAX_DEPTH);
+    put_lists(page, g, i);
 }
 
 // The rows of n nodes.
-pub(crate) fn put_nodes(
-    page: &mut Page<'_>,
-    counts: &[u32; 6],
-    lines: &[u16],
-    stmts: &[u16],
-    lists: &[u16],
-    succ: &[u16],
-    pred: &[u16],
-    n: usize,
-)
-    requires { NodesReadable lines.now stmts.now lists.now succ.now pred.now n × (n ≡ get_or counts.now 1 0) }
-    ensures { Wrote page.old page.new (each (node_text lines.now stmts.now lists.now succ.now pred.now) (below n)) }
+pub(crate) fn put_nodes(page: &mut Page<'_>, g: &Graph<'_>, n: usize)
+    requires { NodesReadable g.now.lines.now g.now.stmts.now g.now.lists.now g.now.succ.now g.now.pred.now n × (n ≡ get_or g.now.counts.now 1 0) }
+    ensures { Wrote page.old page.new (each (node_text g.now.lines.now g.now.stmts.now g.now.lists.now g.now.succ.now g.now.pred.now) (below n)) }
 {
     for i in 0..n {
-        put_node(page, counts, lines, stmts, lists, succ, pred, n, i);
+        put_node(page, g, n, i);
     }
 }

@@ -4,4 +4,3 @@ pub mod StmtText
 pub mod Printable
 pub mod RowTexts
 pub mod TextLength
-pub mod Limits

@@ -1,10 +1,9 @@
 -- The text of a saved program's listing is short: a row has so many bytes, and there are so many rows. Assumes nothing.
-use Rattle.std.specs.Prelude.{ℕ, zero, suc, ◌+◌, ◌*◌, ◌/◌, ◌%◌, ◌≤◌, ◌<◌, ◌≡◌, refl, List, [], ◌∷◌, ◌++◌, map, Bool, true, false, length}
+use Rattle.std.specs.Prelude.{ℕ, suc, ◌+◌, ◌*◌, ◌≤◌, ◌≡◌, refl, List, [], ◌∷◌, ◌++◌, map, Bool, true, false, length}
 use Rattle.std.proofs.Common.{sym, ap, ◌∙◌, append_assoc, arith}
 use Rattle.std.proofs.lemmas.List.{length-map}
 use Rattle.std.proofs.Math.Option.{none, some}
 use Rattle.std.proofs.Math.ListN.{length-append}
-use Rattle.std.proofs.Math.Decide.{dec_lt}
 use Rattle.listings.specs.Bytes.{bytes, decimal}
 use Rattle.listings.specs.Listing.{Tier, static, framed, dispatched, Mark, orphan, Slot, goto, gosub, runto, ongoto, ongosub, repeat, loop, until, endloop, exit, exitif, doif, else, done, BareWord, return, run, clr, stop, any, Simple, jump, on, for, next, block, bare, CondWord, if, ifelse, rcomp, BranchForm, to, stmts, absent, Stmts, ∅, ◌▸◌, branching, Lines, nolines, line, Listing, size, total, count}
 use Rattle.listings.specs.Rows.{parsed, Content, end_row, stmts_row, module_row, line_row, to_row, simple_row, cond_row}
@@ -13,8 +12,8 @@ use Rattle.listings.specs.Records.{slot_key, args_of}
 use Rattle.listings.specs.Every.{All, all[], all∷}
 use Rattle.listings.specs.Cut.{cut_simple, cut_stmts, cut_lines, cut_listing}
 use Rattle.listing_laws.specs.Contents.{text_by, row_text, branch_contents, stmt_contents, line_contents, contents}
-use Rattle.listing_laws.specs.NumberText.{decimal_small, decimal_more}
 use Rattle.graph.specs.Lists.{each}
+use Rattle.formatting.specs.Digits.{tens, decimal-length}
 use Rattle.graph.specs.Print.{spaced, printed_refusal}
 use Rattle.program_text.specs.StmtText.{SlotPrints, Prints}
 use Rattle.listings.specs.Read.{Answer, listing, refusal}
@@ -25,23 +24,6 @@ use Rattle.program_text.specs.Listed.{answer_text, prglist}
 use Rattle.program_text.specs.Printable.{StmtPrints, stmt_prints, lines_cut, rows_text, listing_rows_text}
 
 -- ---- numbers
-
-unfoldable tens : ℕ → ℕ
-tens zero = 1
-tens (suc k) = tens k * 10
-
--- a number below 10, 100, .. has at most 1, 2, .. digits
-decimal-length : (k n : ℕ) → n < tens (suc k) → length (decimal n) ≤ suc k
-unfolding tens
-decimal-length zero n h = omega (arith, ap length (decimal_small n (omega arith)))
-decimal-length (suc k) n h =
-    elim (dec_lt n 10) [
-      | yes g ↦ omega (arith, ap length (decimal_small n g))
-      | no g ↦ let a = n / 10 in let d = n % 10 in
-          let z : a * 10 + d ≡ n = omega arith in
-          let f = ap length (sym (ap decimal z) ∙ decimal_more a d (omega arith) (omega arith)) in
-          omega (arith, f, length-append (decimal a) ((48 + d) ∷ []), decimal-length k a (omega arith))
-    ]
 
 number_length : (n : ℕ) → NumberOk n → length (decimal n) ≤ 5
 unfolding tens

@@ -5,7 +5,7 @@ ghost use Rattle.listings.specs.Rows.{module_row};
 ghost use Rattle.formatting.specs.Printing.{Puts};
 ghost use Rattle.basic.specs.Rows.{lines_at};
 ghost use Rattle.program_text.specs.Listed.{prglist};
-ghost use Rattle.program_text.specs.Limits.{Whole};
+ghost use Rattle.formatting.specs.Whole.{Whole};
 ghost use Rattle.program_text.specs.Printable.{Printable, rows_text};
 
 use super::rows::put_row;

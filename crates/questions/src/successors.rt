@@ -6,6 +6,7 @@ ghost use Rattle.adjacency.specs.ListsAt.{successors_at, predecessors_at, part_o
 use layout::refusals::Refusal;
 
 // The successors: that part of the lent edge table; empty where the question is refused.
+// Kept: two public names, each thin over one function.
 pub fn successors<'a>(counts: &[u32; 6], lists: &[u16], succ: &'a [u16], node: usize) -> &'a [u16]
     ensures { result.now ≡ part_of (successors_at counts.now lists.now (length succ.now) node) succ.now }
 {
@@ -13,6 +14,7 @@ pub fn successors<'a>(counts: &[u32; 6], lists: &[u16], succ: &'a [u16], node: u
 }
 
 // The predecessors, as the successors.
+// Kept: two public names, each thin over one function.
 pub fn predecessors<'a>(counts: &[u32; 6], lists: &[u16], pred: &'a [u16], node: usize) -> &'a [u16]
     ensures { result.now ≡ part_of (predecessors_at counts.now lists.now (length pred.now) node) pred.now }
 {
@@ -20,6 +22,7 @@ pub fn predecessors<'a>(counts: &[u32; 6], lists: &[u16], pred: &'a [u16], node:
 }
 
 // Where that part stands, start and length, or the refusal.
+// Kept: two public names, each thin over one function.
 pub fn ask_successors(
     counts: &[u32; 6],
     lists: &[u16],
@@ -32,6 +35,7 @@ pub fn ask_successors(
 }
 
 // The same of the predecessors.
+// Kept: two public names, each thin over one function.
 pub fn ask_predecessors(
     counts: &[u32; 6],
     lists: &[u16],

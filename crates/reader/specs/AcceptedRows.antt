@@ -1,5 +1,5 @@
 -- The rows of an accepted text: each is in form, so that less has to be judged when it is read again. Assumes nothing.
-use Rattle.std.specs.Prelude.{ℕ, ◌-◌, ◌≤◌, ◌<◌, ◌≡◌, refl, List, [], ◌∷◌, Bool, true, false, eqb, ltb, leb, length, get_or, take, drop, Option as Maybe, Some, None, Result, Ok, Err}
+use Rattle.std.specs.Prelude.{ℕ, ◌-◌, ◌≤◌, ◌<◌, ◌≡◌, refl, List, [], ◌∷◌, Bool, true, false, eqb, ltb, leb, length, get_or, take, drop, Option as Maybe, Some, None, Ok, Err}
 use Rattle.std.proofs.Common.{sym, ap, ◌∙◌, subst, arith, eqb-true}
 use Rattle.std.proofs.Math.Option.{Option, none, some}
 use Rattle.std.proofs.Math.Decide.{dec_lt}
@@ -9,79 +9,84 @@ use Rattle.listings.specs.Rows.{split, are_words, form_row, row_of, lookup, Pars
 use Rattle.listings.specs.WordTable.{word_index}
 use Rattle.listing_laws.specs.WordSlots.{candidate_of, own_candidate}
 use Rattle.listings.specs.Scan.{index_of, after}
-use Rattle.tokens.specs.Arguments.{check_kind}
+use Rattle.tokens.specs.Arguments.{Verdict, check_kind}
 use Rattle.tokens.specs.Kinds.{opened_kind, opened_past}
 use Rattle.tokens.specs.declared.words.Kind.{Kind}
 use Rattle.tokens.specs.declared.words.Kind.TheVariants as kind
-use Rattle.layout.specs.declared.refusals.Reason.{Reason}
-use Rattle.reader.specs.CodedRows.{place_number, as_line, as_to, as_row, simple_by, closed_args, opened_args, args_row, closed_bare, opened_bare, bare_row, closed_others, form_false, form_one, form_more, row_empty, row_end, row_bad}
-use Rattle.reader.specs.Machine.{may_branch, one_more, step_simple, step_row}
+use Rattle.reader.specs.CodedRows.{place_number, as_line, as_to, as_row, Said, simple_of, closed_args, opened_args, args_row, closed_bare, opened_bare, bare_row, closed_others, form_false, form_one, form_more, row_empty, row_end, row_bad}
+use Rattle.reader.specs.Machine.{one_more, step_simple, step_row}
 use Rattle.reader.specs.declared.machine.State.{State}
 use Rattle.reader.specs.declared.rows.Position.TheVariants as at
+use Rattle.reader.specs.declared.rows.Misfit.{Misfit}
+use Rattle.reader.specs.declared.rows.Cond.TheVariants as cond
 use Rattle.layout.specs.declared.refusals.Reason.TheVariants as reason
-use Rattle.reader.specs.declared.rows.Row.{Row}
 use Rattle.reader.specs.declared.rows.Row.TheVariants as row
 
 -- a form, with no bad number or name
-abbrev pub WellFormed : Row → Type 0
-WellFormed (row.Refused n p) = ⊥
-WellFormed row.End = Unit {0}
-WellFormed row.Stmts = Unit {0}
-WellFormed (row.Module h) = Unit {0}
-WellFormed (row.Line n) = Unit {0}
-WellFormed (row.To n) = Unit {0}
-WellFormed (row.Simple k n) = Unit {0}
-WellFormed (row.Cond k) = Unit {0}
+abbrev pub WellFormed : Said → Type 0
+WellFormed (Err m) = ⊥
+WellFormed (Ok row.End) = Unit {0}
+WellFormed (Ok row.Stmts) = Unit {0}
+WellFormed (Ok (row.Module h)) = Unit {0}
+WellFormed (Ok (row.Line n)) = Unit {0}
+WellFormed (Ok (row.To n)) = Unit {0}
+WellFormed (Ok (row.Simple k n)) = Unit {0}
+WellFormed (Ok (row.Cond k)) = Unit {0}
 
 -- a statement without how many numbers or slots it lists
-abbrev pub uncounted : Row → Row
-uncounted (row.Refused n p) = row.Refused n p
-uncounted row.End = row.End
-uncounted row.Stmts = row.Stmts
-uncounted (row.Module h) = row.Module h
-uncounted (row.Line n) = row.Line n
-uncounted (row.To n) = row.To n
-uncounted (row.Simple k n) = row.Simple k 0
-uncounted (row.Cond k) = row.Cond k
+abbrev pub uncounted : Said → Said
+uncounted (Err m) = Err m
+uncounted (Ok row.End) = Ok row.End
+uncounted (Ok row.Stmts) = Ok row.Stmts
+uncounted (Ok (row.Module h)) = Ok (row.Module h)
+uncounted (Ok (row.Line n)) = Ok (row.Line n)
+uncounted (Ok (row.To n)) = Ok (row.To n)
+uncounted (Ok (row.Simple k n)) = Ok (row.Simple k 0)
+uncounted (Ok (row.Cond k)) = Ok (row.Cond k)
+
+pub formed_ok : (d : Said) (m : Misfit) → WellFormed d → uncounted d ≡ Err m → ⊥
+formed_ok (Err m) n f e = f
+formed_ok (Ok row.End) m f e = cc
+formed_ok (Ok row.Stmts) m f e = cc
+formed_ok (Ok (row.Module h)) m f e = cc
+formed_ok (Ok (row.Line n)) m f e = cc
+formed_ok (Ok (row.To n)) m f e = cc
+formed_ok (Ok (row.Simple k n)) m f e = cc
+formed_ok (Ok (row.Cond k)) m f e = cc
 
 -- ---- what is taken is in form, and is taken without its count
 
-not_taken : (a b : Bool) (n : Reason) (v : State) → pick a (pick b (Err n) (Err reason.NotAForm)) (Err reason.NotAForm) ≡ Ok v → ⊥
-not_taken true true n v e = cc
-not_taken true false n v e = cc
-not_taken false b n v e = cc
-
-pub taken_formed : (s v : State) (d : Row) → step_row s d ≡ Ok v → WellFormed d
-taken_formed s v (row.Refused n p) e = not_taken (eqb (place_number s.position) (place_number p)) (may_branch s.word s.branches) n v e
-taken_formed s v row.End e = tt
-taken_formed s v row.Stmts e = tt
-taken_formed s v (row.Module h) e = tt
-taken_formed s v (row.Line n) e = tt
-taken_formed s v (row.To n) e = tt
-taken_formed s v (row.Simple k n) e = tt
-taken_formed s v (row.Cond k) e = tt
+pub taken_formed : (s v : State) (d : Said) → step_row s d ≡ Ok v → WellFormed d
+taken_formed s v (Err m) e = cc
+taken_formed s v (Ok row.End) e = tt
+taken_formed s v (Ok row.Stmts) e = tt
+taken_formed s v (Ok (row.Module h)) e = tt
+taken_formed s v (Ok (row.Line n)) e = tt
+taken_formed s v (Ok (row.To n)) e = tt
+taken_formed s v (Ok (row.Simple k n)) e = tt
+taken_formed s v (Ok (row.Cond k)) e = tt
 
 simple_uncounted : (s v : State) (n : ℕ) → step_simple s n ≡ Ok v → step_simple s 0 ≡ Ok v
 simple_uncounted s v n = go (eqb (place_number s.position) 3) (ltb s.stmts 4096) (leb s.depth 16) (leb n 64)
   where
     go : (a b c d : Bool)
-        → pick a (pick b (pick c (pick d (Ok (one_more s at.InStmts 0)) (Err reason.TooWide)) (Err reason.TooDeep)) (Err reason.TooManyStatements)) (Err reason.NotAForm) ≡ Ok v
-        → pick a (pick b (pick c (Ok (one_more s at.InStmts 0)) (Err reason.TooDeep)) (Err reason.TooManyStatements)) (Err reason.NotAForm) ≡ Ok v
+        → pick a (pick b (pick c (pick d (Ok (one_more s at.InStmts cond.If)) (Err reason.TooWide)) (Err reason.TooDeep)) (Err reason.TooManyStatements)) (Err reason.NotAForm) ≡ Ok v
+        → pick a (pick b (pick c (Ok (one_more s at.InStmts cond.If)) (Err reason.TooDeep)) (Err reason.TooManyStatements)) (Err reason.NotAForm) ≡ Ok v
     go false b c d e = e
     go true false c d e = e
     go true true false d e = e
     go true true true true e = e
     go true true true false e = cc
 
-pub taken-uncounted : (s v : State) (d : Row) → step_row s d ≡ Ok v → step_row s (uncounted d) ≡ Ok v
-taken-uncounted s v (row.Refused n p) e = e
-taken-uncounted s v row.End e = e
-taken-uncounted s v row.Stmts e = e
-taken-uncounted s v (row.Module h) e = e
-taken-uncounted s v (row.Line n) e = e
-taken-uncounted s v (row.To n) e = e
-taken-uncounted s v (row.Simple k n) e = simple_uncounted s v n e
-taken-uncounted s v (row.Cond k) e = e
+pub taken-uncounted : (s v : State) (d : Said) → step_row s d ≡ Ok v → step_row s (uncounted d) ≡ Ok v
+taken-uncounted s v (Err m) e = e
+taken-uncounted s v (Ok row.End) e = e
+taken-uncounted s v (Ok row.Stmts) e = e
+taken-uncounted s v (Ok (row.Module h)) e = e
+taken-uncounted s v (Ok (row.Line n)) e = e
+taken-uncounted s v (Ok (row.To n)) e = e
+taken-uncounted s v (Ok (row.Simple k n)) e = simple_uncounted s v n e
+taken-uncounted s v (Ok (row.Cond k)) e = e
 
 -- ---- the words after an opening word
 
@@ -124,14 +129,14 @@ pub closed_to : (k : ℕ) (ws : List (List ℕ)) → as_to (single ws) ≡ uncou
 unfolding closed_args
 closed_to k ws = to_same (single ws)
 
-simple_formed : (k : ℕ) (t : Result ℕ Reason) → WellFormed (simple_by k t) → row.Simple k 0 ≡ uncounted (simple_by k t)
-simple_formed k (Ok n) h = refl
-simple_formed k (Err r) h = absurd h
+simple_formed : (k n : ℕ) (v : Verdict) → WellFormed (simple_of k n v) → Ok (row.Simple k 0) ≡ uncounted (simple_of k n v)
+simple_formed k n (Ok u) h = refl
+simple_formed k n (Err r) h = absurd h
 
-pub closed_simple : (g : Kind) (k : ℕ) (ws : List (List ℕ)) → (g ≡ kind.To → ⊥) → WellFormed (closed_args g k ws) → row.Simple k 0 ≡ uncounted (closed_args g k ws)
+pub closed_simple : (g : Kind) (k : ℕ) (ws : List (List ℕ)) → (g ≡ kind.To → ⊥) → WellFormed (closed_args g k ws) → Ok (row.Simple k 0) ≡ uncounted (closed_args g k ws)
 closed_simple g k ws h f =
     let e = closed_others g k ws h in
-    simple_formed k (check_kind g ws) (subst WellFormed (sym e) f) ∙ ap uncounted e
+    simple_formed k (check_kind g ws).count (check_kind g ws).verdict (subst WellFormed (sym e) f) ∙ ap uncounted e
 
 closed_bare_same : (g : Kind) (k : ℕ) → closed_bare g k ≡ uncounted (closed_bare g k)
 unfolding closed_bare
@@ -224,9 +229,9 @@ module _ (s : List ℕ) (formed : WellFormed (as_row (content_of (row_of s)))) w
       go true e = absurd (subst WellFormed (row_empty s (eqb-true (length s) 0 e)) formed)
       go false e = omega (arith, eqb-false (length s) 0 e)
 
-  pub formed_end : (get_or s 0 0 ≡ 40 → ⊥) → row.End ≡ uncounted (as_row (content_of (row_of s)))
+  pub formed_end : (get_or s 0 0 ≡ 40 → ⊥) → Ok row.End ≡ uncounted (as_row (content_of (row_of s)))
   formed_end k = go (same s (41 ∷ [])) refl
     where
-      go : (t : Bool) → same s (41 ∷ []) ≡ t → row.End ≡ uncounted (as_row (content_of (row_of s)))
+      go : (t : Bool) → same s (41 ∷ []) ≡ t → Ok row.End ≡ uncounted (as_row (content_of (row_of s)))
       go true e = ap uncounted (sym (row_end s formed_some k e))
       go false e = absurd (subst WellFormed (row_bad s formed_some k e) formed)

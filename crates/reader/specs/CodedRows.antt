@@ -1,6 +1,5 @@
 -- What a row says, as the code answers it, and how the code finds it. Assumes nothing.
 use Rattle.std.specs.Prelude.{ℕ, zero, suc, ◌+◌, ◌-◌, ◌≤◌, ◌<◌, ◌≡◌, refl, List, [], ◌∷◌, Bool, true, false, eqb, length, get_or, take, drop, Option as Maybe, Some, None, Result, Ok, Err}
-use Rattle.std.specs.Result.{result_and}
 use Rattle.std.proofs.Common.{sym, ◌∙◌, subst, arith, not-suc-le-zero, take_all, eq-eqb, ne_eqb, eqb-true}
 use Rattle.std.proofs.Math.Path.{ap}
 use Rattle.std.proofs.Math.Option.{Option, none, some}
@@ -13,7 +12,8 @@ use Rattle.listings.specs.ListingText.{jump_word, on_word, simple_word}
 use Rattle.listings.specs.WordTable.{words, forms, first, word_index, content_at}
 use Rattle.listings.specs.Scan.{index_of, split_last, split-some, after, split_alone, split-first}
 use Rattle.tokens.specs.Numbers.{as_number}
-use Rattle.tokens.specs.Arguments.{Verdict, verdict, refusal_by, lowest, lowest_of, lowest_counted, check_for, check_next, check_kind, refusal_with, numbers_refusal, slots_refusal}
+use Rattle.tokens.specs.Arguments.{Verdict, verdict, lowest, check_for, check_next, check_kind, refusal_with, numbers_refusal, slots_refusal}
+use Rattle.tokens.specs.declared.arguments.Checked.{Checked}
 use Rattle.tokens.specs.Kinds.{form_kind, kind_found, opened_kind}
 use Rattle.tokens.specs.declared.words.Kind.{Kind}
 use Rattle.tokens.specs.declared.words.Kind.TheVariants as kind
@@ -21,6 +21,11 @@ use Rattle.layout.specs.declared.refusals.Reason.{Reason}
 use Rattle.layout.specs.declared.refusals.Reason.TheVariants as reason
 use Rattle.reader.specs.declared.rows.Position.{Position as Place}
 use Rattle.reader.specs.declared.rows.Position.TheVariants as at
+use Rattle.reader.specs.declared.rows.Misfit.{Misfit}
+use Rattle.reader.specs.declared.rows.Cond.{Cond}
+use Rattle.reader.specs.declared.rows.Cond.TheVariants as cond
+use Rattle.reader.specs.declared.rows.Bracket.{Bracket}
+use Rattle.reader.specs.declared.rows.Bracket.TheVariants as bracket
 use Rattle.reader.specs.declared.rows.Row.{Row}
 use Rattle.reader.specs.declared.rows.Row.TheVariants as row
 
@@ -43,49 +48,72 @@ numbered : Unit {0}
 unfolding word_index words first opening_words bytes same simple_word
 numbered = tt
 
-unfoldable pub cond_number : CondWord → ℕ
-cond_number if = 0
-cond_number ifelse = 1
-cond_number rcomp = 2
+abbrev pub as_cond : CondWord → Cond
+as_cond if = cond.If
+as_cond ifelse = cond.IfElse
+as_cond rcomp = cond.Rcomp
+
+abbrev pub cond_index : Cond → ℕ
+cond_index cond.If = 0
+cond_index cond.IfElse = 1
+cond_index cond.Rcomp = 2
+
+abbrev pub cond_by : ℕ → Cond
+cond_by n = pick (eqb n 0) cond.If (pick (eqb n 1) cond.IfElse cond.Rcomp)
+
+abbrev pub cond_number : CondWord → ℕ
+cond_number k = cond_index (as_cond k)
+
+pub cond_back : (k : CondWord) → cond_by (cond_number k) ≡ as_cond k
+cond_back if = refl
+cond_back ifelse = refl
+cond_back rcomp = refl
+
+-- a row, or why it is refused where such a row is due
+abbrev pub Said : Type 0
+Said = Result Row Misfit
+
+abbrev pub misfit : Reason → Place → Said
+misfit r p = Err (record { reason = r; due = p })
 
 -- "2 not a form", wherever it stands
-abbrev pub no_row : Row
-no_row = row.Refused reason.NotAForm at.InStmts
+abbrev pub no_row : Said
+no_row = misfit reason.NotAForm at.InStmts
 
-abbrev pub as_line : Parse ℕ → Row
-as_line malformed = row.Refused reason.NotAForm at.InModule
-as_line invalid = row.Refused reason.BadWord at.InModule
-as_line (parsed n) = row.Line n
+abbrev pub as_line : Parse ℕ → Said
+as_line malformed = misfit reason.NotAForm at.InModule
+as_line invalid = misfit reason.BadWord at.InModule
+as_line (parsed n) = Ok (row.Line n)
 
-abbrev pub as_to : Parse ℕ → Row
-as_to malformed = row.Refused reason.NotAForm at.InCond
-as_to invalid = row.Refused reason.BadWord at.InCond
-as_to (parsed n) = row.To n
+abbrev pub as_to : Parse ℕ → Said
+as_to malformed = misfit reason.NotAForm at.InCond
+as_to invalid = misfit reason.BadWord at.InCond
+as_to (parsed n) = Ok (row.To n)
 
-abbrev pub as_simple : Parse Counted → Row
-as_simple malformed = row.Refused reason.NotAForm at.InStmts
-as_simple invalid = row.Refused reason.BadWord at.InStmts
-as_simple (parsed d) = row.Simple (word_number d.0) d.1
+abbrev pub as_simple : Parse Counted → Said
+as_simple malformed = misfit reason.NotAForm at.InStmts
+as_simple invalid = misfit reason.BadWord at.InStmts
+as_simple (parsed d) = Ok (row.Simple (word_number d.0) d.1)
 
-abbrev pub as_row : Content → Row
+abbrev pub as_row : Content → Said
 as_row no_form = no_row
-as_row end_row = row.End
-as_row stmts_row = row.Stmts
-as_row (module_row h) = row.Module h
+as_row end_row = Ok row.End
+as_row stmts_row = Ok row.Stmts
+as_row (module_row h) = Ok (row.Module h)
 as_row (line_row n) = as_line n
 as_row (to_row n) = as_to n
 as_row (simple_row o) = as_simple o
-as_row (cond_row k) = row.Cond (cond_number k)
+as_row (cond_row k) = Ok (row.Cond (as_cond k))
 
 -- ---- by the code's number, and by the check of the words
 
-abbrev pub to_by_number : Result ℕ Reason → Row
-to_by_number (Err r) = row.Refused r at.InCond
-to_by_number (Ok n) = row.To n
+abbrev pub to_by_number : Result ℕ Reason → Said
+to_by_number (Err r) = misfit r at.InCond
+to_by_number (Ok n) = Ok (row.To n)
 
-abbrev pub line_by_number : Result ℕ Reason → Row
-line_by_number (Err r) = row.Refused r at.InModule
-line_by_number (Ok n) = row.Line n
+abbrev pub line_by_number : Result ℕ Reason → Said
+line_by_number (Err r) = misfit r at.InModule
+line_by_number (Ok n) = Ok (row.Line n)
 
 pub to_by_number_lem : (g : Parse ℕ) → to_by_number (as_number g) ≡ as_to g
 to_by_number_lem malformed = refl
@@ -97,14 +125,21 @@ line_by_number_lem malformed = refl
 line_by_number_lem invalid = refl
 line_by_number_lem (parsed n) = refl
 
-abbrev pub simple_by : ℕ → Result ℕ Reason → Row
-simple_by k (Ok n) = row.Simple k n
-simple_by k (Err r) = row.Refused r at.InStmts
+abbrev pub simple_of : ℕ → ℕ → Verdict → Said
+simple_of k n (Ok u) = Ok (row.Simple k n)
+simple_of k n (Err r) = misfit r at.InStmts
+
+abbrev pub simple_by : ℕ → Checked → Said
+simple_by k c = simple_of k c.count c.verdict
 
 -- ---- by the kind and the number k of the opening word
 
+abbrev pub is_closed : Bracket → Bool
+is_closed bracket.Closed = true
+is_closed bracket.Open = false
+
 -- a closed form with words after the opening one
-unfoldable pub closed_args : Kind → ℕ → List (List ℕ) → Row
+unfoldable pub closed_args : Kind → ℕ → List (List ℕ) → Said
 closed_args kind.Module k ws = simple_by k (check_kind kind.Module ws)
 closed_args kind.Line k ws = simple_by k (check_kind kind.Line ws)
 closed_args kind.To k ws = as_to (single ws)
@@ -118,7 +153,7 @@ closed_args kind.For k ws = simple_by k (check_kind kind.For ws)
 closed_args kind.Next k ws = simple_by k (check_kind kind.Next ws)
 
 -- one that is not closed
-unfoldable pub opened_args : Kind → List (List ℕ) → Row
+unfoldable pub opened_args : Kind → List (List ℕ) → Said
 opened_args kind.Module ws = as_row (module_content ws)
 opened_args kind.Line ws = as_line (single ws)
 opened_args kind.To ws = no_row
@@ -131,31 +166,31 @@ opened_args kind.Run ws = no_row
 opened_args kind.For ws = no_row
 opened_args kind.Next ws = no_row
 
-unfoldable pub args_row : Maybe Kind → ℕ → Bool → List (List ℕ) → Row
+unfoldable pub args_row : Maybe Kind → ℕ → Bool → List (List ℕ) → Said
 args_row None k c ws = no_row
 args_row (Some g) k true ws = closed_args g k ws
 args_row (Some g) k false ws = opened_args g ws
 
 -- a form of the opening word alone, closed or not
-unfoldable pub closed_bare : Kind → ℕ → Row
+unfoldable pub closed_bare : Kind → ℕ → Said
 closed_bare kind.Module k = no_row
 closed_bare kind.Line k = no_row
-closed_bare kind.To k = row.Refused reason.NotAForm at.InCond
+closed_bare kind.To k = misfit reason.NotAForm at.InCond
 closed_bare kind.Stmts k = no_row
 closed_bare kind.Cond k = no_row
-closed_bare kind.Bare k = row.Simple k 0
+closed_bare kind.Bare k = Ok (row.Simple k 0)
 closed_bare kind.Number k = no_row
-closed_bare kind.Numbers k = row.Simple k 0
-closed_bare kind.Run k = row.Simple k 0
+closed_bare kind.Numbers k = Ok (row.Simple k 0)
+closed_bare kind.Run k = Ok (row.Simple k 0)
 closed_bare kind.For k = no_row
 closed_bare kind.Next k = no_row
 
-unfoldable pub opened_bare : Kind → ℕ → Row
+unfoldable pub opened_bare : Kind → ℕ → Said
 opened_bare kind.Module k = no_row
-opened_bare kind.Line k = row.Refused reason.NotAForm at.InModule
+opened_bare kind.Line k = misfit reason.NotAForm at.InModule
 opened_bare kind.To k = no_row
-opened_bare kind.Stmts k = row.Stmts
-opened_bare kind.Cond k = row.Cond (k - 2)
+opened_bare kind.Stmts k = Ok row.Stmts
+opened_bare kind.Cond k = Ok (row.Cond (cond_by (k - 2)))
 opened_bare kind.Bare k = no_row
 opened_bare kind.Number k = no_row
 opened_bare kind.Numbers k = no_row
@@ -163,7 +198,7 @@ opened_bare kind.Run k = no_row
 opened_bare kind.For k = no_row
 opened_bare kind.Next k = no_row
 
-unfoldable pub bare_row : Maybe Kind → ℕ → Bool → Row
+unfoldable pub bare_row : Maybe Kind → ℕ → Bool → Said
 bare_row None k c = no_row
 bare_row (Some g) k true = closed_bare g k
 bare_row (Some g) k false = opened_bare g k
@@ -231,7 +266,7 @@ Numbered k module_form = Unit {0}
 Numbered k line_form = Unit {0}
 Numbered k to_form = Unit {0}
 Numbered k stmts_form = Unit {0}
-Numbered k (cond_form w) = cond_number w ≡ k - 2
+Numbered k (cond_form w) = as_cond w ≡ cond_by (k - 2)
 Numbered k (bare_form o) = word_number o ≡ k
 Numbered k (number_form w) = word_index (jump_word w) ≡ k
 Numbered k (numbers_form w) = word_index (on_word w) ≡ k
@@ -244,7 +279,7 @@ AllNumbered k [] = Unit {0}
 AllNumbered k (h ∷ hs) = Numbered k h × AllNumbered (suc k) hs
 
 forms-numbered : AllNumbered 0 forms
-unfolding AllNumbered Numbered forms cond_number numbered
+unfolding AllNumbered Numbered forms numbered
 forms-numbered = (tt, (tt, (refl, (refl, (refl, (tt, (tt, (refl, (refl, (refl, (refl, (refl, (refl, (refl, (refl, (refl, (refl, (refl, (refl, (refl, (refl, (refl, (refl, (refl, (refl, (refl, (refl, (refl, tt))))))))))))))))))))))))))))
 
 numbered_from : (hs : List Form) (j i : ℕ) → AllNumbered j hs → (h : Form) → get_elem? hs i ≡ some h → Numbered (j + i) h
@@ -264,14 +299,14 @@ numbered_at k h e = let n : 0 + k ≡ k = omega arith in subst (λ (m : ℕ). Nu
 
 -- ---- a form's words
 
-simple_map : {A : Type 0} (f : A → Simple) (k n : ℕ) → ((a : A) → word_number (f a) ≡ k) → (g : Parse A) → as_simple (map_parse (λ a. (f a, n)) g) ≡ simple_by k (result_and (verdict g) (Ok n))
+simple_map : {A : Type 0} (f : A → Simple) (k n : ℕ) → ((a : A) → word_number (f a) ≡ k) → (g : Parse A) → as_simple (map_parse (λ a. (f a, n)) g) ≡ simple_of k n (verdict g)
 unfolding map_parse
 simple_map f k n h malformed = refl
 simple_map f k n h invalid = refl
-simple_map f k n h (parsed a) = ap (λ (z : ℕ). row.Simple z n) (h a)
+simple_map f k n h (parsed a) = ap {B = Said} (λ (z : ℕ). Ok (row.Simple z n)) (h a)
 
 simple_with : {A B : Type 0} (f : A → B → Simple) (k n : ℕ) → ((a : A) (b : B) → word_number (f a b) ≡ k) → (g : Parse A) (d : Parse B)
-    → as_simple (with_parse (λ a b. (f a b, n)) g d) ≡ simple_by k (result_and (lowest (verdict g) (verdict d)) (Ok n))
+    → as_simple (with_parse (λ a b. (f a b, n)) g d) ≡ simple_of k n (lowest (verdict g) (verdict d))
 unfolding with_parse lowest
 simple_with f k n h malformed malformed = refl
 simple_with f k n h malformed invalid = refl
@@ -281,14 +316,14 @@ simple_with f k n h invalid invalid = refl
 simple_with f k n h invalid (parsed b) = refl
 simple_with f k n h (parsed a) malformed = refl
 simple_with f k n h (parsed a) invalid = refl
-simple_with f k n h (parsed a) (parsed b) = ap (λ (z : ℕ). row.Simple z n) (h a b)
+simple_with f k n h (parsed a) (parsed b) = ap {B = Said} (λ (z : ℕ). Ok (row.Simple z n)) (h a b)
 
 for_row : (k : ℕ) → k ≡ 13 → (ws : List (List ℕ)) → as_simple (for_stmt ws) ≡ simple_by k (check_for ws)
 unfolding for_stmt check_for numbered
 for_row k h [] = refl
 for_row k h (w ∷ []) = refl
 for_row k h (w ∷ v ∷ []) =
-    simple_with for k 0 (λ n t. sym h) (parse_name w) (parse_tier v) ∙ ap (λ (g : Verdict). simple_by k (result_and g (Ok 0))) (sym (refusal_with (λ n t. (for n t, 0)) (parse_name w) (parse_tier v)))
+    simple_with for k 0 (λ n t. sym h) (parse_name w) (parse_tier v) ∙ ap (simple_of k 0) (sym (refusal_with (λ n t. (for n t, 0)) (parse_name w) (parse_tier v)))
 for_row k h (w ∷ v ∷ u ∷ ws) = refl
 
 next_row : (k : ℕ) → k ≡ 14 → (ws : List (List ℕ)) → as_simple (next_stmt ws) ≡ simple_by k (check_next ws)
@@ -296,8 +331,7 @@ unfolding next_stmt check_next numbered
 next_row k h [] = refl
 next_row k h (w ∷ ws) =
     simple_with next k (length ws) (λ m ss. sym h) (parse_mark w) (parse_slots ws)
-    ∙ ap (λ (g : Verdict). simple_by k (result_and (lowest (verdict (parse_mark w)) g) (Ok (length ws)))) (slots_refusal ws)
-    ∙ ap (simple_by k) (lowest_counted (verdict (parse_mark w)) (lowest_of (refusal_by true) ws) (length ws))
+    ∙ ap (λ (g : Verdict). simple_of k (length ws) (lowest (verdict (parse_mark w)) g)) (slots_refusal ws)
 
 form_args : (h : Form) (k : ℕ) → Numbered k h → (c : Bool) (w : List ℕ) (ws : List (List ℕ)) → as_row (form_content h c (w ∷ ws)) ≡ args_row (Some (form_kind h)) k c (w ∷ ws)
 unfolding Numbered form_content args_row closed_args opened_args form_kind check_kind if_no_words bare_stmt run_stmt numbered
@@ -316,7 +350,7 @@ form_args (bare_form o) k r false w ws = refl
 form_args (number_form x) k r true w ws = simple_map (jump x) k 0 (λ n. r) (single (w ∷ ws))
 form_args (number_form x) k r false w ws = refl
 form_args (numbers_form x) k r true w ws =
-    simple_map (on x) k (length (w ∷ ws)) (λ ns. r) (parse_numbers (w ∷ ws)) ∙ ap (λ (g : Verdict). simple_by k (result_and g (Ok (length (w ∷ ws))))) (numbers_refusal (w ∷ ws))
+    simple_map (on x) k (length (w ∷ ws)) (λ ns. r) (parse_numbers (w ∷ ws)) ∙ ap (simple_of k (length (w ∷ ws))) (numbers_refusal (w ∷ ws))
 form_args (numbers_form x) k r false w ws = refl
 form_args run_form k r true w ws = simple_map (jump runto) k 0 (λ n. sym r) (single (w ∷ ws))
 form_args run_form k r false w ws = refl
@@ -336,14 +370,14 @@ form_bare to_form k r false = refl
 form_bare stmts_form k r true = refl
 form_bare stmts_form k r false = refl
 form_bare (cond_form x) k r true = refl
-form_bare (cond_form x) k r false = ap row.Cond r
-form_bare (bare_form o) k r true = ap (λ (z : ℕ). row.Simple z 0) r
+form_bare (cond_form x) k r false = ap {B = Said} (λ (z : Cond). Ok (row.Cond z)) r
+form_bare (bare_form o) k r true = ap {B = Said} (λ (z : ℕ). Ok (row.Simple z 0)) r
 form_bare (bare_form o) k r false = refl
 form_bare (number_form x) k r true = refl
 form_bare (number_form x) k r false = refl
-form_bare (numbers_form x) k r true = ap (λ (z : ℕ). row.Simple z 0) r
+form_bare (numbers_form x) k r true = ap {B = Said} (λ (z : ℕ). Ok (row.Simple z 0)) r
 form_bare (numbers_form x) k r false = refl
-form_bare run_form k r true = ap (λ (z : ℕ). row.Simple z 0) (sym r)
+form_bare run_form k r true = ap {B = Said} (λ (z : ℕ). Ok (row.Simple z 0)) (sym r)
 form_bare run_form k r false = refl
 form_bare for_form k r true = refl
 form_bare for_form k r false = refl

@@ -26,13 +26,14 @@ use Rattle.layout.specs.declared.refusals.Refusal.{Refusal}
 use Rattle.basic.specs.declared.sources.Source.{Source}
 use Rattle.basic.specs.declared.sources.FileRow.{FileRow}
 use Rattle.basic.specs.declared.sources.FileRow.TheVariants as file
-use Rattle.reader.specs.CodedRows.{cond_number}
+use Rattle.reader.specs.CodedRows.{Said}
 use Rattle.reader.specs.Machine.{as_state}
 use Rattle.reader.specs.Fill.{add_entries, Operands, no_operands, Says, outside_walk}
 use Rattle.reader.specs.FillSteps.{Fills}
 use Rattle.reader.specs.Filling.{Zeroed, filled_start}
 use Rattle.reader.specs.declared.listing.Accepted.{Accepted}
 use Rattle.reader.specs.declared.machine.State.{State}
+use Rattle.reader.specs.declared.rows.Cond.TheVariants as cond
 use Rattle.reader.specs.declared.rows.Row.{Row}
 use Rattle.reader.specs.declared.rows.Row.TheVariants as row
 
@@ -77,7 +78,7 @@ abbrev pub row_by : FileRow → Row
 row_by file.Module = row.Module false
 row_by (file.Line n) = row.Line n
 row_by (file.Simple w n b c) = row.Simple w 0
-row_by file.If = row.Cond 0
+row_by file.If = row.Cond cond.If
 row_by (file.To n) = row.To n
 row_by file.Stmts = row.Stmts
 row_by file.End = row.End
@@ -114,14 +115,13 @@ file_counted f d (file.To n) h = tt
 file_counted f d file.Stmts h = tt
 file_counted f d file.End h = tt
 
-says_as : {d e : Content} {r : Row} {x : Operands} → d ≡ e → Says e r x → Says d r x
+says_as : {d e : Content} {r : Said} {x : Operands} → d ≡ e → Says e r x → Says d r x
 says_as {r = r} {x = x} p h = subst (λ (c : Content). Says c r x) (sym p) h
 
-pub file_says : (f : List ℕ) (d : Content) (r : FileRow) → RowIs f d r → Says d (row_by r) (operands_by f r)
-unfolding cond_number
+pub file_says : (f : List ℕ) (d : Content) (r : FileRow) → RowIs f d r → Says d (Ok (row_by r)) (operands_by f r)
 file_says f d file.Module h = says_as h (record { row = refl; operands = refl })
 file_says f d (file.Line n) h = says_as h (record { row = refl; operands = refl })
-file_says f d (file.Simple w n b c) h = says_as h.content (record { row = ap (λ (k : ℕ). row.Simple k 0) h.word; operands = operands_are h.args (sym h.detail) })
+file_says f d (file.Simple w n b c) h = says_as h.content (record { row = ap {B = Said} (λ (k : ℕ). Ok (row.Simple k 0)) h.word; operands = operands_are h.args (sym h.detail) })
   where
     operands_are : {es fs : List ℕ} {k : ℕ} → es ≡ fs → 0 ≡ k → ◌≡◌ {A = Operands} (record { entries = es; detail = 0 }) (record { entries = fs; detail = k })
     operands_are p q = cc
@@ -154,5 +154,5 @@ pub file_start : (f n t a : List ℕ) (z : Zeroed (read_program f) n t a) (d : S
 file_start f n t a z d h s e = filled_start z (contents_from f d) (rows_lead f z.accepts.tree d z.accepts.reads h) s e
 
 -- by the code's row
-pub file_says_by : (f : List ℕ) (d : Content) (r : FileRow) (e : Row) → e ≡ row_by r → RowIs f d r → Says d e (operands_by f r)
-file_says_by f d r e p h = subst (λ (x : Row). Says d x (operands_by f r)) (sym p) (file_says f d r h)
+pub file_says_by : (f : List ℕ) (d : Content) (r : FileRow) (e : Row) → e ≡ row_by r → RowIs f d r → Says d (Ok e) (operands_by f r)
+file_says_by f d r e p h = subst (λ (x : Row). Says d (Ok x) (operands_by f r)) (sym p) (file_says f d r h)

@@ -1,14 +1,14 @@
 -- What a row gives, what it does to the tables and to the walk, and what the code needs for that. Assumes nothing.
-use Rattle.std.specs.Prelude.{◌≡◌, Bool, true, false, List, [], ◌++◌, ℕ, ◌+◌, ◌*◌, ◌-◌, ◌%◌, ◌≤◌, ◌<◌, eqb, length, take, drop, set, get_or}
+use Rattle.std.specs.Prelude.{◌≡◌, Bool, true, false, List, [], ◌++◌, ℕ, ◌+◌, ◌*◌, ◌-◌, ◌%◌, ◌≤◌, ◌<◌, eqb, length, take, drop, set, get_or, Ok, Err}
 use Rattle.std.proofs.Common.{sym, ap, ◌∙◌, subst}
 use Rattle.listings.specs.Bytes.{pick}
 use Rattle.listings.specs.Rows.{malformed, invalid, parsed, Content, no_form, end_row, stmts_row, module_row, line_row, to_row, simple_row, cond_row}
 use Rattle.listings.specs.Records.{args_of, detail_of}
 use Rattle.reader.specs.Tables.{append_row}
-use Rattle.reader.specs.CodedRows.{place_number, as_row}
+use Rattle.reader.specs.CodedRows.{place_number, as_row, cond_index, Said}
 use Rattle.reader.specs.AcceptedRows.{uncounted}
 use Rattle.reader.specs.declared.machine.State.{State}
-use Rattle.reader.specs.declared.rows.Row.{Row}
+use Rattle.reader.specs.declared.rows.Cond.{Cond}
 use Rattle.reader.specs.declared.rows.Row.TheVariants as row
 use Rattle.reader.specs.declared.fill.Walk.{Walk}
 use Rattle.reader.specs.declared.tables.Entry.{Entry}
@@ -17,7 +17,7 @@ use Rattle.reader.specs.declared.operands.Given.{Given}
 -- ---- what a row is to the tables, and what it gives
 
 -- how many numbers or slots it lists was judged before
-abbrev pub written_row : Content → Row
+abbrev pub written_row : Content → Said
 written_row d = uncounted (as_row d)
 
 -- a statement's arguments and its detail
@@ -41,7 +41,7 @@ operands_of (simple_row (parsed d)) = record { entries = args_of d.0; detail = d
 operands_of (cond_row k) = no_operands
 
 -- what a reader has of a row that says d, whatever it reads from
-pub record Says (d : Content) (e : Row) (x : Operands) : Type 0 where
+pub record Says (d : Content) (e : Said) (x : Operands) : Type 0 where
   pub row : e ≡ written_row d
   pub operands : x ≡ operands_of d
 
@@ -74,8 +74,8 @@ end_walk t s w =
 abbrev pub add_simple : List ℕ → State → Walk → ℕ → Given → List ℕ
 add_simple t s w k g = append_row t s.stmts (entry_of s w k (s.stmts + 1) g)
 
-abbrev pub add_cond : List ℕ → State → Walk → ℕ → List ℕ
-add_cond t s w k = append_row t s.stmts (entry_of s w (k + 2) 0 (as_given no_operands))
+abbrev pub add_cond : List ℕ → State → Walk → Cond → List ℕ
+add_cond t s w k = append_row t s.stmts (entry_of s w (cond_index k + 2) 0 (as_given no_operands))
 
 abbrev pub add_entries : List ℕ → ℕ → List ℕ → List ℕ
 add_entries a n es = take (n * 64) a ++ (es ++ drop (n * 64 + length es) a)
@@ -86,59 +86,59 @@ added_walk w = record { holder = w.holder; index = w.index + 1 }
 abbrev pub inside_walk : State → Walk
 inside_walk s = record { holder = s.stmts + 1; index = 0 }
 
-abbrev pub stmt_table : List ℕ → State → Walk → Row → Given → List ℕ
-stmt_table t s w (row.Refused m p) g = t
-stmt_table t s w row.End g = end_table t s w
-stmt_table t s w row.Stmts g = t
-stmt_table t s w (row.Module h) g = t
-stmt_table t s w (row.Line n) g = t
-stmt_table t s w (row.To n) g = branch_stmts t (w.holder - 1) (eqb s.branches 1) 2 n s.stmts
-stmt_table t s w (row.Simple k n) g = add_simple t s w k g
-stmt_table t s w (row.Cond k) g = add_cond t s w k
+abbrev pub stmt_table : List ℕ → State → Walk → Said → Given → List ℕ
+stmt_table t s w (Err m) g = t
+stmt_table t s w (Ok row.End) g = end_table t s w
+stmt_table t s w (Ok row.Stmts) g = t
+stmt_table t s w (Ok (row.Module h)) g = t
+stmt_table t s w (Ok (row.Line n)) g = t
+stmt_table t s w (Ok (row.To n)) g = branch_stmts t (w.holder - 1) (eqb s.branches 1) 2 n s.stmts
+stmt_table t s w (Ok (row.Simple k n)) g = add_simple t s w k g
+stmt_table t s w (Ok (row.Cond k)) g = add_cond t s w k
 
 -- the arguments of statement n
-abbrev pub arg_table : List ℕ → ℕ → Row → Operands → List ℕ
-arg_table a n (row.Refused m p) x = a
-arg_table a n row.End x = a
-arg_table a n row.Stmts x = a
-arg_table a n (row.Module h) x = a
-arg_table a n (row.Line m) x = a
-arg_table a n (row.To m) x = a
-arg_table a n (row.Simple k m) x = add_entries a n x.entries
-arg_table a n (row.Cond k) x = a
+abbrev pub arg_table : List ℕ → ℕ → Said → Operands → List ℕ
+arg_table a n (Err m) x = a
+arg_table a n (Ok row.End) x = a
+arg_table a n (Ok row.Stmts) x = a
+arg_table a n (Ok (row.Module h)) x = a
+arg_table a n (Ok (row.Line m)) x = a
+arg_table a n (Ok (row.To m)) x = a
+arg_table a n (Ok (row.Simple k m)) x = add_entries a n x.entries
+arg_table a n (Ok (row.Cond k)) x = a
 
-abbrev pub line_table : List ℕ → State → Row → List ℕ
-line_table t s (row.Refused m p) = t
-line_table t s row.End = t
-line_table t s row.Stmts = t
-line_table t s (row.Module h) = t
-line_table t s (row.Line n) = set t s.lines n
-line_table t s (row.To n) = t
-line_table t s (row.Simple k n) = t
-line_table t s (row.Cond k) = t
+abbrev pub line_table : List ℕ → State → Said → List ℕ
+line_table t s (Err m) = t
+line_table t s (Ok row.End) = t
+line_table t s (Ok row.Stmts) = t
+line_table t s (Ok (row.Module h)) = t
+line_table t s (Ok (row.Line n)) = set t s.lines n
+line_table t s (Ok (row.To n)) = t
+line_table t s (Ok (row.Simple k n)) = t
+line_table t s (Ok (row.Cond k)) = t
 
-abbrev pub walk_by : List ℕ → State → Walk → Row → Walk
-walk_by t s w (row.Refused m p) = w
-walk_by t s w row.End = end_walk t s w
-walk_by t s w row.Stmts = w
-walk_by t s w (row.Module h) = outside_walk
-walk_by t s w (row.Line n) = outside_walk
-walk_by t s w (row.To n) = w
-walk_by t s w (row.Simple k n) = added_walk w
-walk_by t s w (row.Cond k) = inside_walk s
+abbrev pub walk_by : List ℕ → State → Walk → Said → Walk
+walk_by t s w (Err m) = w
+walk_by t s w (Ok row.End) = end_walk t s w
+walk_by t s w (Ok row.Stmts) = w
+walk_by t s w (Ok (row.Module h)) = outside_walk
+walk_by t s w (Ok (row.Line n)) = outside_walk
+walk_by t s w (Ok (row.To n)) = w
+walk_by t s w (Ok (row.Simple k n)) = added_walk w
+walk_by t s w (Ok (row.Cond k)) = inside_walk s
 
 -- the operands x of statement n: its arguments are in the table, the code has the rest
 abbrev pub OperandsPut : List ℕ → ℕ → Operands → List ℕ → Given → Type 0
 OperandsPut a n x a' g = (a' ≡ add_entries a n x.entries) × (g ≡ as_given x)
 
 -- the lines and the statements after a row
-pub record Wrote (n t : List ℕ) (s : State) (w : Walk) (d : Row) (g : Given) (n' t' : List ℕ) (r : Walk) : Type 0 where
+pub record Wrote (n t : List ℕ) (s : State) (w : Walk) (d : Said) (g : Given) (n' t' : List ℕ) (r : Walk) : Type 0 where
   pub walk : r ≡ walk_by t s w d
   pub lines : n' ≡ line_table n s d
   pub stmts : t' ≡ stmt_table t s w d g
 
 -- and the arguments
-pub record Recorded (n t a : List ℕ) (s : State) (w : Walk) (d : Row) (x : Operands) (n' t' a' : List ℕ) (r : Walk) : Type 0 where
+pub record Recorded (n t a : List ℕ) (s : State) (w : Walk) (d : Said) (x : Operands) (n' t' a' : List ℕ) (r : Walk) : Type 0 where
   pub args : a' ≡ arg_table a s.stmts d x
   pub rest : Wrote n t s w d (as_given x) n' t' r
 
@@ -166,31 +166,31 @@ pub record AddReady (t : List ℕ) (s : State) (w : Walk) (k : ℕ) : Type 0 whe
   pub index : w.index ≤ 4096
   pub word : k ≤ 28
 
-abbrev pub Ready : List ℕ → List ℕ → State → Walk → Row → Given → Type 0
-Ready n t s w (row.Refused m p) g = Unit {0}
-Ready n t s w row.End g = EndReady t s w
-Ready n t s w row.Stmts g = Unit {0}
-Ready n t s w (row.Module h) g = Unit {0}
-Ready n t s w (row.Line m) g = s.lines < length n
-Ready n t s w (row.To m) g = ToReady t s w
-Ready n t s w (row.Simple k m) g = AddReady t s w k × (g.count ≤ 64)
-Ready n t s w (row.Cond k) g = AddReady t s w (k + 2)
+abbrev pub Ready : List ℕ → List ℕ → State → Walk → Said → Given → Type 0
+Ready n t s w (Err m) g = Unit {0}
+Ready n t s w (Ok row.End) g = EndReady t s w
+Ready n t s w (Ok row.Stmts) g = Unit {0}
+Ready n t s w (Ok (row.Module h)) g = Unit {0}
+Ready n t s w (Ok (row.Line m)) g = s.lines < length n
+Ready n t s w (Ok (row.To m)) g = ToReady t s w
+Ready n t s w (Ok (row.Simple k m)) g = AddReady t s w k × (g.count ≤ 64)
+Ready n t s w (Ok (row.Cond k)) g = AddReady t s w (cond_index k + 2)
 
 -- room for the arguments of statement n
 abbrev pub HasRoom : List ℕ → ℕ → Operands → Type 0
 HasRoom a n x = (n * 64 + 64 ≤ length a) × (length x.entries ≤ 64)
 
-abbrev pub ArgsReady : List ℕ → ℕ → Row → Operands → Type 0
-ArgsReady a n (row.Refused m p) x = Unit {0}
-ArgsReady a n row.End x = Unit {0}
-ArgsReady a n row.Stmts x = Unit {0}
-ArgsReady a n (row.Module h) x = Unit {0}
-ArgsReady a n (row.Line m) x = Unit {0}
-ArgsReady a n (row.To m) x = Unit {0}
-ArgsReady a n (row.Simple k m) x = HasRoom a n x
-ArgsReady a n (row.Cond k) x = Unit {0}
+abbrev pub ArgsReady : List ℕ → ℕ → Said → Operands → Type 0
+ArgsReady a n (Err m) x = Unit {0}
+ArgsReady a n (Ok row.End) x = Unit {0}
+ArgsReady a n (Ok row.Stmts) x = Unit {0}
+ArgsReady a n (Ok (row.Module h)) x = Unit {0}
+ArgsReady a n (Ok (row.Line m)) x = Unit {0}
+ArgsReady a n (Ok (row.To m)) x = Unit {0}
+ArgsReady a n (Ok (row.Simple k m)) x = HasRoom a n x
+ArgsReady a n (Ok (row.Cond k)) x = Unit {0}
 
-pub record RecordReady (n t a : List ℕ) (s : State) (w : Walk) (d : Row) (x : Operands) : Type 0 where
+pub record RecordReady (n t a : List ℕ) (s : State) (w : Walk) (d : Said) (x : Operands) : Type 0 where
   pub args : ArgsReady a s.stmts d x
   pub rest : Ready n t s w d (as_given x)
 
@@ -201,5 +201,5 @@ pub given_is : {g : Given} {a b : ℕ} → g.count ≡ a → g.detail ≡ b → 
 given_is {g} {a} {b} p q = ap {B = Given} (λ (x : ℕ). record { count = x; detail = g.detail }) p ∙ ap {B = Given} (λ (x : ℕ). record { count = a; detail = x }) q
 
 -- by which row it is
-pub wrote_as : {n t : List ℕ} {s : State} {w : Walk} {d e : Row} {g : Given} {n' t' : List ℕ} {r : Walk} → d ≡ e → Wrote n t s w e g n' t' r → Wrote n t s w d g n' t' r
-wrote_as {n} {t} {s} {w} {d} {e} {g} {n'} {t'} {r} p = subst (λ (x : Row). Wrote n t s w x g n' t' r) (sym p)
+pub wrote_as : {n t : List ℕ} {s : State} {w : Walk} {d e : Said} {g : Given} {n' t' : List ℕ} {r : Walk} → d ≡ e → Wrote n t s w e g n' t' r → Wrote n t s w d g n' t' r
+wrote_as {n} {t} {s} {w} {d} {e} {g} {n'} {t'} {r} p = subst (λ (x : Said). Wrote n t s w x g n' t' r) (sym p)

@@ -33,7 +33,7 @@ use Rattle.reader.specs.declared.fill.Walk.{Walk}
 -- ---- the numbers of the opening words
 
 pub cond_number_lem : (k : CondWord) → word_index (cond_word k) ≡ cond_number k + 2
-unfolding word_index words opening_words first same bytes cond_word cond_number
+unfolding word_index words opening_words first same bytes cond_word
 cond_number_lem if = refl
 cond_number_lem ifelse = refl
 cond_number_lem rcomp = refl

@@ -59,7 +59,6 @@ unfolding word_index
 word_le o = at_most (simple_word o)
 
 cond_le : (w : CondWord) → cond_number w + 2 ≤ 28
-unfolding cond_number
 cond_le if = omega arith
 cond_le ifelse = omega arith
 cond_le rcomp = omega arith

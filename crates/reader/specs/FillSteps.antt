@@ -13,7 +13,7 @@ use Rattle.listing_laws.specs.ShownLaws.{good_start, good_content}
 use Rattle.listings.specs.Records.{joined, line_recs, line_numbers}
 use Rattle.listing_laws.specs.ReadingRecords.{position_recs, recs_of, open_numbers, numbers_of}
 use Rattle.listings.specs.Every.{all[]}
-use Rattle.reader.specs.CodedRows.{as_row}
+use Rattle.reader.specs.CodedRows.{as_row, Said}
 use Rattle.reader.specs.Machine.{state_at, as_state, Step, numbered_step, as_step, taken_is, step_row}
 use Rattle.reader.specs.MachineLaws.{step_law, Bounded, state_bounded}
 use Rattle.reader.specs.Judge.{good_depth}
@@ -25,7 +25,6 @@ use Rattle.reader.specs.FillLaws.{walk_at, Fits, fill_law}
 use Rattle.reader.specs.FillReady.{Long, holds_long, ready_law}
 use Rattle.reader.specs.declared.machine.State.{State}
 use Rattle.layout.specs.declared.refusals.Reason.{Reason}
-use Rattle.reader.specs.declared.rows.Row.{Row}
 use Rattle.reader.specs.declared.fill.Walk.{Walk}
 
 -- ---- lines and statements are never fewer after a row
@@ -210,7 +209,7 @@ fills_long {nl = nl} {ns = ns} {na = na} {n = n} {t = t} {a = a} room f = holds_
 
 -- ---- a row
 
-module _ (r q : Reading) (nl ns na : ℕ) (n t a : List ℕ) (s : State) (w : Walk) {d : Content} {e : Row} {x : Operands} (state : s ≡ as_state r) (walk : w ≡ walk_at r r.position) (says : Says d e x) (ok : ContentOk d)
+module _ (r q : Reading) (nl ns na : ℕ) (n t a : List ℕ) (s : State) (w : Walk) {d : Content} {e : Said} {x : Operands} (state : s ≡ as_state r) (walk : w ≡ walk_at r r.position) (says : Says d e x) (ok : ContentOk d)
     (good : Good r r.position) (holds : Holds (numbers_of r r.position) (recs_of r r.position) nl ns na n t a) (took : read_row r r.position d ≡ taken q) (room : Fits nl ns na q) where
   -- what the code needs, and what it makes of the tables, by the state and the row that it has
   ready_by : Fits nl ns na r → RecordReady n t a s w e x
@@ -240,7 +239,7 @@ module _ {L : Listing} {nl ns na : ℕ} {d : Content} {ds : List Content} {s : S
   fits_after : Fits nl ns na after.reading
   fits_after = fits room good-after after.ahead
 
-  module _ {e : Row} {x : Operands} (says : Says d e x) where
+  module _ {e : Said} {x : Operands} (says : Says d e x) where
     pub fills_ready : RecordReady n t a s w e x
     fills_ready = ready_by f.reading after.reading nl ns na n t a s w f.state f.walk says after.ok f.good f.holds after.took fits_after (fits room f.good f.ahead)
 

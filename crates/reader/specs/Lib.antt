@@ -1,4 +1,5 @@
 pub mod Answer
+pub mod Inputs
 pub mod Tables
 pub mod Operands
 pub mod CodedRows

@@ -1,13 +1,15 @@
 -- The row machine on numbers: the state that stands for a reading, and each step of it. Assumes nothing.
-use Rattle.std.specs.Prelude.{ℕ, ◌+◌, ◌*◌, ◌-◌, ◌/◌, ◌%◌, List, [], ◌∷◌, Bool, true, false, not, eqb, leb, ltb, length, ◌≡◌, Result, Ok, Err}
+use Rattle.std.specs.Prelude.{ℕ, ◌+◌, ◌*◌, ◌-◌, ◌/◌, ◌%◌, List, [], ◌∷◌, Bool, true, eqb, leb, ltb, length, ◌≡◌, Option as Maybe, Some, None, Result, Ok, Err}
 use Rattle.std.proofs.Math.Option.{Option, none, some}
 use Rattle.listings.specs.Bytes.{pick}
 use Rattle.listings.specs.Listing.{BranchForm, Stmts}
 use Rattle.listings.specs.Read.{OpenCond, Branches, no_branch, one_branch, two_branches, Position, begin, in_module, ended, in_stmts, in_cond, Reading, Outcome, taken, refused}
-use Rattle.reader.specs.CodedRows.{place_number, cond_number}
+use Rattle.reader.specs.CodedRows.{place_number, as_cond, cond_index, cond_by, cond_number, Said}
 use Rattle.reader.specs.declared.rows.Position.{Position as Place}
 use Rattle.reader.specs.declared.rows.Position.TheVariants as at
-use Rattle.reader.specs.declared.rows.Row.{Row}
+use Rattle.reader.specs.declared.rows.Cond.{Cond}
+use Rattle.reader.specs.declared.rows.Cond.TheVariants as cond
+use Rattle.reader.specs.declared.rows.Misfit.{Misfit}
 use Rattle.reader.specs.declared.rows.Row.TheVariants as row
 use Rattle.reader.specs.declared.machine.State.{State}
 use Rattle.layout.specs.Refusals.{number_of}
@@ -16,10 +18,10 @@ use Rattle.layout.specs.declared.refusals.Reason.TheVariants as reason
 
 -- ---- the state that stands for a reading
 
--- 0, or one more than the last line's number
-unfoldable pub last_code : Option ℕ → ℕ
-last_code none = 0
-last_code (some n) = n + 1
+-- the last line's number
+unfoldable pub last_code : Option ℕ → Maybe ℕ
+last_code none = None
+last_code (some n) = Some n
 
 -- whether a branch was read before the one in which the next row stands
 unfoldable pub first_code : Option (BranchForm × Stmts) → ℕ
@@ -28,7 +30,7 @@ first_code (some a) = 1
 
 -- an open IF as a digit to the base 8: twice its word's number, and 1 in a second branch
 unfoldable pub cond_code : OpenCond → ℕ
-unfolding cond_number first_code
+unfolding first_code
 cond_code f = cond_number f.word * 2 + first_code f.first
 
 -- the open IFs, the innermost lowest
@@ -56,12 +58,12 @@ open_conds (in_stmts s fs) = fs
 open_conds (in_cond s k bs fs) = fs
 
 -- of the IF whose branches are due: its word, and how many branches were read
-unfoldable pub word_code : Position → ℕ
-word_code begin = 0
-word_code in_module = 0
-word_code ended = 0
-word_code (in_stmts s fs) = 0
-word_code (in_cond s k bs fs) = cond_number k
+unfoldable pub word_code : Position → Cond
+word_code begin = cond.If
+word_code in_module = cond.If
+word_code ended = cond.If
+word_code (in_stmts s fs) = cond.If
+word_code (in_cond s k bs fs) = as_cond k
 
 unfoldable pub branch_code : Position → ℕ
 branch_code begin = 0
@@ -107,25 +109,30 @@ taken_is (Err r) s e = cc
 
 -- outside of all lines
 abbrev pub outside : State → Place → State
-outside s p = record { position = p; handlers = s.handlers; last = s.last; lines = s.lines; stmts = s.stmts; depth = 0; open_conds = 0; word = 0; branches = 0 }
+outside s p = record { position = p; handlers = s.handlers; last = s.last; lines = s.lines; stmts = s.stmts; depth = 0; open_conds = 0; word = cond.If; branches = 0 }
 
 -- at another position, as deep as before
-abbrev pub moved : State → Place → ℕ → ℕ → State
+abbrev pub moved : State → Place → Cond → ℕ → State
 moved s p w b = record { position = p; handlers = s.handlers; last = s.last; lines = s.lines; stmts = s.stmts; depth = s.depth; open_conds = s.open_conds; word = w; branches = b }
 
 -- with one statement more
-abbrev pub one_more : State → Place → ℕ → State
+abbrev pub one_more : State → Place → Cond → State
 one_more s p w = record { position = p; handlers = s.handlers; last = s.last; lines = s.lines; stmts = s.stmts + 1; depth = s.depth; open_conds = s.open_conds; word = w; branches = 0 }
 
 abbrev pub step_module : State → Bool → Step
-step_module s h = pick (eqb (place_number s.position) 0) (Ok (record { position = at.InModule; handlers = h; last = s.last; lines = s.lines; stmts = s.stmts; depth = 0; open_conds = 0; word = 0; branches = 0 })) (Err reason.NotAForm)
+step_module s h = pick (eqb (place_number s.position) 0) (Ok (record { position = at.InModule; handlers = h; last = s.last; lines = s.lines; stmts = s.stmts; depth = 0; open_conds = 0; word = cond.If; branches = 0 })) (Err reason.NotAForm)
+
+-- whether a line's number is above the last one's
+abbrev pub ascends : Maybe ℕ → ℕ → Bool
+ascends None n = true
+ascends (Some m) n = ltb m n
 
 abbrev pub step_line : State → ℕ → Step
 step_line s n =
     pick (eqb (place_number s.position) 1)
-    (pick (leb s.last n)
+    (pick (ascends s.last n)
     (pick (ltb s.lines 1024)
-    (Ok (record { position = at.InStmts; handlers = s.handlers; last = n + 1; lines = s.lines + 1; stmts = s.stmts; depth = 0; open_conds = 0; word = 0; branches = 0 }))
+    (Ok (record { position = at.InStmts; handlers = s.handlers; last = Some n; lines = s.lines + 1; stmts = s.stmts; depth = 0; open_conds = 0; word = cond.If; branches = 0 }))
     (Err reason.TooManyLines))
     (Err reason.LineOrder))
     (Err reason.NotAForm)
@@ -136,13 +143,13 @@ step_simple s n =
     (pick (ltb s.stmts 4096)
     (pick (leb s.depth 16)
     (pick (leb n 64)
-    (Ok (one_more s at.InStmts 0))
+    (Ok (one_more s at.InStmts cond.If))
     (Err reason.TooWide))
     (Err reason.TooDeep))
     (Err reason.TooManyStatements))
     (Err reason.NotAForm)
 
-abbrev pub step_cond : State → ℕ → Step
+abbrev pub step_cond : State → Cond → Step
 step_cond s k =
     pick (eqb (place_number s.position) 3)
     (pick (ltb s.stmts 4096)
@@ -152,19 +159,23 @@ step_cond s k =
     (Err reason.TooManyStatements))
     (Err reason.NotAForm)
 
--- may one more branch follow; word 0 is IF, 1 IFELSE, 2 RCOMP
-abbrev pub may_branch : ℕ → ℕ → Bool
-may_branch w b = pick (eqb b 0) true (pick (eqb b 1) (not (eqb w 0)) false)
+-- may one more branch follow
+abbrev pub may_branch : Cond → ℕ → Bool
+may_branch cond.If b = eqb b 0
+may_branch cond.IfElse b = ltb b 2
+may_branch cond.Rcomp b = ltb b 2
 
 -- are the branches all that the word must have
-abbrev pub is_complete : ℕ → ℕ → Bool
-is_complete w b = pick (eqb b 1) (not (eqb w 1)) (pick (eqb b 2) (not (eqb w 0)) false)
+abbrev pub is_complete : Cond → ℕ → Bool
+is_complete cond.If b = eqb b 1
+is_complete cond.IfElse b = eqb b 2
+is_complete cond.Rcomp b = pick (eqb b 1) true (eqb b 2)
 
 abbrev pub step_stmts : State → Step
 step_stmts s =
     pick (eqb (place_number s.position) 4)
     (pick (may_branch s.word s.branches)
-    (Ok (record { position = at.InStmts; handlers = s.handlers; last = s.last; lines = s.lines; stmts = s.stmts; depth = s.depth + 1; open_conds = s.word * 2 + s.branches + 8 * s.open_conds; word = 0; branches = 0 }))
+    (Ok (record { position = at.InStmts; handlers = s.handlers; last = s.last; lines = s.lines; stmts = s.stmts; depth = s.depth + 1; open_conds = cond_index s.word * 2 + s.branches + 8 * s.open_conds; word = cond.If; branches = 0 }))
     (Err reason.NotAForm))
     (Err reason.NotAForm)
 
@@ -177,33 +188,33 @@ step_to s =
     (Err reason.NotAForm)
 
 -- "2 not a form allowed here": a number or name is judged only where its row is due, that of a branch only where one may follow; outside of branches word and branches are 0
-abbrev pub step_refused : State → Reason → Place → Step
-step_refused s r p = pick (eqb (place_number s.position) (place_number p)) (pick (may_branch s.word s.branches) (Err r) (Err reason.NotAForm)) (Err reason.NotAForm)
+abbrev pub reason_at : State → Misfit → Reason
+reason_at s m = pick (eqb (place_number s.position) (place_number m.due)) (pick (may_branch s.word s.branches) m.reason reason.NotAForm) reason.NotAForm
 
 -- `)` after statements: a line ends, or the innermost IF goes on
 abbrev pub end_of_stmts : State → Step
 end_of_stmts s =
     pick (eqb s.depth 0)
     (Ok (outside s at.InModule))
-    (Ok (record { position = at.InCond; handlers = s.handlers; last = s.last; lines = s.lines; stmts = s.stmts; depth = s.depth - 1; open_conds = s.open_conds / 8; word = (s.open_conds % 8) / 2; branches = (s.open_conds % 8) % 2 + 1 }))
+    (Ok (record { position = at.InCond; handlers = s.handlers; last = s.last; lines = s.lines; stmts = s.stmts; depth = s.depth - 1; open_conds = s.open_conds / 8; word = cond_by ((s.open_conds % 8) / 2); branches = (s.open_conds % 8) % 2 + 1 }))
 
 abbrev pub step_end : State → Step
 step_end s =
     pick (eqb (place_number s.position) 3) (end_of_stmts s)
     (pick (eqb (place_number s.position) 4)
     (pick (is_complete s.word s.branches)
-    (Ok (moved s at.InStmts 0 0))
+    (Ok (moved s at.InStmts cond.If 0))
     (Err reason.NotAForm))
     (pick (eqb (place_number s.position) 1)
     (Ok (outside s at.Ended))
     (Err reason.NotAForm)))
 
-abbrev pub step_row : State → Row → Step
-step_row s (row.Refused n p) = step_refused s n p
-step_row s row.End = step_end s
-step_row s row.Stmts = step_stmts s
-step_row s (row.Module h) = step_module s h
-step_row s (row.Line n) = step_line s n
-step_row s (row.To n) = step_to s
-step_row s (row.Simple w n) = step_simple s n
-step_row s (row.Cond k) = step_cond s k
+abbrev pub step_row : State → Said → Step
+step_row s (Err m) = Err (reason_at s m)
+step_row s (Ok row.End) = step_end s
+step_row s (Ok row.Stmts) = step_stmts s
+step_row s (Ok (row.Module h)) = step_module s h
+step_row s (Ok (row.Line n)) = step_line s n
+step_row s (Ok (row.To n)) = step_to s
+step_row s (Ok (row.Simple w n)) = step_simple s n
+step_row s (Ok (row.Cond k)) = step_cond s k

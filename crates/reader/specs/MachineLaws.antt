@@ -1,13 +1,13 @@
 -- The row machine goes as the definition goes, and its numbers fit. Assumes nothing.
 use Rattle.std.specs.Prelude.{ℕ, zero, suc, ◌+◌, ◌*◌, ◌-◌, ◌/◌, ◌%◌, ◌≤◌, ◌<◌, ◌≡◌, refl, List, [], ◌∷◌, Bool, true, false, eqb, leb, ltb, length, Result, Ok, Err}
-use Rattle.std.proofs.Common.{sym, ap, ◌∙◌, arith, add-one, ne_eqb, le-leb}
+use Rattle.std.proofs.Common.{sym, ap, ◌∙◌, arith, add-one, ne_eqb}
 use Rattle.std.proofs.Math.Option.{Option, none, some}
 use Rattle.listings.specs.Bytes.{pick}
 use Rattle.listings.specs.Listing.{CondWord, if, ifelse, rcomp, BranchForm, Stmts, ∅, ◌▸◌}
 use Rattle.listings.specs.Rows.{malformed, invalid, parsed, Counted, Content, no_form, end_row, stmts_row, module_row, line_row, to_row, simple_row, cond_row}
 use Rattle.listings.specs.Read.{OpenCond, Branches, no_branch, one_branch, two_branches, Position, begin, in_module, ended, in_stmts, in_cond, Reading, go_to, one_more, Outcome, taken, or_refused, check, at_begin, ascends, read_line, at_module, read_simple, read_cond, branched, end_stmts, at_stmts, NextBranch, no_more, may_follow, next_branch, cond_stmt, end_cond, read_to, read_stmts, at_cond, read_row}
-use Rattle.reader.specs.CodedRows.{cond_number, as_row}
-use Rattle.reader.specs.Machine.{last_code, first_code, cond_code, packed, branch_count, position_code, open_conds, word_code, branch_code, state_at, as_state, numbered_step, as_step, step_line, step_simple, step_cond, step_stmts, step_to, may_branch, step_refused, end_of_stmts, step_end, step_row}
+use Rattle.reader.specs.CodedRows.{as_cond, cond_number, cond_back, as_row}
+use Rattle.reader.specs.Machine.{last_code, first_code, cond_code, packed, branch_count, position_code, open_conds, word_code, branch_code, state_at, as_state, numbered_step, as_step, ascends as above, step_line, step_simple, step_cond, step_stmts, step_to, may_branch, reason_at, end_of_stmts, step_end, step_row}
 use Rattle.reader.specs.declared.machine.State.{State}
 use Rattle.reader.specs.declared.rows.Position.TheVariants as at
 use Rattle.layout.specs.Refusals.{number_of}
@@ -17,7 +17,6 @@ use Rattle.layout.specs.declared.refusals.Reason.TheVariants as reason
 -- ---- the packed IFs
 
 pub cond_le : (k : CondWord) → cond_number k ≤ 2
-unfolding cond_number
 cond_le if = omega arith
 cond_le ifelse = omega arith
 cond_le rcomp = omega arith
@@ -38,44 +37,38 @@ packed-first a b x h k = omega arith
 
 -- ---- the rows of each position
 
+-- a fact of every row, from those of the rows that the machine tells apart
+each_row : (P : Content → Type 0) → P no_form → P end_row → P stmts_row → ((h : Bool) → P (module_row h)) → P (line_row malformed) → P (line_row invalid) → ((n : ℕ) → P (line_row (parsed n)))
+    → P (to_row malformed) → P (to_row invalid) → ((n : ℕ) → P (to_row (parsed n))) → P (simple_row malformed) → P (simple_row invalid) → ((o : Counted) → P (simple_row (parsed o)))
+    → ((k : CondWord) → P (cond_row k)) → (d : Content) → P d
+each_row P a b c e f g h i j k l m n o no_form = a
+each_row P a b c e f g h i j k l m n o end_row = b
+each_row P a b c e f g h i j k l m n o stmts_row = c
+each_row P a b c e f g h i j k l m n o (module_row x) = e x
+each_row P a b c e f g h i j k l m n o (line_row malformed) = f
+each_row P a b c e f g h i j k l m n o (line_row invalid) = g
+each_row P a b c e f g h i j k l m n o (line_row (parsed x)) = h x
+each_row P a b c e f g h i j k l m n o (to_row malformed) = i
+each_row P a b c e f g h i j k l m n o (to_row invalid) = j
+each_row P a b c e f g h i j k l m n o (to_row (parsed x)) = k x
+each_row P a b c e f g h i j k l m n o (simple_row malformed) = l
+each_row P a b c e f g h i j k l m n o (simple_row invalid) = m
+each_row P a b c e f g h i j k l m n o (simple_row (parsed x)) = n x
+each_row P a b c e f g h i j k l m n o (cond_row x) = o x
+
 begin_law : (r : Reading) (d : Content) → numbered_step (step_row (state_at r begin) (as_row d)) ≡ as_step (at_begin r d)
 unfolding state_at position_code open_conds word_code branch_code last_code packed at_begin as_step as_state
-begin_law r no_form = refl
-begin_law r end_row = refl
-begin_law r stmts_row = refl
-begin_law r (module_row h) = refl
-begin_law r (line_row malformed) = refl
-begin_law r (line_row invalid) = refl
-begin_law r (line_row (parsed n)) = refl
-begin_law r (to_row malformed) = refl
-begin_law r (to_row invalid) = refl
-begin_law r (to_row (parsed n)) = refl
-begin_law r (simple_row malformed) = refl
-begin_law r (simple_row invalid) = refl
-begin_law r (simple_row (parsed o)) = refl
-begin_law r (cond_row k) = refl
+begin_law r =
+    each_row (λ d. numbered_step (step_row (state_at r begin) (as_row d)) ≡ as_step (at_begin r d)) refl refl refl (λ h. refl) refl refl (λ n. refl) refl refl (λ n. refl) refl refl (λ o. refl) (λ k. refl)
 
 ended_law : (r : Reading) (d : Content) → numbered_step (step_row (state_at r ended) (as_row d)) ≡ Err 2
 unfolding state_at position_code open_conds word_code branch_code last_code packed
-ended_law r no_form = refl
-ended_law r end_row = refl
-ended_law r stmts_row = refl
-ended_law r (module_row h) = refl
-ended_law r (line_row malformed) = refl
-ended_law r (line_row invalid) = refl
-ended_law r (line_row (parsed n)) = refl
-ended_law r (to_row malformed) = refl
-ended_law r (to_row invalid) = refl
-ended_law r (to_row (parsed n)) = refl
-ended_law r (simple_row malformed) = refl
-ended_law r (simple_row invalid) = refl
-ended_law r (simple_row (parsed o)) = refl
-ended_law r (cond_row k) = refl
+ended_law r = each_row (λ d. numbered_step (step_row (state_at r ended) (as_row d)) ≡ Err 2) refl refl refl (λ h. refl) refl refl (λ n. refl) refl refl (λ n. refl) refl refl (λ o. refl) (λ k. refl)
 
-ascends_law : (n : ℕ) (o : Option ℕ) → ascends n o ≡ leb (last_code o) n
+ascends_law : (n : ℕ) (o : Option ℕ) → ascends n o ≡ above (last_code o) n
 unfolding ascends last_code
-ascends_law n none = sym (le-leb 0 n (omega arith))
-ascends_law n (some m) = ap (λ (z : ℕ). leb z n) (sym (add-one m))
+ascends_law n none = refl
+ascends_law n (some m) = refl
 
 check-step : (t : Bool) (n : ℕ) (o : Outcome Reading) → as_step (check t n o) ≡ pick t (as_step o) (Err n)
 unfolding check as_step
@@ -101,7 +94,7 @@ line_law r n =
   where
     go : pick (ascends n r.last) (pick (ltb r.line_count 1024) (as_step (taken (record { handlers = r.handlers; lines = r.lines; last = some n; line_count = suc r.line_count; stmt_count = r.stmt_count; position = in_stmts ∅ [] }))) (Err 5)) (Err 4)
         ≡ numbered_step (step_line (state_at r in_module) n)
-    go = rw (ascends_law n r.last, add-one r.line_count) (two_tests (leb (last_code r.last) n) (ltb r.line_count 1024) _ reason.TooManyLines reason.LineOrder)
+    go = rw (ascends_law n r.last, add-one r.line_count) (two_tests (above (last_code r.last) n) (ltb r.line_count 1024) _ reason.TooManyLines reason.LineOrder)
 
 module_law : (r : Reading) (d : Content) → numbered_step (step_row (state_at r in_module) (as_row d)) ≡ as_step (at_module r d)
 unfolding state_at position_code open_conds word_code branch_code packed last_code as_step as_state at_module or_refused go_to
@@ -132,7 +125,7 @@ simple_law r s fs o =
         ≡ numbered_step (step_simple (state_at r (in_stmts s fs)) o.1)
     go = rw (add-one r.stmt_count) (three_tests (ltb r.stmt_count 4096) (leb (length fs) 16) (leb o.1 64) _ reason.TooWide reason.TooDeep reason.TooManyStatements)
 
-cond_law : (r : Reading) (s : Stmts) (fs : List OpenCond) (k : CondWord) → numbered_step (step_cond (state_at r (in_stmts s fs)) (cond_number k)) ≡ as_step (read_cond r s fs k)
+cond_law : (r : Reading) (s : Stmts) (fs : List OpenCond) (k : CondWord) → numbered_step (step_cond (state_at r (in_stmts s fs)) (as_cond k)) ≡ as_step (read_cond r s fs k)
 unfolding state_at position_code open_conds word_code branch_code packed last_code as_step as_state read_cond one_more branch_count
 cond_law r s fs k =
     sym (check-step (ltb r.stmt_count 4096) 6 _
@@ -140,7 +133,7 @@ cond_law r s fs k =
     ∙ go)
   where
     go : pick (ltb r.stmt_count 4096) (pick (leb (length fs) 16) (as_step (taken (one_more r (in_cond s k no_branch fs)))) (Err 7)) (Err 6)
-        ≡ numbered_step (step_cond (state_at r (in_stmts s fs)) (cond_number k))
+        ≡ numbered_step (step_cond (state_at r (in_stmts s fs)) (as_cond k))
     go = rw (add-one r.stmt_count) (two_tests (ltb r.stmt_count 4096) (leb (length fs) 16) _ reason.TooDeep reason.TooManyStatements)
 
 count_more : (o : Option (BranchForm × Stmts)) (b : BranchForm × Stmts) → branch_count (branched o b) ≡ first_code o + 1
@@ -157,7 +150,7 @@ end_law r s (f ∷ fs) =
     let x = packed fs in
     let d : suc (length fs) - 1 ≡ length fs = omega arith in
     let n : eqb (suc (length fs)) 0 ≡ false = ne_eqb (suc (length fs)) 0 (λ e. omega arith) in
-    rw (n, d, packed-rest a b x (cond_le f.word) (first-le f.first), packed_word a b x (cond_le f.word) (first-le f.first), packed-first a b x (cond_le f.word) (first-le f.first), count_more f.first (BranchForm.stmts, s))
+    rw (n, d, packed-rest a b x (cond_le f.word) (first-le f.first), packed_word a b x (cond_le f.word) (first-le f.first), cond_back f.word, packed-first a b x (cond_le f.word) (first-le f.first), count_more f.first (BranchForm.stmts, s))
 
 stmts_law : (r : Reading) (s : Stmts) (fs : List OpenCond) (d : Content) → numbered_step (step_row (state_at r (in_stmts s fs)) (as_row d)) ≡ as_step (at_stmts r s fs d)
 unfolding state_at position_code word_code branch_code last_code as_step at_stmts or_refused
@@ -179,7 +172,7 @@ stmts_law r s fs (cond_row k) = cond_law r s fs k
 -- ---- between the branches of an IF
 
 into_law : (r : Reading) (s : Stmts) (k : CondWord) (bs : Branches) (fs : List OpenCond) → numbered_step (step_stmts (state_at r (in_cond s k bs fs))) ≡ as_step (read_stmts r s k fs (next_branch k bs))
-unfolding state_at position_code open_conds word_code branch_code packed last_code as_step as_state read_stmts go_to cond_code next_branch branch_count cond_number first_code
+unfolding state_at position_code open_conds word_code branch_code packed last_code as_step as_state read_stmts go_to cond_code next_branch branch_count first_code
 into_law r s if no_branch fs = rw (add-one (length fs))
 into_law r s ifelse no_branch fs = rw (add-one (length fs))
 into_law r s rcomp no_branch fs = rw (add-one (length fs))
@@ -191,7 +184,7 @@ into_law r s ifelse (two_branches a b) fs = refl
 into_law r s rcomp (two_branches a b) fs = refl
 
 to_law : (r : Reading) (s : Stmts) (k : CondWord) (bs : Branches) (fs : List OpenCond) (n : ℕ) → numbered_step (step_to (state_at r (in_cond s k bs fs))) ≡ as_step (read_to r s k fs (next_branch k bs) (parsed n))
-unfolding state_at position_code open_conds word_code branch_code packed last_code as_step as_state read_to or_refused go_to next_branch branch_count cond_number branched
+unfolding state_at position_code open_conds word_code branch_code packed last_code as_step as_state read_to or_refused go_to next_branch branch_count branched
 to_law r s if no_branch fs n = refl
 to_law r s ifelse no_branch fs n = refl
 to_law r s rcomp no_branch fs n = refl
@@ -202,8 +195,8 @@ to_law r s if (two_branches a b) fs n = refl
 to_law r s ifelse (two_branches a b) fs n = refl
 to_law r s rcomp (two_branches a b) fs n = refl
 
-bad_to_law : (r : Reading) (s : Stmts) (k : CondWord) (bs : Branches) (fs : List OpenCond) → numbered_step (step_refused (state_at r (in_cond s k bs fs)) reason.BadWord at.InCond) ≡ as_step (read_to r s k fs (next_branch k bs) invalid)
-unfolding state_at position_code open_conds word_code branch_code packed last_code as_step as_state read_to or_refused next_branch branch_count cond_number
+bad_to_law : (r : Reading) (s : Stmts) (k : CondWord) (bs : Branches) (fs : List OpenCond) → numbered_step (Err (reason_at (state_at r (in_cond s k bs fs)) (record { reason = reason.BadWord; due = at.InCond }))) ≡ as_step (read_to r s k fs (next_branch k bs) invalid)
+unfolding state_at position_code open_conds word_code branch_code packed last_code as_step as_state read_to or_refused next_branch branch_count
 bad_to_law r s if no_branch fs = refl
 bad_to_law r s ifelse no_branch fs = refl
 bad_to_law r s rcomp no_branch fs = refl
@@ -214,11 +207,11 @@ bad_to_law r s if (two_branches a b) fs = refl
 bad_to_law r s ifelse (two_branches a b) fs = refl
 bad_to_law r s rcomp (two_branches a b) fs = refl
 
-no_to_law : (r : Reading) (s : Stmts) (k : CondWord) (bs : Branches) (fs : List OpenCond) → numbered_step (step_refused (state_at r (in_cond s k bs fs)) reason.NotAForm at.InCond) ≡ as_step (read_to r s k fs (next_branch k bs) malformed)
+no_to_law : (r : Reading) (s : Stmts) (k : CondWord) (bs : Branches) (fs : List OpenCond) → numbered_step (Err (reason_at (state_at r (in_cond s k bs fs)) (record { reason = reason.NotAForm; due = at.InCond }))) ≡ as_step (read_to r s k fs (next_branch k bs) malformed)
 unfolding state_at position_code as_step read_to or_refused
 no_to_law r s k bs fs = here (may_branch (word_code (in_cond s k bs fs)) (branch_code (in_cond s k bs fs))) ∙ go (next_branch k bs)
   where
-    here : (t : Bool) → numbered_step (pick t (Err reason.NotAForm) (Err reason.NotAForm)) ≡ Err 2
+    here : (t : Bool) → numbered_step (Err (pick t reason.NotAForm reason.NotAForm)) ≡ Err 2
     here true = refl
     here false = refl
 
@@ -227,7 +220,7 @@ no_to_law r s k bs fs = here (may_branch (word_code (in_cond s k bs fs)) (branch
     go (may_follow a) = refl
 
 close_law : (r : Reading) (s : Stmts) (k : CondWord) (bs : Branches) (fs : List OpenCond) → numbered_step (step_end (state_at r (in_cond s k bs fs))) ≡ as_step (end_cond r fs (cond_stmt s k bs))
-unfolding state_at position_code open_conds word_code branch_code packed last_code as_step as_state end_cond cond_stmt go_to branch_count cond_number
+unfolding state_at position_code open_conds word_code branch_code packed last_code as_step as_state end_cond cond_stmt go_to branch_count
 close_law r s if no_branch fs = refl
 close_law r s ifelse no_branch fs = refl
 close_law r s rcomp no_branch fs = refl
@@ -290,14 +283,6 @@ unfolding packed power cond_code
 packed-below [] = omega arith
 packed-below (f ∷ fs) = omega (arith, packed-below fs, cond_le f.word, first-le f.first)
 
-word_le : (p : Position) → word_code p ≤ 2
-unfolding word_code
-word_le begin = omega arith
-word_le in_module = omega arith
-word_le ended = omega arith
-word_le (in_stmts s fs) = omega arith
-word_le (in_cond s k bs fs) = cond_le k
-
 branch-le : (p : Position) → branch_code p ≤ 2
 unfolding branch_code branch_count
 branch-le begin = omega arith
@@ -310,7 +295,6 @@ branch-le (in_cond s k (two_branches a b) fs) = omega arith
 
 pub record Bounded (s : State) : Type 0 where
   pub open_conds : s.open_conds < 2251799813685248
-  pub word : s.word ≤ 2
   pub branches : s.branches ≤ 2
   pub depth : s.depth ≤ 17
 
@@ -319,7 +303,6 @@ unfolding as_state state_at power
 state_bounded r d =
     record {
       open_conds = omega (arith, packed-below (open_conds r.position), power_le (length (open_conds r.position)) 17 d);
-      word = word_le r.position;
       branches = branch-le r.position;
       depth = d;
     }

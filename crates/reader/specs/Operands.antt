@@ -1,6 +1,5 @@
 -- The arguments of a statement's row, word by word, as they are written. Assumes nothing.
 use Rattle.std.specs.Prelude.{◌≡◌, refl, Bool, true, false, take, drop, set, Option, Some, None, Result, Ok, Err}
-use Rattle.std.specs.Option.{unwrap_or}
 use Rattle.std.proofs.Common.{sym, ◌∙◌, not-suc-le-zero, add-one, arith, length-append, length-set, length-drop, take-append-drop, take-suc-set, drop-set-lt, drop-drop, take_at}
 use Rattle.std.proofs.Math.Path.{ap, subst}
 use mathlib.Core.List.{List, [], ◌∷◌, ◌++◌, map, append_assoc}
@@ -103,24 +102,22 @@ pub record Put (es : List ℕ) (d : ℕ) (t t' : List ℕ) (r : Given) : Type 0 
 
 -- ---- laws for the code
 
-abbrev pub number_answer : Result ℕ Reason → ℕ
-number_answer (Err r) = 0
-number_answer (Ok n) = n
+-- a value, or 0
+abbrev pub or_zero : Result ℕ Reason → ℕ
+or_zero (Err r) = 0
+or_zero (Ok n) = n
 
-abbrev pub key_answer : Option ℕ → ℕ
-key_answer k = unwrap_or k 0
-
-pub number_answer_lem : (p : Parse ℕ) → number_answer (as_number p) ≡ number_entry p
+pub number_or_zero : (p : Parse ℕ) → or_zero (as_number p) ≡ number_entry p
 unfolding number_entry
-number_answer_lem malformed = refl
-number_answer_lem invalid = refl
-number_answer_lem (parsed n) = refl
+number_or_zero malformed = refl
+number_or_zero invalid = refl
+number_or_zero (parsed n) = refl
 
-pub key_answer_lem : (p : Parse Name) → key_answer (as_key p) ≡ key_entry p
+pub key_or_zero : (p : Parse Name) → or_zero (as_key p) ≡ key_entry p
 unfolding key_entry
-key_answer_lem malformed = refl
-key_answer_lem invalid = refl
-key_answer_lem (parsed v) = refl
+key_or_zero malformed = refl
+key_or_zero invalid = refl
+key_or_zero (parsed v) = refl
 
 -- the loop over the words: n entries are written, the rest of the text gives the others
 pub record Filling (f : List ℕ → ℕ) (s t₀ t : List ℕ) (at n : ℕ) : Type 0 where

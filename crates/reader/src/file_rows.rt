@@ -1,14 +1,14 @@
 // Writes the records of a saved program that is accepted: row by row of the listing that it means, into zeroed tables that can hold them.
-ghost use Rattle.std.specs.Prelude.{◌≡◌, length};
+ghost use Rattle.std.specs.Prelude.{◌≡◌, length, Ok};
 ghost use Rattle.program_files.specs.Program.{read_program};
 ghost use Rattle.reader.specs.Fill.{OperandsPut, HasRoom, Recorded, RecordReady};
 ghost use Rattle.reader.specs.Filling.{Zeroed, Filled};
 ghost use Rattle.reader.specs.FileLoop.{row_by, operands_by, operands_at, RowCounted};
 
-use super::fill::{Walk, add_simple, write_row};
+use super::fill::{OUTSIDE, Walk, add_simple, write_row};
 use super::machine::{State, start_state, step_row};
-use super::operands::Given;
-use super::rows::Row;
+use super::operands::{Given, NO_ARGS};
+use super::rows::{Cond, Row};
 use basic::actions::put_args;
 use basic::cursors::Cursor;
 use basic::rows::{first_row, row_at};
@@ -31,7 +31,7 @@ fn row_of_file(r: FileRow) -> Row
             word: usize::from(word),
             count: 0,
         },
-        FileRow::If => Row::Cond(0),
+        FileRow::If => Row::Cond(Cond::If),
         FileRow::To(n) => Row::To(n),
         FileRow::Stmts => Row::Stmts,
         FileRow::End => Row::End,
@@ -60,8 +60,8 @@ fn write_file_row(
 ) -> Walk
     requires known { row ≡ row_by r }
     requires counted { RowCounted file.now r }
-    requires ready { RecordReady lines.old stmts.old args.old s w row (operands_by file.now r) }
-    ensures { Recorded lines.old stmts.old args.old s w row (operands_by file.now r) lines.new stmts.new args.new result }
+    requires ready { RecordReady lines.old stmts.old args.old s w (Ok row) (operands_by file.now r) }
+    ensures { Recorded lines.old stmts.old args.old s w (Ok row) (operands_by file.now r) lines.new stmts.new args.new result }
 {
     let FileRow::Simple {
         word,
@@ -70,11 +70,7 @@ fn write_file_row(
         at,
     } = r
     else {
-        let none = Given {
-            count: 0,
-            detail: 0,
-        };
-        return write_row(lines, stmts, s, w, row, none);
+        return write_row(lines, stmts, s, w, row, NO_ARGS);
     };
     put_file_args(file, byte, at, args, s.stmts);
     add_simple(stmts, s, w, usize::from(word), Given { count, detail: 0 })
@@ -86,20 +82,15 @@ pub(crate) fn fill_program(file: &[u8], lines: &mut [u16], stmts: &mut [u16], ar
     ensures { Filled (read_program file.now) lines.old stmts.old args.old lines.new stmts.new args.new }
 {
     let mut s = start_state();
-    let mut w = Walk {
-        holder: 0,
-        index: 0,
-    };
+    let mut w = OUTSIDE;
     let mut due = first_row();
     while let Some(r) = row_at(file, due) {
         let row = row_of_file(r.row);
-        match step_row(s, row) {
-            Err(_) => return,
-            Ok(n) => {
-                w = write_file_row(file, r.row, lines, stmts, args, s, w, row);
-                s = n;
-            }
-        }
+        let Ok(next) = step_row(s, row) else {
+            return;
+        };
+        w = write_file_row(file, r.row, lines, stmts, args, s, w, row);
+        s = next;
         due = r.next;
     }
 }

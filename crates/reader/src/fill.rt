@@ -1,13 +1,14 @@
 // Writes the records of a text that is accepted: row by row, into zeroed tables that can hold them.
-ghost use Rattle.std.specs.Prelude.{◌≡◌, ◌+◌, ◌*◌, ◌-◌, ◌≤◌, ◌<◌, length, set, eqb};
+ghost use Rattle.std.specs.Prelude.{◌≡◌, true, false, ◌+◌, ◌*◌, ◌-◌, ◌≤◌, ◌<◌, length, set, eqb, Ok};
 ghost use Rattle.listings.specs.Cut.{meant};
 ghost use Rattle.reader.specs.Filling.{Zeroed, Filled};
 ghost use Rattle.reader.specs.Fill.{entry_of, branch_stmts, end_table, end_walk, outside_walk, added_walk, inside_walk, add_simple, add_cond, OperandsPut, Wrote, Recorded, Ready, EndReady, ToReady, AddReady, HasRoom, RecordReady};
+ghost use Rattle.reader.specs.CodedRows.{cond_index};
 ghost use Rattle.reader.specs.RowOperands.{operands_in, row_operands, IsStatement, RowReady};
 
 use super::machine::{State, is_at, start_state, step_row};
-use super::operands::{Given, put_operands};
-use super::rows::{Position, Row, accepted_row};
+use super::operands::{Given, NO_ARGS, put_operands};
+use super::rows::{Cond, Position, Row, accepted_row, index_of};
 use super::tables::{Entry, append, fetch, store};
 use layout::columns::{
     ARG_ENTRIES, END, FORM1, FORM2, HOLDER, INDEX, NUMBER1, NUMBER2, SECOND, STMTS_BRANCH,
@@ -21,6 +22,12 @@ pub(crate) struct Walk {
     pub(crate) holder: u16,
     pub(crate) index: u16,
 }
+
+// Where no statement stands.
+pub(crate) const OUTSIDE: Walk = Walk {
+    holder: 0,
+    index: 0,
+};
 
 // The node of a holder, which is one more.
 fn node_of(holder: u16) -> usize
@@ -38,19 +45,23 @@ fn next_index(k: u16) -> u16
     k + 1
 }
 
-// A branch of IF i ends before node n.
-fn end_branch(t: &mut [u16], i: usize, second: bool, form: u16, number: u16, n: usize)
+// The first branch of IF i ends before node n.
+fn end_first(t: &mut [u16], i: usize, form: u16, number: u16, n: usize)
     requires { (i * 12 + 12 ≤ length t.old) × (i ≤ 4096) × (n ≤ 4096) }
-    ensures { t.new ≡ branch_stmts t.old i second form number n }
+    ensures { t.new ≡ branch_stmts t.old i false form number n }
 {
-    if second {
-        store(t, i, FORM2, form);
-        store(t, i, NUMBER2, number);
-        return;
-    }
     store(t, i, SECOND, n as u16);
     store(t, i, FORM1, form);
     store(t, i, NUMBER1, number);
+}
+
+// Its second branch ends.
+fn end_second(t: &mut [u16], i: usize, form: u16, number: u16)
+    requires { (i * 12 + 12 ≤ length t.old) × (i ≤ 4096) }
+    ensures { t.new ≡ branch_stmts t.old i true form number 0 }
+{
+    store(t, i, FORM2, form);
+    store(t, i, NUMBER2, number);
 }
 
 // `)`: the way back from an IF is in its own record.
@@ -60,19 +71,14 @@ fn end_row(t: &mut [u16], s: State, w: Walk) -> Walk
 {
     if is_at(s, Position::InStmts) {
         if s.depth == 0 {
-            return Walk {
-                holder: 0,
-                index: 0,
-            };
+            return OUTSIDE;
         }
-        end_branch(
-            t,
-            node_of(w.holder),
-            s.open_conds % 2 == 1,
-            STMTS_BRANCH,
-            0,
-            s.stmts,
-        );
+        let i = node_of(w.holder);
+        if s.open_conds % 2 == 1 {
+            end_second(t, i, STMTS_BRANCH, 0);
+        } else {
+            end_first(t, i, STMTS_BRANCH, 0, s.stmts);
+        }
         return w;
     }
     if is_at(s, Position::InCond) {
@@ -85,10 +91,7 @@ fn end_row(t: &mut [u16], s: State, w: Walk) -> Walk
             index: next_index(k),
         };
     }
-    Walk {
-        holder: 0,
-        index: 0,
-    }
+    OUTSIDE
 }
 
 // `(to N)`
@@ -96,7 +99,12 @@ fn to_row(t: &mut [u16], s: State, w: Walk, n: u16) -> Walk
     requires { ToReady t.old s w }
     ensures { (result ≡ w) × (t.new ≡ branch_stmts t.old (w.holder - 1) (eqb s.branches 1) 2 n s.stmts) }
 {
-    end_branch(t, node_of(w.holder), s.branches == 1, TO_BRANCH, n, s.stmts);
+    let i = node_of(w.holder);
+    if s.branches == 1 {
+        end_second(t, i, TO_BRANCH, n);
+    } else {
+        end_first(t, i, TO_BRANCH, n, s.stmts);
+    }
     w
 }
 
@@ -129,15 +137,12 @@ pub(crate) fn add_simple(stmts: &mut [u16], s: State, w: Walk, word: usize, give
 }
 
 // The record of an IF, whose branches are not read yet; the next statement stands inside it.
-fn add_cond(stmts: &mut [u16], s: State, w: Walk, k: usize) -> Walk
-    requires { AddReady stmts.old s w (k + 2) }
-    ensures { (result ≡ inside_walk s) × (stmts.new ≡ add_cond stmts.old s w k) }
+fn add_cond(stmts: &mut [u16], s: State, w: Walk, word: Cond) -> Walk
+    requires { AddReady stmts.old s w (cond_index word + 2) }
+    ensures { (result ≡ inside_walk s) × (stmts.new ≡ add_cond stmts.old s w word) }
 {
-    let none = Given {
-        count: 0,
-        detail: 0,
-    };
-    append(stmts, s.stmts, record_entry(s, w, k + 2, 0, none));
+    let k = index_of(word) as usize + 2;
+    append(stmts, s.stmts, record_entry(s, w, k, 0, NO_ARGS));
     Walk {
         holder: (s.stmts + 1) as u16,
         index: 0,
@@ -150,10 +155,7 @@ fn add_line(lines: &mut [u16], at: usize, n: u16) -> Walk
     ensures { (result ≡ outside_walk) × (lines.new ≡ set lines.old at n) }
 {
     lines[at] = n;
-    Walk {
-        holder: 0,
-        index: 0,
-    }
+    OUTSIDE
 }
 
 // What a row that is taken appends or amends. given: of a statement, whose arguments are in their entries already.
@@ -165,21 +167,17 @@ pub(crate) fn write_row(
     row: Row,
     given: Given,
 ) -> Walk
-    requires { Ready lines.old stmts.old s w row given }
-    ensures { Wrote lines.old stmts.old s w row given lines.new stmts.new result }
+    requires { Ready lines.old stmts.old s w (Ok row) given }
+    ensures { Wrote lines.old stmts.old s w (Ok row) given lines.new stmts.new result }
 {
     match row {
-        Row::Refused { reason: _, due: _ } => w,
         Row::End => end_row(stmts, s, w),
         Row::Stmts => w,
-        Row::Module(_) => Walk {
-            holder: 0,
-            index: 0,
-        },
+        Row::Module(_) => OUTSIDE,
         Row::Line(n) => add_line(lines, s.lines, n),
         Row::To(n) => to_row(stmts, s, w, n),
         Row::Simple { word, count: _ } => add_simple(stmts, s, w, word, given),
-        Row::Cond(k) => add_cond(stmts, s, w, k),
+        Row::Cond(word) => add_cond(stmts, s, w, word),
     }
 }
 
@@ -203,30 +201,24 @@ fn write_text_row(
     w: Walk,
     row: Row,
 ) -> Walk
-    requires { RowReady text.now row × RecordReady lines.old stmts.old args.old s w row (row_operands text.now row) }
-    ensures { Recorded lines.old stmts.old args.old s w row (row_operands text.now row) lines.new stmts.new args.new result }
+    requires { RowReady text.now (Ok row) × RecordReady lines.old stmts.old args.old s w (Ok row) (row_operands text.now (Ok row)) }
+    ensures { Recorded lines.old stmts.old args.old s w (Ok row) (row_operands text.now (Ok row)) lines.new stmts.new args.new result }
 {
     let Row::Simple { word, count: _ } = row else {
-        let none = Given {
-            count: 0,
-            detail: 0,
-        };
-        return write_row(lines, stmts, s, w, row, none);
+        return write_row(lines, stmts, s, w, row, NO_ARGS);
     };
     let given = put_row_operands(word, text, args, s.stmts);
     add_simple(stmts, s, w, word, given)
 }
 
 // The rows again, each of which was taken before.
+// Kept: no `split`, as in `judge`: the last piece is no row.
 pub(crate) fn fill(text: &[u8], lines: &mut [u16], stmts: &mut [u16], args: &mut [u64])
     requires { Zeroed (meant text.now) lines.old stmts.old args.old }
     ensures { Filled (meant text.now) lines.old stmts.old args.old lines.new stmts.new args.new }
 {
     let mut s = start_state();
-    let mut w = Walk {
-        holder: 0,
-        index: 0,
-    };
+    let mut w = OUTSIDE;
     let mut at: usize = 0;
     loop {
         let e = find(&text[at..], 10);
@@ -234,14 +226,14 @@ pub(crate) fn fill(text: &[u8], lines: &mut [u16], stmts: &mut [u16], args: &mut
         if to == text.len() {
             return;
         }
-        let row = accepted_row(&text[at..to]);
-        match step_row(s, row) {
-            Err(_) => return,
-            Ok(n) => {
-                w = write_text_row(&text[at..to], lines, stmts, args, s, w, row);
-                s = n;
-            }
-        }
+        let Ok(row) = accepted_row(&text[at..to]) else {
+            return;
+        };
+        let Ok(next) = step_row(s, row) else {
+            return;
+        };
+        w = write_text_row(&text[at..to], lines, stmts, args, s, w, row);
+        s = next;
         at = to + 1;
     }
 }

@@ -3,6 +3,7 @@ ghost use Rattle.std.specs.Prelude.{◌≡◌, length, replicate};
 ghost use Rattle.listings.specs.Cut.{meant};
 ghost use Rattle.program_files.specs.Inputs.{meaning};
 ghost use Rattle.reader.specs.Answer.{by_number, listed_of};
+ghost use Rattle.reader.specs.Inputs.{is_program, bytes_of};
 ghost use Rattle.reader.specs.Filling.{Zeroed, Filled};
 ghost use Rattle.reader.specs.Listed.{Judged as JudgedInput, RecordsWritten};
 ghost use Rattle.reader.specs.FileLoop.{listed_program_of};
@@ -14,6 +15,13 @@ use super::tables::put_counts;
 use basic::judge::{Counts, judge_program};
 use layout::columns::{ARG_ENTRIES, STMT_ENTRIES};
 use layout::refusals::{Reason, Refusal};
+
+// A listing's text, or a saved program.
+#[derive(Clone, Copy)]
+pub enum Input<'a> {
+    Text(&'a [u8]),
+    Program(&'a [u8]),
+}
 
 // What an accepted input means: whether ON KEY, ON ERROR or RESUME occurs; how many lines and statements.
 #[derive(Clone, Copy, Debug, PartialEq, Eq)]
@@ -36,25 +44,24 @@ fn listed_program(j: Result<Counts, Refusal>) -> Result<Accepted, Refusal>
 }
 
 // An input, accepted or refused.
-fn judge_input(program: bool, input: &[u8]) -> Result<Accepted, Refusal>
-    ensures { by_number result ≡ listed_of (meaning program input.now) }
+fn judge_input(input: Input<'_>) -> Result<Accepted, Refusal>
+    ensures { by_number result ≡ listed_of (meaning (is_program input.entry) (bytes_of input.entry)) }
 {
-    if program {
-        return listed_program(judge_program(input));
+    match input {
+        Input::Text(text) => judge(text),
+        Input::Program(file) => listed_program(judge_program(file)),
     }
-    judge(input)
 }
 
 // The records of an input that is accepted, into zeroed tables that can hold them.
-fn fill_input(program: bool, input: &[u8], lines: &mut [u16], stmts: &mut [u16], args: &mut [u64])
-    requires { Zeroed (meaning program input.now) lines.old stmts.old args.old }
-    ensures { Filled (meaning program input.now) lines.old stmts.old args.old lines.new stmts.new args.new }
+fn fill_input(input: Input<'_>, lines: &mut [u16], stmts: &mut [u16], args: &mut [u64])
+    requires { Zeroed (meaning (is_program input) (bytes_of input)) lines.old stmts.old args.old }
+    ensures { Filled (meaning (is_program input.entry) (bytes_of input.entry)) lines.old stmts.old args.old lines.new stmts.new args.new }
 {
-    if program {
-        fill_program(input, lines, stmts, args);
-        return;
+    match input {
+        Input::Text(text) => fill(text, lines, stmts, args),
+        Input::Program(file) => fill_program(file, lines, stmts, args),
     }
-    fill(input, lines, stmts, args);
 }
 
 // The tables become zero.
@@ -67,17 +74,17 @@ fn clear_tables(lines: &mut [u16], stmts: &mut [u16], args: &mut [u64])
 }
 
 // An accepted input, into zeroed tables.
+// Kept: tables that are written go one by one; of a struct of `&mut` a clause names what is left behind it by nested pairs.
 fn write_listing(
-    program: bool,
-    input: &[u8],
+    input: Input<'_>,
     counts: &mut [u32; 6],
     lines: &mut [u16],
     stmts: &mut [u16],
     args: &mut [u64],
     a: Accepted,
 ) -> Result<Accepted, Refusal>
-    requires { JudgedInput (meaning program input.now) counts.old lines.old stmts.old args.old a.handlers a.lines a.stmts }
-    ensures { RecordsWritten (meaning program input.now) (length lines.old) (length stmts.old) (length args.old) counts.new lines.new stmts.new args.new result }
+    requires { JudgedInput (meaning (is_program input) (bytes_of input)) counts.old lines.old stmts.old args.old a.handlers a.lines a.stmts }
+    ensures { RecordsWritten (meaning (is_program input.entry) (bytes_of input.entry)) (length lines.old) (length stmts.old) (length args.old) counts.new lines.new stmts.new args.new result }
 {
     if lines.len() < a.lines {
         return Err(Reason::LineTables.at(a.lines));
@@ -85,7 +92,7 @@ fn write_listing(
     if stmts.len() / STMT_ENTRIES < a.stmts || args.len() / ARG_ENTRIES < a.stmts {
         return Err(Reason::NodeTables.at(a.stmts));
     }
-    fill_input(program, input, lines, stmts, args);
+    fill_input(input, lines, stmts, args);
     put_counts(
         counts,
         a.lines as u32,
@@ -95,25 +102,26 @@ fn write_listing(
     Ok(a)
 }
 
-// program: whether the input is a saved program and no text. counts: lines, statements, handlers. lines: a number each. stmts: 12 entries a statement, args: 64.
+// counts: lines, statements, handlers. lines: a number each. stmts: 12 entries a statement, args: 64.
 // A refused input leaves every entry zero.
+// Kept: the C interface lends the tables one by one.
 pub fn read_input(
-    program: bool,
-    input: &[u8],
+    input: Input<'_>,
     counts: &mut [u32; 6],
     lines: &mut [u16],
     stmts: &mut [u16],
     args: &mut [u64],
 ) -> Result<Accepted, Refusal>
-    ensures { RecordsWritten (meaning program input.now) (length lines.old) (length stmts.old) (length args.old) counts.new lines.new stmts.new args.new result }
+    ensures { RecordsWritten (meaning (is_program input.entry) (bytes_of input.entry)) (length lines.old) (length stmts.old) (length args.old) counts.new lines.new stmts.new args.new result }
 {
     put_counts(counts, 0, 0, 0);
     clear_tables(lines, stmts, args);
-    let a = judge_input(program, input)?;
-    write_listing(program, input, counts, lines, stmts, args, a)
+    let a = judge_input(input)?;
+    write_listing(input, counts, lines, stmts, args, a)
 }
 
 // The same of a text.
+// Kept: the C interface lends the tables one by one.
 pub fn read_listing(
     text: &[u8],
     counts: &mut [u32; 6],
@@ -123,5 +131,5 @@ pub fn read_listing(
 ) -> Result<Accepted, Refusal>
     ensures { RecordsWritten (meant text.now) (length lines.old) (length stmts.old) (length args.old) counts.new lines.new stmts.new args.new result }
 {
-    read_input(false, text, counts, lines, stmts, args)
+    read_input(Input::Text(text), counts, lines, stmts, args)
 }

@@ -1,26 +1,26 @@
 // The row machine: where reading stands, and what each row does to it.
-ghost use Rattle.std.specs.Prelude.{◌≡◌, ◌≤◌, ◌<◌, eqb};
+ghost use Rattle.std.specs.Prelude.{◌≡◌, ◌≤◌, ◌<◌, eqb, Ok};
 ghost use Rattle.listings.specs.Read.{start};
 ghost use Rattle.reader.specs.CodedRows.{place_number};
-ghost use Rattle.reader.specs.Machine.{as_state, outside, moved, one_more, step_module, step_line, step_simple, step_cond, may_branch, is_complete, step_stmts, step_to, step_refused, end_of_stmts, step_end, step_row};
+ghost use Rattle.reader.specs.Machine.{as_state, outside, moved, one_more, step_module, ascends, step_line, step_simple, step_cond, may_branch, is_complete, step_stmts, step_to, reason_at, end_of_stmts, step_end, step_row};
 
-use super::rows::{Position, Row};
+use super::rows::{Cond, Misfit, Position, Row, cond_of, index_of};
 use layout::limits::{MAX_ARGS, MAX_DEPTH, MAX_LINES, MAX_STMTS};
 use layout::refusals::Reason;
 
-// last: 0, or one more than the last line's number. lines, stmts: how many were begun.
+// last: the last line's number. lines, stmts: how many were begun.
 // depth, open_conds: the IFs in whose branches the next row stands, packed to the base 8, the innermost lowest: twice the word's number, and 1 in a second branch.
-// word, branches: of the IF whose branches are due.
+// word, branches: of the IF whose branches are due; elsewhere If and 0.
 #[derive(Clone, Copy)]
 pub(crate) struct State {
     pub(crate) position: Position,
     pub(crate) handlers: bool,
-    pub(crate) last: u32,
+    pub(crate) last: Option<u16>,
     pub(crate) lines: usize,
     pub(crate) stmts: usize,
     pub(crate) depth: usize,
     pub(crate) open_conds: u64,
-    pub(crate) word: u64,
+    pub(crate) word: Cond,
     pub(crate) branches: u64,
 }
 
@@ -38,12 +38,12 @@ pub(crate) fn start_state() -> State
     State {
         position: Position::Begin,
         handlers: false,
-        last: 0,
+        last: None,
         lines: 0,
         stmts: 0,
         depth: 0,
         open_conds: 0,
-        word: 0,
+        word: Cond::If,
         branches: 0,
     }
 }
@@ -54,49 +54,34 @@ fn outside(s: State, position: Position) -> State
 {
     State {
         position,
-        handlers: s.handlers,
-        last: s.last,
-        lines: s.lines,
-        stmts: s.stmts,
         depth: 0,
         open_conds: 0,
-        word: 0,
+        word: Cond::If,
         branches: 0,
+        ..s
     }
 }
 
 // At another position, as deep as before.
-fn moved(s: State, position: Position, word: u64, branches: u64) -> State
+fn moved(s: State, position: Position, word: Cond, branches: u64) -> State
     ensures { result ≡ moved s position word branches }
 {
     State {
         position,
-        handlers: s.handlers,
-        last: s.last,
-        lines: s.lines,
-        stmts: s.stmts,
-        depth: s.depth,
-        open_conds: s.open_conds,
         word,
         branches,
+        ..s
     }
 }
 
 // With one statement more.
-fn one_more(s: State, position: Position, word: u64) -> State
+fn one_more(s: State, position: Position, word: Cond) -> State
     requires { s.stmts < 4096 }
     ensures { result ≡ one_more s position word }
 {
     State {
-        position,
-        handlers: s.handlers,
-        last: s.last,
-        lines: s.lines,
         stmts: s.stmts + 1,
-        depth: s.depth,
-        open_conds: s.open_conds,
-        word,
-        branches: 0,
+        ..moved(s, position, word, 0)
     }
 }
 
@@ -108,42 +93,38 @@ fn step_module(s: State, h: bool) -> Result<State, Reason>
         return Err(Reason::NotAForm);
     }
     Ok(State {
-        position: Position::InModule,
         handlers: h,
-        last: s.last,
-        lines: s.lines,
-        stmts: s.stmts,
-        depth: 0,
-        open_conds: 0,
-        word: 0,
-        branches: 0,
+        ..outside(s, Position::InModule)
     })
 }
 
-// A line above the last one; line 1,025 is one too many. `last` is one more than the last number.
+// Whether a line's number is above the last one's.
+fn ascends(last: Option<u16>, n: u16) -> bool
+    ensures { result ≡ ascends last n }
+{
+    match last {
+        None => true,
+        Some(m) => m < n,
+    }
+}
+
+// A line above the last one; line 1,025 is one too many.
 fn step_line(s: State, n: u16) -> Result<State, Reason>
     ensures { result ≡ step_line s n }
 {
     if !is_at(s, Position::InModule) {
         return Err(Reason::NotAForm);
     }
-    let m = u32::from(n);
-    if m < s.last {
+    if !ascends(s.last, n) {
         return Err(Reason::LineOrder);
     }
     if MAX_LINES <= s.lines {
         return Err(Reason::TooManyLines);
     }
     Ok(State {
-        position: Position::InStmts,
-        handlers: s.handlers,
-        last: m + 1,
+        last: Some(n),
         lines: s.lines + 1,
-        stmts: s.stmts,
-        depth: 0,
-        open_conds: 0,
-        word: 0,
-        branches: 0,
+        ..outside(s, Position::InStmts)
     })
 }
 
@@ -163,12 +144,12 @@ fn step_simple(s: State, count: usize) -> Result<State, Reason>
     if MAX_ARGS < count {
         return Err(Reason::TooWide);
     }
-    Ok(one_more(s, Position::InStmts, 0))
+    Ok(one_more(s, Position::InStmts, Cond::If))
 }
 
 // An IF opens; its branches are due next.
-fn step_cond(s: State, k: usize) -> Result<State, Reason>
-    ensures { result ≡ step_cond s k }
+fn step_cond(s: State, word: Cond) -> Result<State, Reason>
+    ensures { result ≡ step_cond s word }
 {
     if !is_at(s, Position::InStmts) {
         return Err(Reason::NotAForm);
@@ -179,49 +160,42 @@ fn step_cond(s: State, k: usize) -> Result<State, Reason>
     if MAX_DEPTH < s.depth {
         return Err(Reason::TooDeep);
     }
-    Ok(one_more(s, Position::InCond, k as u64))
+    Ok(one_more(s, Position::InCond, word))
 }
 
 // May one more branch follow: IF has one, the others two.
-fn may_branch(word: u64, branches: u64) -> bool
+fn may_branch(word: Cond, branches: u64) -> bool
     ensures { result ≡ may_branch word branches }
 {
-    match branches {
-        0 => true,
-        1 => word != 0,
-        _ => false,
+    match word {
+        Cond::If => branches == 0,
+        Cond::IfElse | Cond::Rcomp => branches < 2,
     }
 }
 
 // Are the branches all that the word must have: IFELSE needs two.
-fn is_complete(word: u64, branches: u64) -> bool
+fn is_complete(word: Cond, branches: u64) -> bool
     ensures { result ≡ is_complete word branches }
 {
-    match branches {
-        1 => word != 1,
-        2 => word != 0,
-        _ => false,
+    match word {
+        Cond::If => branches == 1,
+        Cond::IfElse => branches == 2,
+        Cond::Rcomp => branches == 1 || branches == 2,
     }
 }
 
 // A branch opens: the IF goes to the packed shape until it ends.
 fn step_stmts(s: State) -> Result<State, Reason>
-    requires { (s.open_conds < 2251799813685248) × (s.word ≤ 2) × (s.branches ≤ 2) × (s.depth ≤ 17) }
+    requires { (s.open_conds < 2251799813685248) × (s.branches ≤ 2) × (s.depth ≤ 17) }
     ensures { result ≡ step_stmts s }
 {
     if !is_at(s, Position::InCond) || !may_branch(s.word, s.branches) {
         return Err(Reason::NotAForm);
     }
     Ok(State {
-        position: Position::InStmts,
-        handlers: s.handlers,
-        last: s.last,
-        lines: s.lines,
-        stmts: s.stmts,
         depth: s.depth + 1,
-        open_conds: s.word * 2 + s.branches + 8 * s.open_conds,
-        word: 0,
-        branches: 0,
+        open_conds: index_of(s.word) * 2 + s.branches + 8 * s.open_conds,
+        ..moved(s, Position::InStmts, Cond::If, 0)
     })
 }
 
@@ -236,14 +210,14 @@ fn step_to(s: State) -> Result<State, Reason>
     Ok(moved(s, Position::InCond, s.word, s.branches + 1))
 }
 
-// A row that is refused for this reason where it is due, and there only where a branch may follow. Outside of branches both counts are 0, and one may.
-fn step_refused(s: State, reason: Reason, due: Position) -> Result<State, Reason>
-    ensures { result ≡ step_refused s reason due }
+// Why a row is refused here: for its own reason where it is due, and there only where a branch may follow. Outside of branches both counts are 0, and one may.
+pub(crate) fn reason_at(s: State, m: Misfit) -> Reason
+    ensures { result ≡ reason_at s m }
 {
-    if !is_at(s, due) || !may_branch(s.word, s.branches) {
-        return Err(Reason::NotAForm);
+    if !is_at(s, m.due) || !may_branch(s.word, s.branches) {
+        return Reason::NotAForm;
     }
-    Err(reason)
+    m.reason
 }
 
 // `)` after statements: a line ends, or the innermost IF goes on.
@@ -255,15 +229,9 @@ fn end_of_stmts(s: State) -> Result<State, Reason>
     }
     let top = s.open_conds % 8;
     Ok(State {
-        position: Position::InCond,
-        handlers: s.handlers,
-        last: s.last,
-        lines: s.lines,
-        stmts: s.stmts,
         depth: s.depth - 1,
         open_conds: s.open_conds / 8,
-        word: top / 2,
-        branches: top % 2 + 1,
+        ..moved(s, Position::InCond, cond_of(top / 2), top % 2 + 1)
     })
 }
 
@@ -275,7 +243,7 @@ fn step_end(s: State) -> Result<State, Reason>
         return end_of_stmts(s);
     }
     if is_at(s, Position::InCond) && is_complete(s.word, s.branches) {
-        return Ok(moved(s, Position::InStmts, 0, 0));
+        return Ok(moved(s, Position::InStmts, Cond::If, 0));
     }
     if is_at(s, Position::InModule) {
         return Ok(outside(s, Position::Ended));
@@ -285,17 +253,16 @@ fn step_end(s: State) -> Result<State, Reason>
 
 // Every step keeps what is required here of the state; 2251799813685248 is 8 to the power 17.
 pub(crate) fn step_row(s: State, row: Row) -> Result<State, Reason>
-    requires { (s.open_conds < 2251799813685248) × (s.word ≤ 2) × (s.branches ≤ 2) × (s.depth ≤ 17) }
-    ensures { result ≡ step_row s row }
+    requires { (s.open_conds < 2251799813685248) × (s.branches ≤ 2) × (s.depth ≤ 17) }
+    ensures { result ≡ step_row s (Ok row) }
 {
     match row {
-        Row::Refused { reason, due } => step_refused(s, reason, due),
         Row::End => step_end(s),
         Row::Stmts => step_stmts(s),
         Row::Module(h) => step_module(s, h),
         Row::Line(n) => step_line(s, n),
         Row::To(_) => step_to(s),
         Row::Simple { word: _, count } => step_simple(s, count),
-        Row::Cond(k) => step_cond(s, k),
+        Row::Cond(word) => step_cond(s, word),
     }
 }

@@ -1,12 +1,12 @@
 // What a row says, wherever it stands.
-ghost use Rattle.std.specs.Prelude.{◌≡◌, ◌-◌, ◌<◌};
+ghost use Rattle.std.specs.Prelude.{◌≡◌, ◌-◌, ◌<◌, ◌≤◌, eqb};
 ghost use Rattle.listings.specs.Rows.{split, module_content, form_row, row_of, content_of};
 ghost use Rattle.tokens.specs.Kinds.{opened_kind};
-ghost use Rattle.reader.specs.CodedRows.{as_row, simple_by, to_by_number, line_by_number, closed_args, opened_args, args_row, closed_bare, opened_bare, bare_row, words_end};
+ghost use Rattle.reader.specs.CodedRows.{as_row, cond_by, cond_index, is_closed, simple_by, to_by_number, line_by_number, closed_args, opened_args, args_row, closed_bare, opened_bare, bare_row, words_end};
 ghost use Rattle.reader.specs.AcceptedRows.{WellFormed, uncounted};
 
 use layout::refusals::Reason;
-use tokens::arguments::{are_words, check_kind, single_number};
+use tokens::arguments::{Checked, are_words, check_kind, single_number};
 use tokens::scan::{equal, find};
 use tokens::words::{Kind, candidate, kind_of, word_of};
 
@@ -20,83 +20,131 @@ pub(crate) enum Position {
     InCond,
 }
 
-// Refused: for this reason where such a row is due, elsewhere as no form. What is no form is that wherever it stands; its due is InStmts.
-// word: the number of the opening word; count: how many numbers or slots. Cond: 0 IF, 1 IFELSE, 2 RCOMP.
+// A word that has branches.
+#[derive(Clone, Copy)]
+pub(crate) enum Cond {
+    If,
+    IfElse,
+    Rcomp,
+}
+
+// What a row says. word: the number of the opening word; count: how many numbers or slots.
+// Kept: `End` is the row `)`, and nothing that is missing.
 #[derive(Clone, Copy)]
 pub(crate) enum Row {
-    Refused { reason: Reason, due: Position },
     End,
     Stmts,
     Module(bool),
     Line(u16),
     To(u16),
     Simple { word: usize, count: usize },
-    Cond(usize),
+    Cond(Cond),
+}
+
+// Why a row is refused where such a row is due; elsewhere it is no form. What is no form wherever it stands is due where statements are.
+#[derive(Clone, Copy)]
+pub(crate) struct Misfit {
+    pub(crate) reason: Reason,
+    pub(crate) due: Position,
 }
 
 // No form, wherever it stands.
-pub(crate) const NO_FORM: Row = Row::Refused {
+const NO_FORM: Misfit = Misfit {
     reason: Reason::NotAForm,
     due: Position::InStmts,
 };
 
-// A statement's row by how many numbers or slots it lists.
-fn simple_row(k: usize, count: Result<usize, Reason>) -> Row
-    ensures { result ≡ simple_by k count }
+// The word of this number among those with branches.
+pub(crate) fn cond_of(n: u64) -> Cond
+    ensures { result ≡ cond_by n }
 {
-    match count {
-        Ok(count) => Row::Simple { word: k, count },
-        Err(reason) => Row::Refused {
-            reason,
-            due: Position::InStmts,
-        },
+    match n {
+        0 => Cond::If,
+        1 => Cond::IfElse,
+        _ => Cond::Rcomp,
     }
+}
+
+// Its number among them.
+pub(crate) fn index_of(word: Cond) -> u64
+    ensures { (result ≡ cond_index word) × (result ≤ 2) }
+{
+    match word {
+        Cond::If => 0,
+        Cond::IfElse => 1,
+        Cond::Rcomp => 2,
+    }
+}
+
+// Whether a row ends with its closing bracket.
+#[derive(Clone, Copy)]
+enum Bracket {
+    Closed,
+    Open,
+}
+
+// By a row's last byte.
+fn bracket_of(b: u8) -> Bracket
+    ensures { is_closed result ≡ eqb b 41 }
+{
+    if b == 41 {
+        return Bracket::Closed;
+    }
+    Bracket::Open
+}
+
+// A statement's row by its words.
+fn simple_row(k: usize, words: Checked) -> Result<Row, Misfit>
+    ensures { result ≡ simple_by k words }
+{
+    words.verdict.map_err(|reason| Misfit {
+        reason,
+        due: Position::InStmts,
+    })?;
+    Ok(Row::Simple {
+        word: k,
+        count: words.count,
+    })
 }
 
 // A `to` row by its number.
-fn to_row(n: Result<u16, Reason>) -> Row
+fn to_row(n: Result<u16, Reason>) -> Result<Row, Misfit>
     ensures { result ≡ to_by_number n }
 {
-    match n {
-        Ok(v) => Row::To(v),
-        Err(reason) => Row::Refused {
-            reason,
-            due: Position::InCond,
-        },
-    }
+    n.map(Row::To).map_err(|reason| Misfit {
+        reason,
+        due: Position::InCond,
+    })
 }
 
 // A line's row by its number.
-fn line_row(n: Result<u16, Reason>) -> Row
+fn line_row(n: Result<u16, Reason>) -> Result<Row, Misfit>
     ensures { result ≡ line_by_number n }
 {
-    match n {
-        Ok(v) => Row::Line(v),
-        Err(reason) => Row::Refused {
-            reason,
-            due: Position::InModule,
-        },
-    }
+    n.map(Row::Line).map_err(|reason| Misfit {
+        reason,
+        due: Position::InModule,
+    })
 }
 
 // `(module H`
-fn module_row(s: &[u8]) -> Row
+fn module_row(s: &[u8]) -> Result<Row, Misfit>
     ensures { result ≡ as_row (module_content (split 32 s.now)) }
 {
     if find(s, 32) < s.len() {
-        return NO_FORM;
+        return Err(NO_FORM);
     }
     if equal(b"0", s) {
-        return Row::Module(false);
+        return Ok(Row::Module(false));
     }
     if equal(b"1", s) {
-        return Row::Module(true);
+        return Ok(Row::Module(true));
     }
-    NO_FORM
+    Err(NO_FORM)
 }
 
 // A closed form with words after its opening word.
-fn closed_args(kind: Kind, k: usize, s: &[u8]) -> Row
+fn closed_args(kind: Kind, k: usize, s: &[u8]) -> Result<Row, Misfit>
     ensures { result ≡ closed_args kind k (split 32 s.now) }
 {
     match kind {
@@ -106,156 +154,146 @@ fn closed_args(kind: Kind, k: usize, s: &[u8]) -> Row
 }
 
 // One that is not closed on its row.
-fn opened_args(kind: Kind, s: &[u8]) -> Row
+fn opened_args(kind: Kind, s: &[u8]) -> Result<Row, Misfit>
     ensures { result ≡ opened_args kind (split 32 s.now) }
 {
     match kind {
         Kind::Module => module_row(s),
         Kind::Line => line_row(single_number(s)),
-        _ => NO_FORM,
+        _ => Err(NO_FORM),
     }
 }
 
 // A form with words after its opening word.
-fn args_row(k: usize, closed: bool, s: &[u8]) -> Row
-    ensures { result ≡ args_row (opened_kind k) k closed (split 32 s.now) }
+fn args_row(k: usize, bracket: Bracket, s: &[u8]) -> Result<Row, Misfit>
+    ensures { result ≡ args_row (opened_kind k) k (is_closed bracket) (split 32 s.now) }
 {
-    let Some(kind) = kind_of(k) else {
-        return NO_FORM;
-    };
-    if closed {
-        return closed_args(kind, k, s);
+    let kind = kind_of(k).ok_or(NO_FORM)?;
+    match bracket {
+        Bracket::Closed => closed_args(kind, k, s),
+        Bracket::Open => opened_args(kind, s),
     }
-    opened_args(kind, s)
 }
 
 // A closed form of its opening word alone, without the number that `to` needs.
-fn closed_bare(kind: Kind, k: usize) -> Row
+fn closed_bare(kind: Kind, k: usize) -> Result<Row, Misfit>
     ensures { result ≡ closed_bare kind k }
 {
     match kind {
         Kind::To => to_row(Err(Reason::NotAForm)),
-        Kind::Bare | Kind::Numbers | Kind::Run => Row::Simple { word: k, count: 0 },
-        _ => NO_FORM,
+        Kind::Bare | Kind::Numbers | Kind::Run => Ok(Row::Simple { word: k, count: 0 }),
+        _ => Err(NO_FORM),
     }
 }
 
 // One that is not closed on its row. IF, IFELSE and RCOMP are the opening words 2 to 4.
-fn opened_bare(kind: Kind, k: usize) -> Row
+fn opened_bare(kind: Kind, k: usize) -> Result<Row, Misfit>
     ensures { result ≡ opened_bare kind k }
 {
     match kind {
         Kind::Line => line_row(Err(Reason::NotAForm)),
-        Kind::Stmts => Row::Stmts,
-        Kind::Cond => Row::Cond(k.saturating_sub(2)),
-        _ => NO_FORM,
+        Kind::Stmts => Ok(Row::Stmts),
+        Kind::Cond => Ok(Row::Cond(cond_of(k.saturating_sub(2) as u64))),
+        _ => Err(NO_FORM),
     }
 }
 
 // A form of its opening word alone.
-fn bare_row(k: usize, closed: bool) -> Row
-    ensures { result ≡ bare_row (opened_kind k) k closed }
+fn bare_row(k: usize, bracket: Bracket) -> Result<Row, Misfit>
+    ensures { result ≡ bare_row (opened_kind k) k (is_closed bracket) }
 {
-    let Some(kind) = kind_of(k) else {
-        return NO_FORM;
-    };
-    if closed {
-        return closed_bare(kind, k);
+    let kind = kind_of(k).ok_or(NO_FORM)?;
+    match bracket {
+        Bracket::Closed => closed_bare(kind, k),
+        Bracket::Open => opened_bare(kind, k),
     }
-    opened_bare(kind, k)
 }
 
-// What stands between the brackets; closed: the row had its closing one.
-fn form_row(s: &[u8], closed: bool) -> Row
-    ensures { result ≡ as_row (content_of (form_row closed (split 32 s.now))) }
+// What stands between the brackets.
+fn form_row(s: &[u8], bracket: Bracket) -> Result<Row, Misfit>
+    ensures { result ≡ as_row (content_of (form_row (is_closed bracket) (split 32 s.now))) }
 {
     if !are_words(s) {
-        return NO_FORM;
+        return Err(NO_FORM);
     }
     let e = find(s, 32);
-    let Some(k) = word_of(&s[0..e]) else {
-        return NO_FORM;
-    };
+    let k = word_of(&s[0..e]).ok_or(NO_FORM)?;
     if e == s.len() {
-        return bare_row(k, closed);
+        return bare_row(k, bracket);
     }
     let from = e + 1;
-    args_row(k, closed, &s[from..])
+    args_row(k, bracket, &s[from..])
 }
 
 // Where the words of a row of n bytes end.
-fn words_end(n: usize, closed: bool) -> usize
+fn words_end(n: usize, bracket: Bracket) -> usize
     requires { 0 < n }
-    ensures { result ≡ words_end n closed }
+    ensures { result ≡ words_end n (is_closed bracket) }
 {
-    if closed {
-        return n - 1;
+    match bracket {
+        Bracket::Closed => n - 1,
+        Bracket::Open => n,
     }
-    n
 }
 
 // What a row says.
-pub(crate) fn row_of(s: &[u8]) -> Row
+pub(crate) fn row_of(s: &[u8]) -> Result<Row, Misfit>
     ensures { result ≡ as_row (content_of (row_of s.now)) }
 {
     let n = s.len();
     if n == 0 {
-        return NO_FORM;
+        return Err(NO_FORM);
     }
     if s[0] != 40 {
         if equal(s, b")") {
-            return Row::End;
+            return Ok(Row::End);
         }
-        return NO_FORM;
+        return Err(NO_FORM);
     }
-    let last = n - 1;
-    let closed = s[last] == 41;
-    let end = words_end(n, closed);
-    form_row(&s[1..end], closed)
+    let bracket = bracket_of(s[n - 1]);
+    let end = words_end(n, bracket);
+    form_row(&s[1..end], bracket)
 }
 
 // A row of an accepted text is in form: its words are not judged again, nor counted.
-fn accepted_args(k: usize, closed: bool, s: &[u8]) -> Row
-    requires { WellFormed (args_row (opened_kind k) k closed (split 32 s.now)) }
-    ensures { result ≡ uncounted (args_row (opened_kind k) k closed (split 32 s.now)) }
+fn accepted_args(k: usize, bracket: Bracket, s: &[u8]) -> Result<Row, Misfit>
+    requires { WellFormed (args_row (opened_kind k) k (is_closed bracket) (split 32 s.now)) }
+    ensures { result ≡ uncounted (args_row (opened_kind k) k (is_closed bracket) (split 32 s.now)) }
 {
-    let Some(kind) = kind_of(k) else {
-        return NO_FORM;
-    };
-    if !closed {
+    let kind = kind_of(k).ok_or(NO_FORM)?;
+    if let Bracket::Open = bracket {
         return opened_args(kind, s);
     }
     match kind {
         Kind::To => to_row(single_number(s)),
-        _ => Row::Simple { word: k, count: 0 },
+        _ => Ok(Row::Simple { word: k, count: 0 }),
     }
 }
 
 // Its opening word needs no comparing either: it is the one that it can be.
-fn accepted_form(s: &[u8], closed: bool) -> Row
-    requires { WellFormed (as_row (content_of (form_row closed (split 32 s.now)))) }
-    ensures { result ≡ uncounted (as_row (content_of (form_row closed (split 32 s.now)))) }
+fn accepted_form(s: &[u8], bracket: Bracket) -> Result<Row, Misfit>
+    requires { WellFormed (as_row (content_of (form_row (is_closed bracket) (split 32 s.now)))) }
+    ensures { result ≡ uncounted (as_row (content_of (form_row (is_closed bracket) (split 32 s.now)))) }
 {
     let e = find(s, 32);
     let k = candidate(&s[0..e]);
     if e == s.len() {
-        return bare_row(k, closed);
+        return bare_row(k, bracket);
     }
     let from = e + 1;
-    accepted_args(k, closed, &s[from..])
+    accepted_args(k, bracket, &s[from..])
 }
 
 // What a row of an accepted text says; nothing is judged again.
-pub(crate) fn accepted_row(s: &[u8]) -> Row
+pub(crate) fn accepted_row(s: &[u8]) -> Result<Row, Misfit>
     requires { WellFormed (as_row (content_of (row_of s.now))) }
     ensures { result ≡ uncounted (as_row (content_of (row_of s.now))) }
 {
     if s[0] != 40 {
-        return Row::End;
+        return Ok(Row::End);
     }
     let n = s.len();
-    let last = n - 1;
-    let closed = s[last] == 41;
-    let end = words_end(n, closed);
-    accepted_form(&s[1..end], closed)
+    let bracket = bracket_of(s[n - 1]);
+    let end = words_end(n, bracket);
+    accepted_form(&s[1..end], bracket)
 }

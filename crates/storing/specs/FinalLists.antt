@@ -26,7 +26,7 @@ use Rattle.passes.specs.NodeList.{jump_edges, ListIs}
 use Rattle.passes.specs.Regions.{target_row, CallFits}
 use Rattle.passes.specs.WalkTables.{CallsRead}
 use Rattle.passes.specs.RegionLaws.{calls_fit}
-use Rattle.passes.specs.SkipLists.{list-kept, list_stored, joined_to, stored_next}
+use Rattle.passes.specs.SkipLists.{list-kept, joined_to, stored_next}
 use Rattle.storing.specs.AddWithin.{AddedIn, grows_within}
 use Rattle.storing.specs.Appending.{appended_as}
 
@@ -54,7 +54,7 @@ final_size handlers stmts args falls links lists targets i =
 -- ---- one node
 
 -- node i can be read, and its list fits tables of so many entries
-pub record WriteReady (handlers : Bool) (stmts args falls links : List ℕ) (i at : ℕ) (lists scratch returns : List ℕ) (targets edges room : ℕ) : Type 0 where
+pub record WriteReady (handlers : Bool) (stmts args falls links : List ℕ) (i at : ℕ) (lists scratch returns : List ℕ) (targets edges : ℕ) : Type 0 where
   pub node : i < 4096
   pub in_stmts : i * 12 + 12 ≤ length stmts
   pub in_sets : i * 64 + 64 ≤ length args
@@ -66,7 +66,6 @@ pub record WriteReady (handlers : Bool) (stmts args falls links : List ℕ) (i a
   pub few_targets : handlers ≡ true → targets ≤ 4096
   pub fits : at + length (final_list handlers stmts args falls links lists scratch returns targets i) ≤ edges
   pub few : at + length (final_list handlers stmts args falls links lists scratch returns targets i) < 65536
-  pub buffer_size : room ≡ 4096
 
 abbrev pub WriteDone : (handlers : Bool) (stmts args falls links : List ℕ) (i at : ℕ) (lists lists' scratch returns : List ℕ) (targets : ℕ) (succ succ' : List ℕ) (r : ℕ) → Type 0
 WriteDone handlers stmts args falls links i at lists lists' scratch returns targets succ succ' r =
@@ -75,7 +74,7 @@ WriteDone handlers stmts args falls links i at lists lists' scratch returns targ
 
 -- ---- all nodes
 
-pub record WritesReady (handlers : Bool) (stmts args falls links : List ℕ) (n : ℕ) (lists scratch returns : List ℕ) (targets edges room : ℕ) : Type 0 where
+pub record WritesReady (handlers : Bool) (stmts args falls links : List ℕ) (n : ℕ) (lists scratch returns : List ℕ) (targets edges : ℕ) : Type 0 where
   pub calls : CallsRead stmts falls links n
   pub in_sets : n * 64 ≤ length args
   pub rows : n * 4 ≤ length lists
@@ -84,7 +83,6 @@ pub record WritesReady (handlers : Bool) (stmts args falls links : List ℕ) (n 
   pub few_targets : handlers ≡ true → targets ≤ 4096
   pub fits : length (joined_lists (lists_to (final_list handlers stmts args falls links lists scratch returns targets) n)) ≤ edges
   pub few : length (joined_lists (lists_to (final_list handlers stmts args falls links lists scratch returns targets) n)) ≤ 32768
-  pub buffer_size : room ≡ 4096
 
 abbrev pub WritesDone : (handlers : Bool) (stmts args falls links : List ℕ) (n : ℕ) (lists lists' scratch returns : List ℕ) (targets : ℕ) (succ succ' : List ℕ) (r : ℕ) → Type 0
 WritesDone handlers stmts args falls links n lists lists' scratch returns targets succ succ' r =
@@ -103,39 +101,37 @@ module _ (handlers : Bool) (args : List ℕ) (i : ℕ) (returns : List ℕ) (tar
 
   -- with handlers
   module _ (e : handlers ≡ true) (h : handlers ≡ true → targets ≤ length returns) where
-    pub through_ready : {room : ℕ} → length (return_list handlers args i returns targets) ≤ room → (targets ≤ length returns) × (targets ≤ room)
-    through_ready g = (h e, omega (arith, ap length (through_list e), length-take-le targets returns (h e)))
+    pub through_ready : {room : ℕ} → length (return_list handlers args i returns targets) ≤ room → (targets ≤ length returns) × (length (take targets returns) ≤ room)
+    through_ready g = (h e, omega (arith, ap length (through_list e)))
 
-    pub through_done : {part part' : List ℕ} → length (return_list handlers args i returns targets) ≤ length part → part' ≡ take targets returns ++ drop targets part → ListIs (return_list handlers args i returns targets) part part' targets
+    pub through_done : {part part' : List ℕ} → length (return_list handlers args i returns targets) ≤ length part → part' ≡ take targets returns ++ drop (length (take targets returns)) part → ListIs (return_list handlers args i returns targets) part part' targets
     through_done {part} {part'} g q =
         let k : length (take targets returns) ≡ targets = length-take-le targets returns (h e) in
-        let w : targets ≤ length part = (through_ready g).1 in
+        let w : targets ≤ length part = omega (arith, k, (through_ready g).1) in
+        let p : part' ≡ take targets returns ++ drop targets part = rw k at q in
         rw (through_list e)
         (record {
           count = sym k;
-          list = ap (take targets) q ∙ take_at (take targets returns) (drop targets part) targets k;
-          size = ap length q ∙ length-append (take targets returns) (drop targets part) ∙ omega (arith, length-drop targets part);
+          list = ap (take targets) p ∙ take_at (take targets returns) (drop targets part) targets k;
+          size = ap length p ∙ length-append (take targets returns) (drop targets part) ∙ omega (arith, length-drop targets part);
           within = w;
         })
 
   -- without them, from the row of the set
-  module _ (e : handlers ≡ false) {m : ℕ} (k : m ≡ 64) where
-    row_is : take m (drop (i * 64) args) ≡ set_of args i
-    unfolding set_of
-    row_is = ap (λ (x : ℕ). take x (drop (i * 64) args)) k
-
-    members_are : members_of (take m (drop (i * 64) args)) ≡ return_list handlers args i returns targets
-    members_are = ap members_of row_is ∙ sym (back_list e)
+  module _ (e : handlers ≡ false) where
+    members_are : members_of (set_of args i) ≡ return_list handlers args i returns targets
+    members_are = sym (back_list e)
 
     back_ready : {room : ℕ} → i * 64 + 64 ≤ length args → length (return_list handlers args i returns targets) ≤ room
-        → (length (take m (drop (i * 64) args)) ≡ 64) × (length (members_of (take m (drop (i * 64) args))) ≤ room)
-    back_ready h g = (length-take-le m (drop (i * 64) args) (omega (arith, length-drop (i * 64) args)) ∙ k, omega (arith, ap length members_are))
+        → (length (set_of args i) ≡ 64) × (length (members_of (set_of args i)) ≤ room)
+    unfolding set_of
+    back_ready h g = (length-take-le 64 (drop (i * 64) args) (omega (arith, length-drop (i * 64) args)), omega (arith, ap length members_are))
 
-    pub back_done : {part part' : List ℕ} {r : ℕ} → i * 64 + 64 ≤ length args → Put part 0 part' r (members_within (take m (drop (i * 64) args)) (length part)) → length (return_list handlers args i returns targets) ≤ length part → length part' ≡ length part
+    pub back_done : {part part' : List ℕ} {r : ℕ} → i * 64 + 64 ≤ length args → Put part 0 part' r (members_within (set_of args i) (length part)) → length (return_list handlers args i returns targets) ≤ length part → length part' ≡ length part
         → ListIs (return_list handlers args i returns targets) part part' r
     back_done {part} {part'} {r} h w g s =
         let f = back_ready h g in
-        let p : Put part 0 part' r (members_of (take m (drop (i * 64) args))) = rw (within_is (take m (drop (i * 64) args)) (length part) f.0 f.1) at w in
+        let p : Put part 0 part' r (members_of (set_of args i)) = rw (within_is (set_of args i) (length part) f.0 f.1) at w in
         let n = ap length members_are in
         record { count = omega (arith, p.count); list = p.list ∙ members_are; size = s; within = omega (arith, p.count) }
 
@@ -172,16 +168,16 @@ module _ {stmts falls links : List ℕ} {i : ℕ} (c : CallFits stmts falls link
       let g = w.grown 4096 r i4 in
       record { count = sym (length-take-le count buffer' g.within) ∙ ap length w.added.list; list = w.added.list; size = s; within = omega (arith, g.within) }
 
-module _ {handlers : Bool} {stmts args falls links : List ℕ} {i at : ℕ} {lists scratch returns : List ℕ} {targets edges room : ℕ}
-    (q : WriteReady handlers stmts args falls links i at lists scratch returns targets edges room) where
+module _ {handlers : Bool} {stmts args falls links : List ℕ} {i at : ℕ} {lists scratch returns : List ℕ} {targets edges : ℕ}
+    (q : WriteReady handlers stmts args falls links i at lists scratch returns targets edges) where
   abbrev own : List ℕ
   own = final_list handlers stmts args falls links lists scratch returns targets i
 
   -- a list from the buffer
-  fitting : {l part part' : List ℕ} {count : ℕ} → l ≡ own → ListIs l part part' count → (count ≤ length (take count part')) × (at + count ≤ edges) × (at + count < 65536) × (i * 4 + 4 ≤ length lists)
+  fitting : {l part part' : List ℕ} {count : ℕ} → l ≡ own → ListIs l part part' count → (at + length (take count part') ≤ edges) × (at + length (take count part') < 65536) × (i * 4 + 4 ≤ length lists)
   fitting {l} {part} {part'} {count} e k =
       let c = k.count ∙ ap length e in
-      (omega (arith, list-kept k), omega (arith, q.fits), omega (arith, q.few), q.in_rows)
+      (omega (arith, list-kept k, q.fits), omega (arith, list-kept k, q.few), q.in_rows)
 
   module _ (w : get_or stmts (i * 12) 0 ≡ 9) where
     return_own : return_list handlers args i returns targets ≡ own
@@ -193,16 +189,16 @@ module _ {handlers : Bool} {stmts args falls links : List ℕ} {i at : ℕ} {lis
     return_short true e = omega (arith, length-take targets returns, q.few_targets (sym e))
     return_short false e = omega (arith, members_few (set_of args i), length-take 64 (drop (i * 64) args))
 
-    pub return_ready : (i < 4096) × (i * 64 + 64 ≤ length args) × (handlers ≡ true → targets ≤ length returns) × (length (return_list handlers args i returns targets) ≤ room)
-    return_ready = (q.node, q.in_sets, q.targets_fit, omega (arith, return_short handlers refl, q.buffer_size))
+    pub return_ready : (i < 4096) × (i * 64 + 64 ≤ length args) × (handlers ≡ true → targets ≤ length returns) × (length (return_list handlers args i returns targets) ≤ 4096)
+    return_ready = (q.node, q.in_sets, q.targets_fit, return_short handlers refl)
 
     module _ {buffer buffer' : List ℕ} {count : ℕ} (k : ListIs (return_list handlers args i returns targets) buffer buffer' count) where
-      pub return_fits : (count ≤ length (take count buffer')) × (at + count ≤ edges) × (at + count < 65536) × (i * 4 + 4 ≤ length lists)
+      pub return_fits : (at + length (take count buffer') ≤ edges) × (at + length (take count buffer') < 65536) × (i * 4 + 4 ≤ length lists)
       return_fits = fitting return_own k
 
-      pub return_done : {lists' succ succ' : List ℕ} {r : ℕ} → Appended i at count (take count (take count buffer')) lists lists' succ succ' r
+      pub return_done : {lists' succ succ' : List ℕ} {r : ℕ} → Appended i at (length (take count buffer')) (take count buffer') lists lists' succ succ' r
           → WriteDone handlers stmts args falls links i at lists lists' scratch returns targets succ succ' r
-      return_done a = appended_as (ap length return_own) return_own (list_stored k a)
+      return_done a = appended_as (ap length (k.list ∙ return_own)) (k.list ∙ return_own) a
 
   module _ (w : get_or stmts (i * 12) 0 ≡ 9 → ⊥) where
     module _ (c : call_word (get_or stmts (i * 12) 0) ≡ true) where
@@ -217,22 +213,16 @@ module _ {handlers : Bool} {stmts args falls links : List ℕ} {i at : ℕ} {lis
       unfolding final_list word_of
       call_own = rw (ne_eqb (get_or stmts (i * 12) 0) 9 w, c)
 
-      module _ {buffer buffer' : List ℕ} {count : ℕ} (e : length buffer ≡ room) (s : length buffer' ≡ length buffer) (m : AddedIn buffer 0 buffer' count (jump_edges stmts falls links i)) where
+      module _ {buffer buffer' : List ℕ} {count : ℕ} (e : length buffer ≡ 4096) (s : length buffer' ≡ length buffer) (m : AddedIn buffer 0 buffer' count (jump_edges stmts falls links i)) where
         made : ListIs (call_list stmts falls links i) buffer buffer' count
-        made = call_list_lem fits_call (e ∙ q.buffer_size) s m
+        made = call_list_lem fits_call e s m
 
-        pub call_inside : count ≤ length buffer'
-        call_inside = omega (arith, made.within, made.size)
-
-        pub call_kept : count ≡ length (take count buffer')
-        call_kept = list-kept made
-
-        pub call_fits : (count ≤ length (take count buffer')) × (at + count ≤ edges) × (at + count < 65536) × (i * 4 + 4 ≤ length lists)
+        pub call_fits : (at + length (take count buffer') ≤ edges) × (at + length (take count buffer') < 65536) × (i * 4 + 4 ≤ length lists)
         call_fits = fitting call_own made
 
-        pub call_done : {lists' succ succ' : List ℕ} {r : ℕ} → Appended i at count (take count (take count buffer')) lists lists' succ succ' r
+        pub call_done : {lists' succ succ' : List ℕ} {r : ℕ} → Appended i at (length (take count buffer')) (take count buffer') lists lists' succ succ' r
             → WriteDone handlers stmts args falls links i at lists lists' scratch returns targets succ succ' r
-        call_done a = appended_as (ap length call_own) call_own (list_stored made a)
+        call_done a = appended_as (ap length (made.list ∙ call_own)) (made.list ∙ call_own) a
 
     module _ (c : call_word (get_or stmts (i * 12) 0) ≡ false) where
       move_own : succ_part lists scratch i ≡ own
@@ -283,14 +273,14 @@ module _ (f : ℕ → List ℕ) (i : ℕ) {at : ℕ} {lists₀ lists succ₀ suc
       omega (arith, s.used, joined_to f i)
 
 -- the turn for node i
-module _ {handlers : Bool} {stmts args falls links : List ℕ} {n : ℕ} {lists₀ scratch returns : List ℕ} {targets edges room : ℕ}
-    (q : WritesReady handlers stmts args falls links n lists₀ scratch returns targets edges room) where
+module _ {handlers : Bool} {stmts args falls links : List ℕ} {n : ℕ} {lists₀ scratch returns : List ℕ} {targets edges : ℕ}
+    (q : WritesReady handlers stmts args falls links n lists₀ scratch returns targets edges) where
   abbrev all : ℕ → List ℕ
   all = final_list handlers stmts args falls links lists₀ scratch returns targets
 
   module _ {i at : ℕ} {lists succ₀ succ : List ℕ} (s : ListsStored (lists_to all i) at lists₀ lists succ₀ succ) (h : i < n) where
-    pub turn_ready : (e r : ℕ) → length lists ≡ length lists₀ → e ≡ edges → r ≡ room → WriteReady handlers stmts args falls links i at lists scratch returns targets e r
-    turn_ready e r el ee er =
+    pub turn_ready : (e : ℕ) → length lists ≡ length lists₀ → e ≡ edges → WriteReady handlers stmts args falls links i at lists scratch returns targets e
+    turn_ready e el ee =
         let c = q.calls in
         let l = ap length (final_now all i s handlers stmts args falls links scratch returns targets) in
         let f = writes_fit all i s n h in
@@ -306,7 +296,6 @@ module _ {handlers : Bool} {stmts args falls links : List ℕ} {n : ℕ} {lists�
           few_targets = q.few_targets;
           fits = omega (arith, q.fits);
           few = omega (arith, q.few);
-          buffer_size = er ∙ q.buffer_size;
         }
 
     pub turn_done : {lists' succ' : List ℕ} {r : ℕ} → WriteDone handlers stmts args falls links i at lists lists' scratch returns targets succ succ' r → ListsStored (lists_to all (i + 1)) r lists₀ lists' succ₀ succ'
@@ -317,7 +306,7 @@ module _ {handlers : Bool} {stmts args falls links : List ℕ} {n : ℕ} {lists�
 -- ---- how many edges there are
 
 -- node i can be measured
-pub record SizeReady (stmts args falls links : List ℕ) (i : ℕ) (lists : List ℕ) (targets room : ℕ) : Type 0 where
+pub record SizeReady (stmts args falls links : List ℕ) (i : ℕ) (lists : List ℕ) (targets : ℕ) : Type 0 where
   pub node : i < 4096
   pub in_stmts : i * 12 + 12 ≤ length stmts
   pub in_sets : i * 64 + 64 ≤ length args
@@ -325,12 +314,11 @@ pub record SizeReady (stmts args falls links : List ℕ) (i : ℕ) (lists : List
   pub in_rows : i * 4 + 4 ≤ length lists
   pub calls : call_word (word_of stmts i) ≡ true → CallFits stmts falls links i
   pub few_targets : targets ≤ 4096
-  pub buffer_size : room ≡ 4096
 
 abbrev pub SizeIs : (handlers : Bool) (stmts args falls links lists : List ℕ) (targets i r : ℕ) → Type 0
 SizeIs handlers stmts args falls links lists targets i r = (r ≡ final_size handlers stmts args falls links lists targets i) × (r < 65536)
 
-module _ {stmts args falls links : List ℕ} {i : ℕ} {lists : List ℕ} {targets room : ℕ} (handlers : Bool) (q : SizeReady stmts args falls links i lists targets room) where
+module _ {stmts args falls links : List ℕ} {i : ℕ} {lists : List ℕ} {targets : ℕ} (handlers : Bool) (q : SizeReady stmts args falls links i lists targets) where
   module _ (w : get_or stmts (i * 12) 0 ≡ return_word) where
     return_size_here : (r : ℕ) → r ≡ return_size handlers targets args i → SizeIs handlers stmts args falls links lists targets i r
     unfolding final_size word_of
@@ -340,11 +328,11 @@ module _ {stmts args falls links : List ℕ} {i : ℕ} {lists : List ℕ} {targe
     unfolding return_size
     size_through e = return_size_here targets (rw e)
 
-    pub size_back : {m r : ℕ} → handlers ≡ false → m ≡ 64 → r ≡ size_of (take m (drop (i * 64) args)) → SizeIs handlers stmts args falls links lists targets i r
+    pub size_back : {r : ℕ} → handlers ≡ false → r ≡ size_of (set_of args i) → SizeIs handlers stmts args falls links lists targets i r
     unfolding return_size set_of
-    size_back {m} {r} e k s =
-        let l : length (take m (drop (i * 64) args)) ≡ 64 = length-take-le m (drop (i * 64) args) (omega (arith, length-drop (i * 64) args, q.in_sets)) ∙ k in
-        return_size_here r (s ∙ own-size (take m (drop (i * 64) args)) l ∙ rw (e, k))
+    size_back {r} e s =
+        let l : length (set_of args i) ≡ 64 = length-take-le 64 (drop (i * 64) args) (omega (arith, length-drop (i * 64) args, q.in_sets)) in
+        return_size_here r (s ∙ own-size (set_of args i) l ∙ rw e)
 
   module _ (w : get_or stmts (i * 12) 0 ≡ return_word → ⊥) where
     module _ (c : call_word (get_or stmts (i * 12) 0) ≡ true) where
@@ -355,26 +343,25 @@ module _ {stmts args falls links : List ℕ} {i : ℕ} {lists : List ℕ} {targe
       pub size_ready : (i * 12 + 12 ≤ length stmts) × (i * 3 + 3 ≤ length falls) × (i * 64 + 64 ≤ length links) × (get_or stmts (i * 12 + 10) 0 ≤ 64)
       size_ready = (q.in_stmts, q.in_falls, fits.targets.in_links, fits.targets.few)
 
-      pub size_call : {buffer buffer' : List ℕ} {r : ℕ} → length buffer ≡ room → length buffer' ≡ length buffer → AddedIn buffer 0 buffer' r (jump_edges stmts falls links i) → SizeIs handlers stmts args falls links lists targets i r
+      pub size_call : {buffer buffer' : List ℕ} {r : ℕ} → length buffer ≡ 4096 → length buffer' ≡ length buffer → AddedIn buffer 0 buffer' r (jump_edges stmts falls links i) → SizeIs handlers stmts args falls links lists targets i r
       unfolding final_size word_of
       size_call {buffer} e s m =
-          let l = call_list_lem fits (e ∙ q.buffer_size) s m in
-          (rw (ne_eqb (get_or stmts (i * 12) 0) 9 w, c) l.count, omega (arith, l.within, e, q.buffer_size))
+          let l = call_list_lem fits e s m in
+          (rw (ne_eqb (get_or stmts (i * 12) 0) 9 w, c) l.count, omega (arith, l.within, e))
 
     pub size-other : call_word (get_or stmts (i * 12) 0) ≡ false → (r : ℕ) → r ≡ succ_count lists i → r < 65536 → SizeIs handlers stmts args falls links lists targets i r
     unfolding final_size word_of
     size-other c r e l = (rw (ne_eqb (get_or stmts (i * 12) 0) 9 w, c) e, l)
 
 -- what counting all needs
-pub record CountsReady (stmts args falls links : List ℕ) (n : ℕ) (lists : List ℕ) (targets room : ℕ) : Type 0 where
+pub record CountsReady (stmts args falls links : List ℕ) (n : ℕ) (lists : List ℕ) (targets : ℕ) : Type 0 where
   pub calls : CallsRead stmts falls links n
   pub in_sets : n * 64 ≤ length args
   pub rows : n * 4 ≤ length lists
   pub few_targets : targets ≤ 4096
-  pub buffer_size : room ≡ 4096
 
-pub sized_turn : {stmts args falls links : List ℕ} {n : ℕ} {lists : List ℕ} {targets room : ℕ} → CountsReady stmts args falls links n lists targets room → (i r : ℕ) → i < n → r ≡ room → SizeReady stmts args falls links i lists targets r
-sized_turn q i r h e =
+pub sized_turn : {stmts args falls links : List ℕ} {n : ℕ} {lists : List ℕ} {targets : ℕ} → CountsReady stmts args falls links n lists targets → (i : ℕ) → i < n → SizeReady stmts args falls links i lists targets
+sized_turn q i h =
     let c = q.calls in
     record {
       node = omega (arith, c.few);
@@ -384,7 +371,6 @@ sized_turn q i r h e =
       in_rows = omega (arith, q.rows);
       calls = λ w. calls_fit c i h w;
       few_targets = q.few_targets;
-      buffer_size = e ∙ q.buffer_size;
     }
 
 pub total-none : (f : ℕ → ℕ) → 0 ≡ sum_to f 0

@@ -6,3 +6,4 @@ pub mod EdgesFit
 pub mod FinalLists
 pub mod JoinedReturns
 pub mod StoredGraph
+pub mod FromSource

@@ -103,11 +103,10 @@ pub record GraphRead (handlers : Bool) (stmts args falls links : List ℕ) (n : 
   pub through : handlers ≡ true → (targets ≤ length returns) × Ids n (take targets returns)
   pub back : handlers ≡ false → (i : ℕ) → i < n → word_of stmts i ≡ return_word → Ids n (members_of (set_of args i))
 
--- and the edges fit tables of s and p entries; the buffer has room for a list
-pub record GraphReady (handlers : Bool) (stmts args falls links : List ℕ) (n : ℕ) (lists scratch returns : List ℕ) (targets s p room : ℕ) : Type 0 where
+-- and the edges fit tables of s and p entries
+pub record GraphReady (handlers : Bool) (stmts args falls links : List ℕ) (n : ℕ) (lists scratch returns : List ℕ) (targets s p : ℕ) : Type 0 where
   pub read : GraphRead handlers stmts args falls links n lists scratch returns targets
   pub fits : EdgesFit (length (joined_lists (final_lists handlers stmts args falls links n lists scratch returns targets))) s p
-  pub buffer_size : room ≡ 4096
 
 module _ (handlers : Bool) (stmts args falls links : List ℕ) (n rows : ℕ) (lists scratch returns : List ℕ) (targets : ℕ) where
   abbrev walks : Bool
@@ -202,8 +201,8 @@ module _ {handlers : Bool} {stmts args falls links : List ℕ} {n : ℕ} {lists 
   unfolding final_lists
   id_lists = record { size = length_lists (final_list handlers stmts args falls links lists scratch returns targets) n; ids = all_ids n (omega arith) }
 
-  pub counts_ready : (room : ℕ) → room ≡ 4096 → CountsReady stmts args falls links n lists targets room
-  counts_ready room e = record { calls = q.calls; in_sets = q.in_sets; rows = q.lists_in.rows; few_targets = q.few_targets; buffer_size = e }
+  pub counts_ready : CountsReady stmts args falls links n lists targets
+  counts_ready = record { calls = q.calls; in_sets = q.in_sets; rows = q.lists_in.rows; few_targets = q.few_targets }
 
   pub counted : (edges : ℕ) → edges ≡ sum_to (final_size handlers stmts args falls links lists targets) n → edges ≡ length (joined_lists ls)
   unfolding final_lists
@@ -211,9 +210,9 @@ module _ {handlers : Bool} {stmts args falls links : List ℕ} {n : ℕ} {lists 
 
   -- the edges fit
   module _ (succ pred : List ℕ) (f : EdgesFit (length (joined_lists ls)) (length succ) (length pred)) where
-    pub writes_ready : (room : ℕ) → room ≡ 4096 → WritesReady handlers stmts args falls links n lists scratch returns targets (length succ) room
+    pub writes_ready : WritesReady handlers stmts args falls links n lists scratch returns targets (length succ)
     unfolding final_lists
-    writes_ready room e =
+    writes_ready =
         record {
           calls = q.calls;
           in_sets = q.in_sets;
@@ -223,7 +222,6 @@ module _ {handlers : Bool} {stmts args falls links : List ℕ} {n : ℕ} {lists 
           few_targets = λ h. q.few_targets;
           fits = f.in_succ;
           few = f.few;
-          buffer_size = e;
         }
 
     module _ {lists₁ succ₁ : List ℕ} {total : ℕ} (s : WritesDone handlers stmts args falls links n lists lists₁ scratch returns targets succ succ₁ total) where

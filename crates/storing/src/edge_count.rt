@@ -1,66 +1,55 @@
 // How many edges the lists of the graph have, before any is written.
-ghost use Rattle.std.specs.Prelude.{◌≡◌, length};
+ghost use Rattle.std.specs.Prelude.{◌≡◌, ◌<◌, length};
 ghost use Rattle.passes.specs.Counting.{sum_to};
 ghost use Rattle.storing.specs.EdgesFit.{edges_fit};
-ghost use Rattle.storing.specs.FinalLists.{final_size, SizeReady, SizeIs, CountsReady};
+ghost use Rattle.storing.specs.FromSource.{size_from, SizeReadyFrom, SizeFrom, CountsReadyFrom};
 
 use crate::growing::put_jump;
-use layout::columns::{ARG_ENTRIES, LIST_ENTRIES, STMT_ENTRIES, SUCC_COUNT};
-use layout::limits::MAX_EDGES;
+use crate::source::Source;
+use layout::columns::{LIST_ENTRIES, SUCC_COUNT};
+use layout::limits::{MAX_EDGES, MAX_STMTS};
 use layout::words::RETURN;
 use tables::calls::is_call;
-use walks::sets::size_of;
+use walks::sets::{set_at, size_of};
 
 // How long node i's list is. Only a call's has to be made for that: its targets can be the same node.
 fn list_size(
-    handlers: bool,
-    stmts: &[u16],
+    source: &Source<'_>,
     args: &[u64],
-    falls: &[u16],
-    links: &[u16],
     i: usize,
     lists: &[u16],
-    targets: usize,
-    buffer: &mut [u16],
+    buffer: &mut [u16; MAX_STMTS],
 ) -> usize
-    requires { SizeReady stmts.now args.now falls.now links.now i lists.now targets (length buffer.old) }
-    ensures { SizeIs handlers stmts.now args.now falls.now links.now lists.now targets i result }
+    requires { (i < source.now.nodes.records.n) × SizeReadyFrom source.now args.now i lists.now }
+    ensures { SizeFrom source.now args.now lists.now i result }
 {
-    let word = stmts[i * STMT_ENTRIES];
+    let g = &source.nodes;
+    let word = g.records.word(i);
     if word == RETURN {
-        if handlers {
-            return targets;
+        if source.handlers {
+            return source.targets;
         }
-        let start = i * ARG_ENTRIES;
-        let end = start + 64;
-        return size_of(&args[start..end]);
+        return size_of(set_at(args, i));
     }
     if is_call(word) {
-        return put_jump(stmts, falls, links, i, buffer);
+        return put_jump(g.records.stmts, g.falls, g.links, i, buffer);
     }
     usize::from(lists[i * LIST_ENTRIES + SUCC_COUNT])
 }
 
-// The edges of all n nodes.
+// The edges of all nodes.
 pub(crate) fn count_lists(
-    handlers: bool,
-    stmts: &[u16],
+    source: &Source<'_>,
     args: &[u64],
-    falls: &[u16],
-    links: &[u16],
-    n: usize,
     lists: &[u16],
-    targets: usize,
-    buffer: &mut [u16],
+    buffer: &mut [u16; MAX_STMTS],
 ) -> usize
-    requires { CountsReady stmts.now args.now falls.now links.now n lists.now targets (length buffer.old) }
-    ensures { result ≡ sum_to (final_size handlers stmts.now args.now falls.now links.now lists.now targets) n }
+    requires { CountsReadyFrom source.now args.now lists.now }
+    ensures { result ≡ sum_to (size_from source.now args.now lists.now) source.now.nodes.records.n }
 {
     let mut sum: usize = 0;
-    for i in 0..n {
-        sum += list_size(
-            handlers, stmts, args, falls, links, i, lists, targets, buffer,
-        );
+    for i in 0..source.nodes.records.n {
+        sum += list_size(source, args, i, lists, buffer);
     }
     sum
 }

@@ -46,7 +46,7 @@ fn jump_readable(stmts: &[u16], falls: &[u16], links: &[u16], i: usize) -> bool
         && usize::from(stmts[i * STMT_ENTRIES + COUNT]) <= MAX_ARGS
 }
 
-// The targets of GOTO, GOSUB or ON i, and then where an ON falls.
+// The targets of GOTO, GOSUB or ON i, and then where an ON falls. Of tables one by one, since `add_jump` answers for any number of nodes.
 pub(crate) fn put_jump(
     stmts: &[u16],
     falls: &[u16],

@@ -6,5 +6,6 @@ pub mod final_lists;
 pub mod growing;
 pub mod predecessors;
 pub mod readable;
+pub mod source;
 pub mod store;
 pub mod write_graph;

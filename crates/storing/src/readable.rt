@@ -4,75 +4,70 @@ ghost use Rattle.tables.specs.Readable.{every_below};
 ghost use Rattle.storing.specs.JoinedReturns.{set_readable, joined_return, joined_returns};
 ghost use Rattle.storing.specs.StoredGraph.{returns_readable, graph_readable};
 
-use layout::columns::{ARG_ENTRIES, STMT_ENTRIES};
 use layout::limits::{MAX_LINES, MAX_STMTS};
 use layout::words::RETURN;
+use tables::nodes::Records;
 use tables::readable::ids_below;
 use walks::readable::walks_readable;
-use walks::sets::{join_set, members, no_words};
+use walks::sets::{Sets, join_set, members, no_words};
 
 // The set of node i is joined, where that is a RETURN.
 #[tactic(auto, unfolding(crate::specs::JoinedReturns::joined_return, tables::specs::Columns::word_of, passes::specs::ReturnSets::set_of))]
-fn join_return(stmts: &[u16], args: &[u64], i: usize, all: &mut [u64])
-    requires { (i < 4096) × (i * 12 + 12 ≤ length stmts.now) × (i * 64 + 64 ≤ length args.now) × (length all.old ≡ 64) }
-    ensures { all.new ≡ joined_return stmts.now args.now i all.old }
+fn join_return(sets: &Sets<'_>, i: usize, all: &mut [u64; 64])
+    requires { i < sets.now.records.n }
+    ensures { all.new ≡ joined_return sets.now.records.stmts.now sets.now.words.now i all.old }
 {
-    if stmts[i * STMT_ENTRIES] == RETURN {
-        let start = i * ARG_ENTRIES;
-        let end = start + 64;
-        join_set(all, &args[start..end]);
+    if sets.records.word(i) == RETURN {
+        join_set(all, sets.of(i));
     }
 }
 
-// The sets of all RETURNs among n nodes in one.
+// The sets of all RETURNs in one.
 #[tactic(auto, using(crate::specs::JoinedReturns::join_next), unfolding(crate::specs::JoinedReturns::joined_returns))]
-fn join_returns(stmts: &[u16], args: &[u64], n: usize) -> [u64; 64]
-    requires { (n ≤ 4096) × (n * 12 ≤ length stmts.now) × (n * 64 ≤ length args.now) }
-    ensures { result ≡ joined_returns stmts.now args.now n }
+fn join_returns(sets: &Sets<'_>) -> [u64; 64]
+    ensures { result ≡ joined_returns sets.now.records.stmts.now sets.now.words.now sets.now.records.n }
 {
     let mut all = no_words();
-    for i in 0..n {
-        join_return(stmts, args, i, &mut all);
+    for i in 0..sets.records.n {
+        join_return(sets, i, &mut all);
     }
     all
 }
 
-// Whether the sets of all RETURNs among n nodes have ids of these only. They are joined, so that only one is listed.
-fn sets_readable(stmts: &[u16], args: &[u64], n: usize, buffer: &mut [u16]) -> bool
-    requires { (n ≤ 4096) × (n * 12 ≤ length stmts.now) × (n * 64 ≤ length args.now) × (length buffer.old ≡ 4096) }
-    ensures { result ≡ every_below (set_readable stmts.now args.now n) n }
+// Whether the sets of all RETURNs have ids of these nodes only. They are joined, so that only one is listed.
+fn sets_readable(sets: &Sets<'_>, buffer: &mut [u16; MAX_STMTS]) -> bool
+    ensures { result ≡ every_below (set_readable sets.now.records.stmts.now sets.now.words.now sets.now.records.n) sets.now.records.n }
 {
-    let all = join_returns(stmts, args, n);
+    let all = join_returns(sets);
     let count = members(&all, buffer);
-    ids_below(&buffer[..count], n)
+    ids_below(&buffer[..count], sets.records.n)
 }
 
 // With handlers the return targets, without them the sets.
+// Kept: `handlers` says what the listing has, a word of the paper and of every definition here; an enum would be taken apart at each clause.
 #[tactic(auto, unfolding(crate::specs::StoredGraph::returns_readable))]
 fn returns_readable(
     handlers: bool,
-    stmts: &[u16],
-    args: &[u64],
-    n: usize,
+    sets: &Sets<'_>,
     returns: &[u16],
     targets: usize,
-    buffer: &mut [u16],
+    buffer: &mut [u16; MAX_STMTS],
 ) -> bool
-    requires { (n ≤ 4096) × (n * 12 ≤ length stmts.now) × (n * 64 ≤ length args.now) × (length buffer.old ≡ 4096) }
-    ensures { result ≡ returns_readable handlers stmts.now args.now n returns.now targets }
+    ensures { result ≡ returns_readable handlers sets.now.records.stmts.now sets.now.words.now sets.now.records.n returns.now targets }
 {
     if handlers {
-        return targets <= returns.len() && ids_below(&returns[..targets], n);
+        return targets <= returns.len() && ids_below(&returns[..targets], sets.records.n);
     }
-    sets_readable(stmts, args, n, buffer)
+    sets_readable(sets, buffer)
 }
 
 // And what walks read: records, calls, lists in scratch, sets.
+// Kept: takes tables whoever wrote them, so a struct with an invariant would ask more.
 #[tactic(auto, unfolding(crate::specs::StoredGraph::graph_readable))]
-pub(crate) fn graph_readable(
+pub(crate) fn graph_readable<'a>(
     handlers: bool,
-    stmts: &[u16],
-    args: &[u64],
+    stmts: &'a [u16],
+    args: &'a [u64],
     falls: &[u16],
     links: &[u16],
     n: usize,
@@ -81,14 +76,20 @@ pub(crate) fn graph_readable(
     scratch: &[u16],
     returns: &[u16],
     targets: usize,
-    buffer: &mut [u16],
+    buffer: &mut [u16; MAX_STMTS],
 ) -> bool
-    requires { length buffer.old ≡ 4096 }
     ensures { result ≡ graph_readable handlers stmts.now args.now falls.now links.now n rows lists.now scratch.now returns.now targets }
 {
     if MAX_LINES < rows || MAX_STMTS < targets {
         return false;
     }
-    walks_readable(stmts, falls, links, lists, scratch, n, args)
-        && returns_readable(handlers, stmts, args, n, returns, targets, buffer)
+    if !walks_readable(stmts, falls, links, lists, scratch, n, args) {
+        return false;
+    }
+    let records = Records { stmts, n };
+    let sets = Sets {
+        records,
+        words: args,
+    };
+    returns_readable(handlers, &sets, returns, targets, buffer)
 }

@@ -7,12 +7,12 @@ ghost use Rattle.storing.specs.Appending.{append_fits, AppendAnswered};
 use layout::columns::{LIST_ENTRIES, SUCC_COUNT};
 use layout::limits::MAX_NUMBER;
 
-// The first count entries of a list go to the front of the part; what stands behind them stays.
-pub(crate) fn store_list(part: &mut [u16], list: &[u16], count: usize)
-    requires { (count ≤ length list.now) × (count ≤ length part.old) }
-    ensures { part.new ≡ take count list.now ++ drop count part.old }
+// A list goes to the front of the part; what stands behind it stays.
+pub(crate) fn store_list(part: &mut [u16], list: &[u16])
+    requires { length list.now ≤ length part.old }
+    ensures { part.new ≡ list.now ++ drop (length list.now) part.old }
 {
-    part[..count].copy_from_slice(&list[..count]);
+    part[..list.len()].copy_from_slice(list);
 }
 
 // A node's list goes behind those stored before it, from entry `at` on, and its row says where; the answer is where the next list begins.
@@ -22,15 +22,14 @@ pub(crate) fn put_list(
     node: usize,
     at: usize,
     list: &[u16],
-    count: usize,
 ) -> usize
-    requires { (count ≤ length list.now) × (at + count ≤ length succ.old) × (at + count < 65536) × (node * 4 + 4 ≤ length lists.old) }
-    ensures { Appended node at count (take count list.now) lists.old lists.new succ.old succ.new result }
+    requires { (at + length list.now ≤ length succ.old) × (at + length list.now < 65536) × (node * 4 + 4 ≤ length lists.old) }
+    ensures { Appended node at (length list.now) list.now lists.old lists.new succ.old succ.new result }
 {
-    store_list(&mut succ[at..], list, count);
+    store_list(&mut succ[at..], list);
     lists[node * LIST_ENTRIES] = at as u16;
-    lists[node * LIST_ENTRIES + SUCC_COUNT] = count as u16;
-    at + count
+    lists[node * LIST_ENTRIES + SUCC_COUNT] = list.len() as u16;
+    at + list.len()
 }
 
 // Whether the node has a row, and a list of so many entries fits the table from `at` on. By division and difference, so that no number is too large.
@@ -56,7 +55,7 @@ pub fn append_list(
     ensures { AppendAnswered node at list.now lists.old lists.new succ.old succ.new result }
 {
     if append_fits(node, at, list.len(), lists, succ) {
-        return put_list(lists, succ, node, at, list, list.len());
+        return put_list(lists, succ, node, at, list);
     }
     at
 }
@@ -75,6 +74,6 @@ pub(crate) fn move_list(
 {
     let row = node * LIST_ENTRIES;
     let start = usize::from(lists[row]);
-    let count = usize::from(lists[row + SUCC_COUNT]);
-    put_list(lists, succ, node, at, &from[start..], count)
+    let end = start + usize::from(lists[row + SUCC_COUNT]);
+    put_list(lists, succ, node, at, &from[start..end])
 }

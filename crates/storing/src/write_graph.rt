@@ -1,39 +1,34 @@
 // The graph goes into its tables.
-ghost use Rattle.std.specs.Prelude.{◌≡◌, true, ◌≤◌, ◌<◌, length, set};
-ghost use Rattle.storing.specs.StoredGraph.{final_lists, GraphRead, GraphReady, EdgesStored, GraphStored, StoredAnswered, GraphAnswered};
+ghost use Rattle.std.specs.Prelude.{◌≡◌, ◌<◌, length, set};
+ghost use Rattle.storing.specs.StoredGraph.{EdgesStored, GraphAnswered};
+ghost use Rattle.storing.specs.FromSource.{lists_from, GraphReadFrom, GraphReadyFrom, GraphStoredFrom, AnsweredFrom};
 
 use crate::edge_count::{count_lists, edges_fit};
 use crate::final_lists::write_lists;
 use crate::predecessors::write_predecessors;
 use crate::readable::graph_readable;
+use crate::source::Source;
 use layout::limits::MAX_STMTS;
 use layout::refusals::{Reason, Refusal};
 use layout::zeroing::all_of;
+use tables::nodes::{Nodes, Records};
 use walks::clearing::clear_sets;
 
 // The successor lists, then the predecessor lists; how many edges there are.
+// Kept: tables that are written go one by one; of a struct of `&mut` a clause names what is left behind it by nested pairs.
 fn write_edges(
-    handlers: bool,
-    stmts: &[u16],
+    source: &Source<'_>,
     args: &[u64],
-    falls: &[u16],
-    links: &[u16],
-    n: usize,
     lists: &mut [u16],
-    scratch: &[u16],
-    returns: &[u16],
-    targets: usize,
     succ: &mut [u16],
     pred: &mut [u16],
-    buffer: &mut [u16],
+    buffer: &mut [u16; MAX_STMTS],
 ) -> usize
-    requires { GraphReady handlers stmts.now args.now falls.now links.now n lists.old scratch.now returns.now targets (length succ.old) (length pred.old) (length buffer.old) }
-    ensures { EdgesStored n lists.old lists.new succ.old succ.new pred.old pred.new (final_lists handlers stmts.now args.now falls.now links.now n lists.old scratch.now returns.now targets) result }
+    requires { GraphReadyFrom source.now args.now lists.old (length succ.old) (length pred.old) }
+    ensures { EdgesStored source.now.nodes.records.n lists.old lists.new succ.old succ.new pred.old pred.new (lists_from source.now args.now lists.old) result }
 {
-    let total = write_lists(
-        handlers, stmts, args, falls, links, n, lists, scratch, returns, targets, succ, buffer,
-    );
-    write_predecessors(succ, total, lists, n, pred);
+    let total = write_lists(source, args, lists, succ, buffer);
+    write_predecessors(succ, total, lists, source.nodes.records.n, pred);
     total
 }
 
@@ -48,84 +43,63 @@ fn put_edge_counts(counts: &mut [u32; 6], edges: usize, targets: usize, rows: us
 }
 
 // The lists, both ways, and the counts; the RETURNs' sets are cleared.
+// Kept: tables that are written go one by one, as above.
 fn write_tables(
-    handlers: bool,
-    stmts: &[u16],
+    source: &Source<'_>,
     args: &mut [u64],
-    falls: &[u16],
-    links: &[u16],
-    n: usize,
-    rows: usize,
     counts: &mut [u32; 6],
     lists: &mut [u16],
-    scratch: &[u16],
-    returns: &[u16],
-    targets: usize,
     succ: &mut [u16],
     pred: &mut [u16],
-    buffer: &mut [u16],
+    buffer: &mut [u16; MAX_STMTS],
 )
-    requires rows_bound { rows ≤ 1024 }
-    requires graph_ready { GraphReady handlers stmts.now args.old falls.now links.now n lists.old scratch.now returns.now targets (length succ.old) (length pred.old) (length buffer.old) }
-    ensures { GraphStored stmts.now args.old n rows counts.old lists.old targets succ.old pred.old (final_lists handlers stmts.now args.old falls.now links.now n lists.old scratch.now returns.now targets) counts.new args.new lists.new succ.new pred.new }
+    requires { GraphReadyFrom source.now args.old lists.old (length succ.old) (length pred.old) }
+    ensures { GraphStoredFrom source.now args.old counts.old lists.old succ.old pred.old counts.new args.new lists.new succ.new pred.new }
 {
-    let total = write_edges(
-        handlers, stmts, args, falls, links, n, lists, scratch, returns, targets, succ, pred,
-        buffer,
-    );
-    clear_sets(stmts, args, n);
-    put_edge_counts(counts, total, targets, rows);
+    let total = write_edges(source, args, lists, succ, pred, buffer);
+    let records = &source.nodes.records;
+    clear_sets(records.stmts, args, records.n);
+    put_edge_counts(counts, total, source.targets, source.rows);
 }
 
 // From tables that can be read: the edges are counted first, and nothing is written where they do not fit.
+// Kept: tables that are written go one by one, as above.
 fn write_fitting(
-    handlers: bool,
-    stmts: &[u16],
+    source: &Source<'_>,
     args: &mut [u64],
-    falls: &[u16],
-    links: &[u16],
-    n: usize,
-    rows: usize,
     counts: &mut [u32; 6],
     lists: &mut [u16],
-    scratch: &[u16],
-    returns: &[u16],
-    targets: usize,
     succ: &mut [u16],
     pred: &mut [u16],
-    buffer: &mut [u16],
+    buffer: &mut [u16; MAX_STMTS],
 ) -> Result<usize, Refusal>
-    requires { (rows ≤ 1024) × GraphRead handlers stmts.now args.old falls.now links.now n lists.old scratch.now returns.now targets × (length buffer.old ≡ 4096) }
-    ensures { StoredAnswered true stmts.now args.old n rows counts.old lists.old targets succ.old pred.old (final_lists handlers stmts.now args.old falls.now links.now n lists.old scratch.now returns.now targets) counts.new args.new lists.new succ.new pred.new result }
+    requires { GraphReadFrom source.now args.old lists.old }
+    ensures { AnsweredFrom source.now args.old counts.old lists.old succ.old pred.old counts.new args.new lists.new succ.new pred.new result }
 {
-    let edges = count_lists(
-        handlers, stmts, args, falls, links, n, lists, targets, buffer,
-    );
+    let edges = count_lists(source, args, lists, buffer);
     if !edges_fit(edges, succ.len(), pred.len()) {
         return Err(Reason::EdgeTables.at(edges));
     }
-    write_tables(
-        handlers, stmts, args, falls, links, n, rows, counts, lists, scratch, returns, targets,
-        succ, pred, buffer,
-    );
+    write_tables(source, args, counts, lists, succ, pred, buffer);
     Ok(edges)
 }
 
 // The graph of n nodes and so many rows of entries goes into its tables; how many edges it has. A RETURN's list from the return targets or its set, a call's from its
 // targets, any other's from scratch, where its row says. Refused 25 where the tables cannot be read, 23 where the edges do not fit; then
 // nothing is written.
-pub fn write_graph(
+// Kept: takes tables whoever wrote them, so a struct with an invariant would ask more.
+pub fn write_graph<'a>(
     handlers: bool,
-    stmts: &[u16],
+    stmts: &'a [u16],
     args: &mut [u64],
-    falls: &[u16],
-    links: &[u16],
+    falls: &'a [u16],
+    links: &'a [u16],
     n: usize,
     rows: usize,
     counts: &mut [u32; 6],
     lists: &mut [u16],
-    scratch: &[u16],
-    returns: &[u16],
+    scratch: &'a [u16],
+    returns: &'a [u16],
     targets: usize,
     succ: &mut [u16],
     pred: &mut [u16],
@@ -149,21 +123,19 @@ pub fn write_graph(
     ) {
         return Err(Reason::Outside.at(0));
     }
-    write_fitting(
-        handlers,
-        stmts,
-        args,
+    let records = Records { stmts, n };
+    let nodes = Nodes {
+        records,
         falls,
         links,
-        n,
+    };
+    let source = Source {
+        handlers,
+        nodes,
         rows,
-        counts,
-        lists,
         scratch,
         returns,
         targets,
-        succ,
-        pred,
-        &mut buffer,
-    )
+    };
+    write_fitting(&source, args, counts, lists, succ, pred, &mut buffer)
 }

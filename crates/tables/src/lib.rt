@@ -2,5 +2,7 @@
 #![tactic(auto)]
 
 pub mod calls;
+pub mod graphs;
 pub mod lists;
+pub mod nodes;
 pub mod readable;

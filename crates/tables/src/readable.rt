@@ -5,7 +5,8 @@ ghost use Rattle.tables.specs.Readable.{ids_below, list_readable, lists_readable
 use layout::columns::{LIST_ENTRIES, SUCC_COUNT};
 use layout::limits::MAX_STMTS;
 
-// Whether every id of a list is that of one of n nodes. Not by `all`, which stops at the first that is not, and takes half as long again.
+// Whether every id of a list is that of one of n nodes.
+// Kept: not by `all`, which stops at the first that is not, and takes half as long again.
 pub fn ids_below(l: &[u16], n: usize) -> bool
     ensures { result ≡ ids_below n l.now }
 {

@@ -1,11 +1,11 @@
 -- The words after a form's opening word, as the code judges them: why one of them is refused, by the lowest number, and how many there are. Assumes nothing.
-use Rattle.std.specs.Prelude.{ℕ, suc, ◌+◌, ◌-◌, ◌≤◌, ◌<◌, ◌≡◌, refl, List, [], ◌∷◌, Bool, true, false, ◌&&◌, ◌||◌, not, eqb, ltb, length, get_or, take, drop, Result, Ok, Err}
+use Rattle.std.specs.Prelude.{ℕ, suc, ◌⊎◌, ◌+◌, ◌-◌, ◌≤◌, ◌<◌, ◌≡◌, refl, List, [], ◌∷◌, Bool, true, false, ◌&&◌, ◌||◌, not, eqb, ltb, length, get_or, take, drop, Result, Ok, Err}
 use Rattle.std.specs.Result.{result_and}
-use Rattle.std.proofs.Common.{sym, ◌∙◌, arith, not-suc-le-zero, add-one, length-drop, drop_of_length-le}
+use Rattle.std.proofs.Common.{sym, ◌∙◌, inl, inr, arith, not-suc-le-zero, add-one, length-drop, drop_of_length-le}
 use Rattle.std.proofs.Math.Path.{ap}
 use Rattle.std.proofs.Math.Option.{none, some}
 use Rattle.std.proofs.Math.Seq.{drop-cons}
-use borrow.Author.Tests.{eqb-true, ltb-true, ltb-false, lt-ltb, le-ltb}
+use borrow.Author.Tests.{ne_eqb, eqb-true, ltb-true, ltb-false, lt-ltb, le-ltb}
 use Rattle.listings.specs.Bytes.{same, pick}
 use Rattle.listings.specs.Listing.{for}
 use Rattle.listings.specs.Rows.{split, on_first, all, is_word, are_words, Parse, malformed, invalid, parsed, refusal_of, map_parse, with_parse, parse_number, parse_numbers, parse_name, parse_slot, parse_slots, parse_tier, parse_mark, single, for_stmt}
@@ -14,6 +14,9 @@ use Rattle.layout.specs.Refusals.{number_of}
 use Rattle.layout.specs.declared.refusals.Reason.{Reason}
 use Rattle.layout.specs.declared.refusals.Reason.TheVariants as reason
 use Rattle.tokens.specs.Numbers.{as_number}
+use Rattle.tokens.specs.declared.arguments.Arguments.{Arguments}
+use Rattle.tokens.specs.declared.arguments.Arguments.TheVariants as arguments
+use Rattle.tokens.specs.declared.arguments.Checked.{Checked}
 use Rattle.tokens.specs.declared.words.Kind.{Kind}
 use Rattle.tokens.specs.declared.words.Kind.TheVariants as kind
 
@@ -27,6 +30,17 @@ abbrev pub verdict : {A : Type 0} → Parse A → Verdict
 verdict malformed = Err reason.NotAForm
 verdict invalid = Err reason.BadWord
 verdict (parsed a) = Ok tt
+
+-- how many there are, and why one is refused
+abbrev pub checked : ℕ → Verdict → Checked
+checked n v = record { count = n; verdict = v }
+
+abbrev pub no_form : Checked
+no_form = checked 0 (Err reason.NotAForm)
+
+abbrev pub are_slots : Arguments → Bool
+are_slots arguments.Numbers = false
+are_slots arguments.Slots = true
 
 -- of a slot, or of a number
 unfoldable pub refusal_by : Bool → List ℕ → Verdict
@@ -54,11 +68,6 @@ number_verdict malformed = refl
 number_verdict invalid = refl
 number_verdict (parsed n) = refl
 
-pub number_counted : (g : Parse ℕ) (n : ℕ) → result_and (as_number g) (Ok n) ≡ result_and (verdict g) (Ok n)
-number_counted malformed n = refl
-number_counted invalid n = refl
-number_counted (parsed m) n = refl
-
 -- two words are refused by the lower number
 pub refusal_with : {A B C : Type 0} (f : A → B → C) (a : Parse A) (b : Parse B) → verdict (with_parse f a b) ≡ lowest (verdict a) (verdict b)
 unfolding with_parse lowest
@@ -82,7 +91,7 @@ unfolding parse_slots lowest_of refusal_by
 slots_refusal [] = refl
 slots_refusal (w ∷ ws) = refusal_with (λ s ss. s ∷ ss) (parse_slot w) (parse_slots ws) ∙ ap (lowest (verdict (parse_slot w))) (slots_refusal ws)
 
-lowest_of_none : (a : Verdict) → lowest a (Ok tt) ≡ a
+pub lowest_of_none : (a : Verdict) → lowest a (Ok tt) ≡ a
 unfolding lowest
 lowest_of_none (Ok u) = refl
 lowest_of_none (Err r) = refl
@@ -134,22 +143,6 @@ pub lowest_next : (f : List ℕ → Verdict) (g : Verdict) (w : List ℕ) (ws : 
 unfolding lowest_of
 lowest_next f g w ws = lowest_assoc g (f w) (lowest_of f ws)
 
-pub lowest_counted : (a b : Verdict) (n : ℕ) → result_and (lowest a b) (Ok n) ≡ lowest a (result_and b (Ok n))
-unfolding lowest
-lowest_counted (Ok u) b n = refl
-lowest_counted (Err r) (Ok u) n = refl
-lowest_counted (Err r) (Err s) n = go (ltb (number_of s) (number_of r))
-  where
-    r₀ : Verdict
-    r₀ = Err r
-
-    s₀ : Verdict
-    s₀ = Err s
-
-    go : (t : Bool) → result_and (pick t s₀ r₀) (Ok n) ≡ pick t (Err s) (Err r)
-    go true = refl
-    go false = refl
-
 -- ---- words
 
 abbrev pub no_bracket : ℕ → Bool
@@ -188,35 +181,19 @@ words_both (b ∷ l) = go (eqb b 32) refl (words_both l)
 pub words_from_lem : (l : List ℕ) → words_from true l ≡ are_words (split 32 l)
 words_from_lem l = (words_both l).0
 
--- a bracket, or a space where nothing of a piece was seen
-abbrev pub breaks : ℕ → Bool → Bool
-breaks b fresh = eqb b 40 || eqb b 41 || (eqb b 32 && fresh)
-
 module _ (fresh : Bool) (s : List ℕ) (i : ℕ) (inside : i < length s) where
-  words_step : (x y z f : Bool) (k m : Bool) → (x || y || (z && f) ≡ true → not (x || y) && pick z (not f && k) m ≡ false) × (x || y || (z && f) ≡ false → not (x || y) && pick z (not f && k) m ≡ pick z k m)
-  words_step true y z f k m = (λ h. refl, λ h. cc)
-  words_step false true z f k m = (λ h. refl, λ h. cc)
-  words_step false false true true k m = (λ h. refl, λ h. cc)
-  words_step false false true false k m = (λ h. cc, λ h. refl)
-  words_step false false false f k m = (λ h. cc, λ h. refl)
-
-  words_after : (z : Bool) (l : List ℕ) → pick z (words_from true l) (words_from false l) ≡ words_from z l
-  words_after true l = refl
-  words_after false l = refl
-
-  pub words_stop : breaks (get_or s i 0) fresh ≡ true → words_from fresh (drop i s) ≡ false
+  pub words_bracket : (get_or s i 0 ≡ 40) ⊎ (get_or s i 0 ≡ 41) → words_from fresh (drop i s) ≡ false
   unfolding words_from
-  words_stop h =
-      let b = get_or s i 0 in
-      let l = drop (suc i) s in
-      rw (drop-cons s i 0 inside) ((words_step (eqb b 40) (eqb b 41) (eqb b 32) fresh (words_from true l) (words_from false l)).0 h)
+  words_bracket (inl h) = rw (drop-cons s i 0 inside, h)
+  words_bracket (inr h) = rw (drop-cons s i 0 inside, h)
 
-  pub words_on : breaks (get_or s i 0) fresh ≡ false → words_from fresh (drop i s) ≡ words_from (eqb (get_or s i 0) 32) (drop (i + 1) s)
+  pub words_space : get_or s i 0 ≡ 32 → words_from fresh (drop i s) ≡ not fresh && words_from true (drop (i + 1) s)
   unfolding words_from
-  words_on h =
-      let b = get_or s i 0 in
-      let l = drop (suc i) s in
-      rw (add-one, drop-cons s i 0 inside) ((words_step (eqb b 40) (eqb b 41) (eqb b 32) fresh (words_from true l) (words_from false l)).1 h ∙ words_after (eqb b 32) l)
+  words_space h = rw (add-one, drop-cons s i 0 inside, h)
+
+  pub words-other : (get_or s i 0 ≡ 40 → ⊥) → (get_or s i 0 ≡ 41 → ⊥) → (get_or s i 0 ≡ 32 → ⊥) → words_from fresh (drop i s) ≡ words_from false (drop (i + 1) s)
+  unfolding words_from
+  words-other h k m = rw (add-one, drop-cons s i 0 inside, ne_eqb (get_or s i 0) 40 h, ne_eqb (get_or s i 0) 41 k, ne_eqb (get_or s i 0) 32 m)
 
 pub words_end_lem : (fresh : Bool) (s : List ℕ) (i : ℕ) → length s ≤ i → words_from fresh (drop i s) ≡ not fresh
 unfolding words_from
@@ -252,56 +229,56 @@ slot-name w h = rw (same_sym w (42 ∷ []) ∙ h) (go (parse_name w))
 
 -- ---- the words of a closed form
 
-unfoldable pub check_for : List (List ℕ) → Result ℕ Reason
-check_for ws = result_and (verdict (for_stmt ws)) (Ok 0)
+unfoldable pub check_for : List (List ℕ) → Checked
+check_for ws = checked 0 (verdict (for_stmt ws))
 
-unfoldable pub check_next : List (List ℕ) → Result ℕ Reason
-check_next [] = Err reason.NotAForm
-check_next (w ∷ ws) = lowest (verdict (parse_mark w)) (result_and (lowest_of (refusal_by true) ws) (Ok (length ws)))
+unfoldable pub check_next : List (List ℕ) → Checked
+check_next [] = no_form
+check_next (w ∷ ws) = checked (length ws) (lowest (verdict (parse_mark w)) (lowest_of (refusal_by true) ws))
 
 -- by the kind of the opening word
-unfoldable pub check_kind : Kind → List (List ℕ) → Result ℕ Reason
-check_kind kind.Number ws = result_and (verdict (single ws)) (Ok 0)
-check_kind kind.Run ws = result_and (verdict (single ws)) (Ok 0)
-check_kind kind.Numbers ws = result_and (lowest_of (refusal_by false) ws) (Ok (length ws))
+unfoldable pub check_kind : Kind → List (List ℕ) → Checked
+check_kind kind.Number ws = checked 0 (verdict (single ws))
+check_kind kind.Run ws = checked 0 (verdict (single ws))
+check_kind kind.Numbers ws = checked (length ws) (lowest_of (refusal_by false) ws)
 check_kind kind.For ws = check_for ws
 check_kind kind.Next ws = check_next ws
-check_kind kind.Module ws = Err reason.NotAForm
-check_kind kind.Line ws = Err reason.NotAForm
-check_kind kind.To ws = Err reason.NotAForm
-check_kind kind.Stmts ws = Err reason.NotAForm
-check_kind kind.Cond ws = Err reason.NotAForm
-check_kind kind.Bare ws = Err reason.NotAForm
+check_kind kind.Module ws = no_form
+check_kind kind.Line ws = no_form
+check_kind kind.To ws = no_form
+check_kind kind.Stmts ws = no_form
+check_kind kind.Cond ws = no_form
+check_kind kind.Bare ws = no_form
 
 -- ---- a name and a tier
 
-for_one : (w : List ℕ) → check_for (w ∷ []) ≡ Err reason.NotAForm
+for_one : (w : List ℕ) → check_for (w ∷ []) ≡ no_form
 unfolding check_for for_stmt
 for_one w = refl
 
-for_many : (w v : List ℕ) (ws : List (List ℕ)) → 0 < length ws → check_for (w ∷ v ∷ ws) ≡ Err reason.NotAForm
+for_many : (w v : List ℕ) (ws : List (List ℕ)) → 0 < length ws → check_for (w ∷ v ∷ ws) ≡ no_form
 unfolding check_for for_stmt
 for_many w v [] h = absurd (not-suc-le-zero h)
 for_many w v (u ∷ ws) h = refl
 
-for_two : (w v : List ℕ) → check_for (w ∷ v ∷ []) ≡ result_and (lowest (verdict (parse_name w)) (verdict (parse_tier v))) (Ok 0)
+for_two : (w v : List ℕ) → check_for (w ∷ v ∷ []) ≡ checked 0 (lowest (verdict (parse_name w)) (verdict (parse_tier v)))
 unfolding check_for for_stmt
-for_two w v = ap (λ (g : Verdict). result_and g (Ok 0)) (refusal_with (λ n t. (for n t, 0)) (parse_name w) (parse_tier v))
+for_two w v = ap (checked 0) (refusal_with (λ n t. (for n t, 0)) (parse_name w) (parse_tier v))
 
-pub for_alone : (s : List ℕ) (e : ℕ) → e ≡ index_of 32 s → e ≡ length s → check_for (split 32 s) ≡ Err reason.NotAForm
+pub for_alone : (s : List ℕ) (e : ℕ) → e ≡ index_of 32 s → e ≡ length s → check_for (split 32 s) ≡ no_form
 for_alone s e f h = ap check_for (split_alone 32 s e f h) ∙ for_one (take (e - 0) (drop 0 s))
 
 module _ (s : List ℕ) (e d : ℕ) (found : e ≡ index_of 32 s) (more : e < length s) (found₂ : d ≡ index_of 32 (after s e)) where
   long : length (after s e) ≡ length s - (e + 1)
   long = ap length (rest_all s (e + 1)) ∙ length-drop (e + 1) s
 
-  pub for_longer : d < length s - (e + 1) → check_for (split 32 s) ≡ Err reason.NotAForm
+  pub for_longer : d < length s - (e + 1) → check_for (split 32 s) ≡ no_form
   for_longer h =
       let t = after s e in
       ap check_for (split-first 32 s e found more ∙ ap (λ (z : List (List ℕ)). take (e - 0) (drop 0 s) ∷ z) (split-first 32 t d found₂ (omega (arith, long))))
       ∙ for_many (take (e - 0) (drop 0 s)) (take (d - 0) (drop 0 t)) (split 32 (after t d)) (split-some 32 (after t d))
 
-  pub for_right : d ≡ length s - (e + 1) → check_for (split 32 s) ≡ result_and (lowest (verdict (parse_name (take (e - 0) (drop 0 s)))) (verdict (parse_tier (after s e)))) (Ok 0)
+  pub for_right : d ≡ length s - (e + 1) → check_for (split 32 s) ≡ checked 0 (lowest (verdict (parse_name (take (e - 0) (drop 0 s)))) (verdict (parse_tier (after s e))))
   for_right h =
       let t = after s e in
       ap check_for (split-first 32 s e found more ∙ ap (λ (z : List (List ℕ)). take (e - 0) (drop 0 s) ∷ z) (split_last 32 t (sym found₂ ∙ h ∙ sym long)))
@@ -310,18 +287,11 @@ module _ (s : List ℕ) (e d : ℕ) (found : e ≡ index_of 32 s) (more : e < le
 -- ---- a mark and slots
 
 module _ (s : List ℕ) (e : ℕ) (found : e ≡ index_of 32 s) where
-  pub next_alone : e ≡ length s → check_next (split 32 s) ≡ result_and (verdict (parse_mark (take (e - 0) (drop 0 s)))) (Ok 0)
-  unfolding check_next lowest_of lowest
-  next_alone h = ap check_next (split_alone 32 s e found h) ∙ go (verdict (parse_mark (take (e - 0) (drop 0 s))))
-    where
-      none : Result ℕ Reason
-      none = Ok 0
-
-      go : (v : Verdict) → lowest v none ≡ result_and v none
-      go (Ok u) = refl
-      go (Err r) = refl
+  pub next_alone : e ≡ length s → check_next (split 32 s) ≡ checked 0 (verdict (parse_mark (take (e - 0) (drop 0 s))))
+  unfolding check_next lowest_of
+  next_alone h = ap check_next (split_alone 32 s e found h) ∙ ap (checked 0) (lowest_of_none (verdict (parse_mark (take (e - 0) (drop 0 s)))))
 
   pub next_slots : e < length s
-      → check_next (split 32 s) ≡ lowest (verdict (parse_mark (take (e - 0) (drop 0 s)))) (result_and (lowest_of (refusal_by true) (split 32 (after s e))) (Ok (length (split 32 (after s e)))))
+      → check_next (split 32 s) ≡ checked (length (split 32 (after s e))) (lowest (verdict (parse_mark (take (e - 0) (drop 0 s)))) (lowest_of (refusal_by true) (split 32 (after s e))))
   unfolding check_next
   next_slots h = ap check_next (split-first 32 s e found h)

@@ -1,5 +1,5 @@
 -- Names, their keys, and that a key is that of one name. Assumes nothing.
-use Rattle.std.specs.Prelude.{ℕ, zero, suc, ◌+◌, ◌*◌, ◌-◌, ◌≤◌, ◌<◌, ◌≡◌, refl, List, [], ◌∷◌, Bool, true, false, not, ◌&&◌, ◌||◌, eqb, leb, ltb, length, get_or, drop, Option, Some, None}
+use Rattle.std.specs.Prelude.{ℕ, zero, suc, ◌+◌, ◌*◌, ◌-◌, ◌≤◌, ◌<◌, ◌≡◌, refl, List, [], ◌∷◌, Bool, true, false, not, ◌&&◌, ◌||◌, eqb, leb, ltb, length, get_or, drop, Result, Ok, Err}
 use Rattle.std.proofs.Common.{sym, ap, ⊎_elim, arith, add-one, not-suc-le-zero, le_of_suc-le-suc, suc-add, length-drop, drop-cons, eqb-true, leb-true, le-leb, lt-ltb, le-ltb}
 use Rattle.std.proofs.lemmas.Bool.{eqb-false}
 use Rattle.listings.specs.Bytes.{same, pick}
@@ -12,12 +12,14 @@ use Rattle.listing_laws.specs.WordText.{capital_range, same-nil}
 use Rattle.listings.specs.Records.{name_key}
 use Rattle.listings.specs.Cut.{cut_to, cut_name}
 use Rattle.listing_laws.specs.CutLaws.{name-length}
+use Rattle.layout.specs.declared.refusals.Reason.{Reason}
+use Rattle.layout.specs.declared.refusals.Reason.TheVariants as reason
 
--- the code's answer for what was read: the key of the name, cut to two characters
-abbrev pub as_key : Parse Name → Option ℕ
-as_key malformed = None
-as_key invalid = None
-as_key (parsed w) = Some (name_key (cut_name w))
+-- the code's answer for what was read: the key of the name, cut to two characters, or why there is none
+abbrev pub as_key : Parse Name → Result ℕ Reason
+as_key malformed = Err reason.NotAForm
+as_key invalid = Err reason.BadWord
+as_key (parsed w) = Ok (name_key (cut_name w))
 
 pub name_invalid : (w : List ℕ) → is_name w ≡ false → parse_name w ≡ invalid
 unfolding parse_name

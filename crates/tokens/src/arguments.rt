@@ -1,9 +1,8 @@
 // The words after a form's opening word: why one of them is refused, by the lowest number, and how many there are.
-ghost use Rattle.std.specs.Prelude.{◌≡◌, Ok, length};
-ghost use Rattle.std.specs.Result.{result_and};
-ghost use Rattle.listings.specs.Rows.{are_words, split, parse_name, parse_tier, parse_mark, single};
+ghost use Rattle.std.specs.Prelude.{◌≡◌, length};
+ghost use Rattle.listings.specs.Rows.{are_words, split, parse_name, parse_slot, parse_tier, parse_mark, single};
 ghost use Rattle.tokens.specs.Numbers.{as_number};
-ghost use Rattle.tokens.specs.Arguments.{verdict, refusal_by, lowest, lowest_of, breaks, check_for, check_next, check_kind};
+ghost use Rattle.tokens.specs.Arguments.{are_slots, checked, verdict, refusal_by, lowest, lowest_of, check_for, check_next, check_kind};
 
 use super::names::is_name;
 use super::numbers::number;
@@ -11,24 +10,44 @@ use super::scan::{equal, find};
 use super::words::Kind;
 use layout::refusals::Reason;
 
-// A bracket, or a space where nothing of a piece was seen.
-fn breaks_words(b: u8, fresh: bool) -> bool
-    ensures { result ≡ breaks b fresh }
-{
-    b == b'(' || b == b')' || (b == b' ' && fresh)
+// What the words of a list are, all of them.
+#[derive(Clone, Copy, Debug, PartialEq, Eq)]
+pub enum Arguments {
+    Numbers,
+    Slots,
 }
 
+// How many numbers or slots are listed, and why one of the words is refused.
+// Kept: the count beside the verdict, and not in its `Ok`, since of a refused row it is told too.
+#[derive(Clone, Copy, Debug, PartialEq, Eq)]
+pub struct Checked {
+    pub count: usize,
+    pub verdict: Result<(), Reason>,
+}
+
+const NO_FORM: Checked = Checked {
+    count: 0,
+    verdict: Err(Reason::NotAForm),
+};
+
 // Whether all pieces between spaces are words: not empty, no bracket.
+// Kept: case by case; with one test of the byte and `fresh` together the loop takes half as many instructions again.
 pub fn are_words(s: &[u8]) -> bool
     ensures { result ≡ are_words (split 32 s.now) }
 {
     // Nothing of the piece was passed yet.
     let mut fresh = true;
     for b in s {
-        if breaks_words(*b, fresh) {
-            return false;
+        match b {
+            b'(' | b')' => return false,
+            b' ' => {
+                if fresh {
+                    return false;
+                }
+                fresh = true;
+            }
+            _ => fresh = false,
         }
-        fresh = *b == b' ';
     }
     !fresh
 }
@@ -63,20 +82,28 @@ fn name_refusal(w: &[u8]) -> Result<(), Reason>
     Err(Reason::BadWord)
 }
 
-// Of a slot, or of a number.
-fn argument_refusal(slots: bool, w: &[u8]) -> Result<(), Reason>
-    ensures { result ≡ refusal_by slots w.now }
+// A name is due, or `*`.
+fn slot_refusal(w: &[u8]) -> Result<(), Reason>
+    ensures { result ≡ verdict (parse_slot w.now) }
 {
-    if !slots {
-        return number(w).and(Ok(()));
-    }
     if equal(b"*", w) {
         return Ok(());
     }
     name_refusal(w)
 }
 
+// Of a word of such a list.
+fn argument_refusal(arguments: Arguments, w: &[u8]) -> Result<(), Reason>
+    ensures { result ≡ refusal_by (are_slots arguments) w.now }
+{
+    match arguments {
+        Arguments::Numbers => number(w).and(Ok(())),
+        Arguments::Slots => slot_refusal(w),
+    }
+}
+
 // "within it, the lowest number": of two refusals; b where none is refused.
+// Kept: by the numbers; that a derived order is theirs would be a table of 441 cases.
 pub fn lower<A: Drop, B: Drop>(a: Result<A, Reason>, b: Result<B, Reason>) -> Result<B, Reason>
     ensures { result ≡ lowest a b }
 {
@@ -93,21 +120,16 @@ pub fn lower<A: Drop, B: Drop>(a: Result<A, Reason>, b: Result<B, Reason>) -> Re
 }
 
 // All words are judged, those past the 64th too: a later word may have a lower number.
-pub fn check_all(s: &[u8], slots: bool) -> Result<usize, Reason>
-    ensures { result ≡ result_and (lowest_of (refusal_by slots) (split 32 s.now)) (Ok (length (split 32 s.now))) }
+pub fn check_all(s: &[u8], arguments: Arguments) -> Checked
+    ensures { result ≡ checked (length (split 32 s.now)) (lowest_of (refusal_by (are_slots arguments)) (split 32 s.now)) }
 {
-    let mut at: usize = 0;
-    let mut n: usize = 0;
-    let mut g = Ok(());
-    loop {
-        let to = at + find(&s[at..], 32);
-        g = lower(g, argument_refusal(slots, &s[at..to]));
-        n += 1;
-        if to == s.len() {
-            return g.and(Ok(n));
-        }
-        at = to + 1;
+    let mut count: usize = 0;
+    let mut verdict = Ok(());
+    for w in s.split(|b| *b == b' ') {
+        verdict = lower(verdict, argument_refusal(arguments, w));
+        count += 1;
     }
+    Checked { count, verdict }
 }
 
 // The one word of s as a number.
@@ -121,41 +143,61 @@ pub fn single_number(s: &[u8]) -> Result<u16, Reason>
 }
 
 // A name and a tier.
-fn check_for(s: &[u8]) -> Result<usize, Reason>
+fn check_for(s: &[u8]) -> Checked
     ensures { result ≡ check_for (split 32 s.now) }
 {
     let e = find(s, 32);
     if e == s.len() {
-        return Err(Reason::NotAForm);
+        return NO_FORM;
     }
     let tier = &s[e + 1..];
     if find(tier, 32) < tier.len() {
-        return Err(Reason::NotAForm);
+        return NO_FORM;
     }
-    lower(name_refusal(&s[0..e]), tier_refusal(tier)).and(Ok(0))
+    Checked {
+        count: 0,
+        verdict: lower(name_refusal(&s[0..e]), tier_refusal(tier)),
+    }
 }
 
 // A mark and slots.
-fn check_next(s: &[u8]) -> Result<usize, Reason>
+fn check_next(s: &[u8]) -> Checked
     ensures { result ≡ check_next (split 32 s.now) }
 {
     let e = find(s, 32);
     let mark = mark_refusal(&s[0..e]);
     if e == s.len() {
-        return mark.and(Ok(0));
+        return Checked {
+            count: 0,
+            verdict: mark,
+        };
     }
-    lower(mark, check_all(&s[e + 1..], true))
+    let slots = check_all(&s[e + 1..], Arguments::Slots);
+    Checked {
+        count: slots.count,
+        verdict: lower(mark, slots.verdict),
+    }
 }
 
-// The words of s, one or more, after an opening word of this kind: how many numbers or slots they list.
-pub fn check_kind(kind: Kind, s: &[u8]) -> Result<usize, Reason>
+// The one number of s.
+fn check_single(s: &[u8]) -> Checked
+    ensures { result ≡ checked 0 (verdict (single (split 32 s.now))) }
+{
+    Checked {
+        count: 0,
+        verdict: single_number(s).and(Ok(())),
+    }
+}
+
+// The words of s, one or more, after an opening word of this kind.
+pub fn check_kind(kind: Kind, s: &[u8]) -> Checked
     ensures { result ≡ check_kind kind (split 32 s.now) }
 {
     match kind {
-        Kind::Number | Kind::Run => single_number(s).and(Ok(0)),
-        Kind::Numbers => check_all(s, false),
+        Kind::Number | Kind::Run => check_single(s),
+        Kind::Numbers => check_all(s, Arguments::Numbers),
         Kind::For => check_for(s),
         Kind::Next => check_next(s),
-        _ => Err(Reason::NotAForm),
+        _ => NO_FORM,
     }
 }

@@ -5,24 +5,25 @@ ghost use Rattle.listings.specs.Rows.{is_digit, is_capital, is_name, parse_name}
 ghost use Rattle.tokens.specs.Names.{as_key, kept};
 
 use super::numbers::is_digit;
+use layout::refusals::Reason;
 
 // A to Z.
 #[tactic(auto, unfolding(listings::specs::Rows::is_capital))]
-fn is_capital(b: u8) -> bool
+pub fn is_capital(b: u8) -> bool
     ensures { result ≡ is_capital b }
 {
     matches!(b, b'A'..=b'Z')
 }
 
 // What may follow a name's first letter.
-fn is_letter(b: u8) -> bool
+pub fn is_letter(b: u8) -> bool
     ensures { result ≡ (is_capital b || is_digit b) }
 {
     is_capital(b) || is_digit(b)
 }
 
 // `%` or `$`.
-fn is_suffix(b: u8) -> bool
+pub fn is_suffix(b: u8) -> bool
     ensures { result ≡ (eqb b 37 || eqb b 36) }
 {
     matches!(b, b'%' | b'$')
@@ -70,17 +71,17 @@ fn with_byte(a: u64, i: usize, b: u8) -> u64
     a * 64 + (u64::from(b) - 32)
 }
 
-// The key of a name that is judged whole and then cut to two characters and its kind, none of what is no name: the bytes less 32 as digits to the base 64, the first byte lowest. No two
+// The key of a name that is judged whole and then cut to two characters and its kind: the bytes less 32 as digits to the base 64, the first byte lowest. No two
 // cut names have the same key.
-pub fn key_of(w: &[u8]) -> Option<u64>
+pub fn key_of(w: &[u8]) -> Result<u64, Reason>
     ensures { result ≡ as_key (parse_name w.now) }
 {
     if !is_name(w) {
-        return None;
+        return Err(Reason::BadWord);
     }
     let mut a: u64 = 0;
     for i in (0..w.len()).rev() {
         a = with_byte(a, i, w[i]);
     }
-    Some(a)
+    Ok(a)
 }

@@ -19,6 +19,7 @@ pub fn find(s: &[u8], b: u8) -> usize
 }
 
 // The same bytes.
+// Kept: with `==` each call would write `.as_slice()` at its literal, and a `match` on byte texts tells a proof their lengths alone.
 pub fn equal(a: &[u8], w: &[u8]) -> bool
     ensures { result ≡ same a.now w.now }
 {

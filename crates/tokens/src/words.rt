@@ -99,13 +99,12 @@ pub fn word_letter(k: usize, j: usize) -> u8
 pub fn candidate(w: &[u8]) -> usize
     ensures { (result ≡ candidate_of w.now) × (result < 28) }
 {
-    let n = w.len();
-    if n == 0 {
+    let [first, ..] = w else {
         return 0;
-    }
-    let first = usize::from(w[0]);
-    let last = usize::from(w[n - 1]);
-    usize::from(SLOTS[(first + 23 * last + 5 * (n % 8)) % 64])
+    };
+    let first = usize::from(*first);
+    let last = usize::from(w[w.len() - 1]);
+    usize::from(SLOTS[(first + 23 * last + 5 * (w.len() % 8)) % 64])
 }
 
 // The number of the opening word that w is.

@@ -7,93 +7,91 @@ use crate::clearing::clear_returns;
 use crate::closure::{close_rows, list_row};
 use crate::readable::calls_readable;
 use crate::regions::{join_region, list_calls};
-use crate::spans::{SPANS_LENGTH, span_calls};
+use crate::sets::Sets;
+use crate::spans::{Calls, SPANS_LENGTH, span_calls};
 use layout::limits::MAX_STMTS;
 use layout::zeroing::all_of;
+use tables::nodes::{Nodes, Records};
 
-// The entry e, if it is called: its region by its closed row, listed in `work`. Only the list differs from regions::join_called; a closure
-// for it would have to take the rows, which are written meanwhile and which a walk does not read.
+// The entry e, if it is called: its region by its closed row, listed in `work`.
+// Kept: only the list differs from regions::join_called, but a closure for it would have to take the rows, which are written meanwhile and
+// which a walk does not read.
 fn join_by_rows(
-    stmts: &[u16],
-    falls: &[u16],
-    links: &[u16],
-    n: usize,
-    calls: &[u16],
-    spans: &[u16],
+    g: &Nodes<'_>,
+    calls: &Calls<'_>,
     e: usize,
-    work: &mut [u16],
+    work: &mut [u16; MAX_STMTS],
     rows: &mut [u64],
 )
-    requires { ByRowsReady stmts.now falls.now links.now n calls.now spans.now rows.old × (e < n) × (length work.old ≡ 4096) }
-    ensures { EntryByRows stmts.now falls.now links.now n e rows.old rows.new }
+    requires { ByRowsReady g.now.records.stmts.now g.now.falls.now g.now.links.now g.now.records.n calls.now.list.now calls.now.spans.now rows.old × (e < g.now.records.n) }
+    ensures { EntryByRows g.now.records.stmts.now g.now.falls.now g.now.links.now g.now.records.n e rows.old rows.new }
 {
-    let at = e * 2;
-    let end = usize::from(spans[at + 1]);
-    if end == 0 {
+    let Some(called) = calls.of_entry(e) else {
         return;
-    }
-    let start = usize::from(spans[at]);
-    let count = list_row(stmts, rows, n, e, work);
-    join_region(
-        stmts,
-        falls,
-        links,
-        n,
-        &calls[start..end],
+    };
+    let records = g.records;
+    let count = list_row(
+        &Sets {
+            records,
+            words: rows,
+        },
         e,
-        &work[..count],
-        rows,
+        work,
     );
+    join_region(g, called, e, &work[..count], rows);
 }
 
 // All called entries.
 fn join_entries_by_rows(
-    stmts: &[u16],
-    falls: &[u16],
-    links: &[u16],
-    n: usize,
-    calls: &[u16],
-    spans: &[u16],
-    work: &mut [u16],
+    g: &Nodes<'_>,
+    calls: &Calls<'_>,
+    work: &mut [u16; MAX_STMTS],
     rows: &mut [u64],
 )
-    requires { ByRowsReady stmts.now falls.now links.now n calls.now spans.now rows.old × (length work.old ≡ 4096) }
-    ensures { EntriesByRows stmts.now falls.now links.now n n rows.old rows.new }
+    requires { ByRowsReady g.now.records.stmts.now g.now.falls.now g.now.links.now g.now.records.n calls.now.list.now calls.now.spans.now rows.old }
+    ensures { EntriesByRows g.now.records.stmts.now g.now.falls.now g.now.links.now g.now.records.n g.now.records.n rows.old rows.new }
 {
-    for e in 0..n {
-        join_by_rows(stmts, falls, links, n, calls, spans, e, work, rows);
+    for e in 0..g.records.n {
+        join_by_rows(g, calls, e, work, rows);
     }
 }
 
 // All entries of all calls: where the rows of nodes that are no RETURN are closed, the sets of RETURNs grow.
-fn join_regions_by_rows(stmts: &[u16], falls: &[u16], links: &[u16], n: usize, rows: &mut [u64])
-    requires { CallsRead stmts.now falls.now links.now n × (n * 64 ≤ length rows.old) }
-    ensures { EntriesByRows stmts.now falls.now links.now n n rows.old rows.new }
+fn join_regions_by_rows(g: &Nodes<'_>, rows: &mut [u64])
+    requires { CallsRead g.now.records.stmts.now g.now.falls.now g.now.links.now g.now.records.n × (g.now.records.n * 64 ≤ length rows.old) }
+    ensures { EntriesByRows g.now.records.stmts.now g.now.falls.now g.now.links.now g.now.records.n g.now.records.n rows.old rows.new }
 {
     let mut buffer = all_of::<u16, MAX_STMTS>(0);
-    let count = list_calls(stmts, n, &mut buffer);
-    let calls = &buffer[..count];
-    let mut spans = all_of::<u16, SPANS_LENGTH>(0);
-    span_calls(stmts, links, calls, &mut spans);
+    let count = list_calls(&g.records, &mut buffer);
+    let list = &buffer[..count];
+    let mut table = all_of::<u16, SPANS_LENGTH>(0);
+    span_calls(g, list, &mut table);
+    let spans = &table;
     let mut work = all_of::<u16, MAX_STMTS>(0);
-    join_entries_by_rows(stmts, falls, links, n, calls, &spans, &mut work, rows);
+    join_entries_by_rows(g, &Calls { list, spans }, &mut work, rows);
 }
 
 // A row of bits for each of n nodes says where it leads; that of a RETURN becomes its set, where it goes back to, and any other all that can be
 // reached from it. Answers whether the tables can be read; where they cannot, nothing is written.
-pub fn return_edges_by_rows(
-    stmts: &[u16],
-    falls: &[u16],
-    links: &[u16],
+pub fn return_edges_by_rows<'a>(
+    stmts: &'a [u16],
+    falls: &'a [u16],
+    links: &'a [u16],
     n: usize,
     rows: &mut [u64],
 ) -> bool
     ensures { ByRowsAnswered stmts.now falls.now links.now n rows.old rows.new result }
 {
     if calls_readable(stmts, falls, links, n, rows) {
-        clear_returns(stmts, rows, n);
+        let records = Records { stmts, n };
+        let nodes = Nodes {
+            records,
+            falls,
+            links,
+        };
+        clear_returns(&records, rows);
         close_rows(rows, n);
-        join_regions_by_rows(stmts, falls, links, n, rows);
+        join_regions_by_rows(&nodes, rows);
         return true;
     }
     false

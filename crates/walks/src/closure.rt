@@ -4,8 +4,9 @@ ghost use Rattle.passes.specs.Sets.{bit};
 ghost use Rattle.passes.specs.ReturnSets.{set_of};
 ghost use Rattle.passes.specs.Closure.{Closed, RowJoined, RowsJoined, RowReached, RowListed};
 
-use crate::sets::{insert, join, no_words, put_members};
-use layout::columns::{ARG_ENTRIES, STMT_ENTRIES};
+use crate::sets::{Sets, insert, join, no_words, put_members, set_at};
+use layout::columns::ARG_ENTRIES;
+use layout::limits::MAX_STMTS;
 use layout::words::RETURN;
 
 // 1 where row i has node j, else 0.
@@ -24,9 +25,7 @@ fn row_copy(rows: &[u64], i: usize) -> [u64; 64]
     ensures { result ≡ set_of rows.now i }
 {
     let mut row = no_words();
-    let start = i * ARG_ENTRIES;
-    let end = start + 64;
-    row.copy_from_slice(&rows[start..end]);
+    row.copy_from_slice(set_at(rows, i));
     row
 }
 
@@ -66,32 +65,24 @@ pub(crate) fn close_rows(rows: &mut [u64], n: usize)
 
 // All that a walk from `from` would list: that node alone where it is a RETURN, which takes no step and whose row may hold where it returns
 // to; else with its row.
-fn row_region(stmts: &[u16], rows: &[u64], n: usize, from: usize) -> [u64; 64]
-    requires { (n ≤ 4096) × (n * 12 ≤ length stmts.now) × (n * 64 ≤ length rows.now) × (from < n) }
-    ensures { RowReached stmts.now rows.now n from result }
+fn row_region(rows: &Sets<'_>, from: usize) -> [u64; 64]
+    requires { from < rows.now.records.n }
+    ensures { RowReached rows.now.records.stmts.now rows.now.words.now rows.now.records.n from result }
 {
     let mut set = no_words();
     insert(&mut set, from);
-    if stmts[from * STMT_ENTRIES] == RETURN {
+    if rows.records.word(from) == RETURN {
         return set;
     }
-    let start = from * ARG_ENTRIES;
-    let end = start + 64;
-    join(&mut set, &rows[start..end]);
+    join(&mut set, rows.of(from));
     set
 }
 
 // Lists these, ascending, and answers how many.
-pub(crate) fn list_row(
-    stmts: &[u16],
-    rows: &[u64],
-    n: usize,
-    from: usize,
-    work: &mut [u16],
-) -> usize
-    requires { (n ≤ 4096) × (n * 12 ≤ length stmts.now) × (n * 64 ≤ length rows.now) × (from < n) × (length work.old ≡ 4096) }
-    ensures { (result ≤ length work.new) × RowListed stmts.now rows.now n from (take result work.new) }
+pub(crate) fn list_row(rows: &Sets<'_>, from: usize, work: &mut [u16; MAX_STMTS]) -> usize
+    requires { from < rows.now.records.n }
+    ensures { (result ≤ length work.new) × RowListed rows.now.records.stmts.now rows.now.words.now rows.now.records.n from (take result work.new) }
 {
-    let set = row_region(stmts, rows, n, from);
+    let set = row_region(rows, from);
     put_members(&set, work)
 }

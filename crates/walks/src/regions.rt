@@ -13,41 +13,42 @@ ghost use Rattle.passes.specs.WalkTables.{CallsRead, RegionsAnswered};
 use crate::readable::walks_readable;
 use crate::return_sets::join_returns;
 use crate::sets::{insert, no_words};
-use crate::spans::{SPANS_LENGTH, span_calls};
-use crate::walk::region;
+use crate::spans::{Calls, SPANS_LENGTH, span_calls};
+use crate::walk::Listed;
 use layout::columns::{ARG_ENTRIES, COUNT, FALL_ENTRIES, STMT_ENTRIES};
 use layout::limits::MAX_STMTS;
 use layout::zeroing::all_of;
 use tables::calls::is_call;
 use tables::lists::holds;
+use tables::nodes::{Nodes, Records};
 
 // Puts node i behind the first m entries, if it is a call.
-fn list_call(stmts: &[u16], i: usize, calls: &mut [u16], m: usize) -> usize
-    requires { (i < 4096) × (i * 12 + 12 ≤ length stmts.now) × (m < length calls.old) }
-    ensures { Put calls.old m calls.new result (one_if (call_word (word_of stmts.now i)) i) }
+fn list_call(records: &Records<'_>, i: usize, calls: &mut [u16], m: usize) -> usize
+    requires { (i < records.now.n) × (m < length calls.old) }
+    ensures { Put calls.old m calls.new result (one_if (call_word (word_of records.now.stmts.now i)) i) }
 {
-    if is_call(stmts[i * STMT_ENTRIES]) {
+    if is_call(records.word(i)) {
         calls[m] = i as u16;
         return m + 1;
     }
     m
 }
 
-// Lists the calls among the n nodes, ascending, and answers how many: later loops run over these alone.
-pub(crate) fn list_calls(stmts: &[u16], n: usize, calls: &mut [u16]) -> usize
-    requires { (n ≤ 4096) × (n * 12 ≤ length stmts.now) × (n ≤ length calls.old) }
-    ensures { Put calls.old 0 calls.new result (calls_below stmts.now n) }
+// Lists the calls, ascending, and answers how many: later loops run over these alone.
+pub(crate) fn list_calls(records: &Records<'_>, calls: &mut [u16]) -> usize
+    requires { records.now.n ≤ length calls.old }
+    ensures { Put calls.old 0 calls.new result (calls_below records.now.stmts.now records.now.n) }
 {
     let mut m: usize = 0;
-    for i in 0..n {
-        m = list_call(stmts, i, calls, m);
+    for i in 0..records.n {
+        m = list_call(records, i, calls, m);
     }
     m
 }
 
 // Inserts the node t - 1, where t is not 0.
-fn insert_some(set: &mut [u64], t: u16)
-    requires { (length set.old ≡ 64) × (t ≤ 4096) }
+fn insert_some(set: &mut [u64; 64], t: u16)
+    requires { t ≤ 4096 }
     ensures { SetAdded set.old set.new (decode t) }
 {
     if let Some(a) = t.checked_sub(1) {
@@ -56,151 +57,109 @@ fn insert_some(set: &mut [u64], t: u16)
 }
 
 // Inserts where call c goes on, if the entry e is one of its targets.
-fn add_back(stmts: &[u16], falls: &[u16], links: &[u16], c: usize, e: usize, backs: &mut [u64])
-    requires { CallFits stmts.now falls.now links.now c × (e < 4096) × (length backs.old ≡ 64) }
-    ensures { SetAdded backs.old backs.new (back_from stmts.now falls.now links.now e c) }
+fn add_back(g: &Nodes<'_>, c: usize, e: usize, backs: &mut [u64; 64])
+    requires { CallFits g.now.records.stmts.now g.now.falls.now g.now.links.now c × (e < 4096) }
+    ensures { SetAdded backs.old backs.new (back_from g.now.records.stmts.now g.now.falls.now g.now.links.now e c) }
 {
     let at = c * ARG_ENTRIES;
-    let end = at + usize::from(stmts[c * STMT_ENTRIES + COUNT]);
-    if holds(&links[at..end], (e + 1) as u16) {
-        insert_some(backs, falls[c * FALL_ENTRIES]);
+    let end = at + usize::from(g.records.stmts[c * STMT_ENTRIES + COUNT]);
+    if holds(&g.links[at..end], (e + 1) as u16) {
+        insert_some(backs, g.falls[c * FALL_ENTRIES]);
     }
 }
 
 // Inserts where the calls go on that have the entry e among their targets.
-fn add_backs(
-    stmts: &[u16],
-    falls: &[u16],
-    links: &[u16],
-    calls: &[u16],
-    e: usize,
-    backs: &mut [u64],
-)
-    requires { All (CallFits stmts.now falls.now links.now) calls.now × (e < 4096) × (length backs.old ≡ 64) }
-    ensures { SetAdded backs.old backs.new (each (back_from stmts.now falls.now links.now e) calls.now) }
+fn add_backs(g: &Nodes<'_>, calls: &[u16], e: usize, backs: &mut [u64; 64])
+    requires { All (CallFits g.now.records.stmts.now g.now.falls.now g.now.links.now) calls.now × (e < 4096) }
+    ensures { SetAdded backs.old backs.new (each (back_from g.now.records.stmts.now g.now.falls.now g.now.links.now e) calls.now) }
 {
     for &c in calls {
-        add_back(stmts, falls, links, usize::from(c), e, backs);
+        add_back(g, usize::from(c), e, backs);
     }
 }
 
 // For the entry e, with its calls and a list of its region: the continuations of the calls are joined into the set of each RETURN there.
-pub(crate) fn join_region(
-    stmts: &[u16],
-    falls: &[u16],
-    links: &[u16],
-    n: usize,
-    calls: &[u16],
-    e: usize,
-    list: &[u16],
-    sets: &mut [u64],
-)
-    requires { EntryCalls stmts.now falls.now links.now n e calls.now × (e < 4096) × (n * 64 ≤ length sets.old) }
-    ensures { ListedJoined stmts.now falls.now links.now n e list.now sets.old sets.new }
+pub(crate) fn join_region(g: &Nodes<'_>, calls: &[u16], e: usize, list: &[u16], sets: &mut [u64])
+    requires { EntryCalls g.now.records.stmts.now g.now.falls.now g.now.links.now g.now.records.n e calls.now × (e < g.now.records.n) × (g.now.records.n * 64 ≤ length sets.old) }
+    ensures { ListedJoined g.now.records.stmts.now g.now.falls.now g.now.links.now g.now.records.n e list.now sets.old sets.new }
 {
     let mut backs = no_words();
-    add_backs(stmts, falls, links, calls, e, &mut backs);
-    join_returns(stmts, n, list, &backs, sets);
+    add_backs(g, calls, e, &mut backs);
+    join_returns(&g.records, list, &backs, sets);
 }
 
 // The entry e, if it is called: its region by the stored lists, listed in `work`.
 fn join_called(
-    stmts: &[u16],
-    falls: &[u16],
-    links: &[u16],
-    lists: &[u16],
-    edges: &[u16],
-    n: usize,
-    calls: &[u16],
-    spans: &[u16],
+    w: &Listed<'_>,
+    calls: &Calls<'_>,
     e: usize,
-    work: &mut [u16],
+    work: &mut [u16; MAX_STMTS],
     sets: &mut [u64],
 )
-    requires { EntriesReady stmts.now falls.now links.now lists.now edges.now n calls.now spans.now sets.old × (e < n) × (length work.old ≡ 4096) }
-    ensures { RegionJoined stmts.now falls.now links.now (stored_list lists.now edges.now) n e sets.old sets.new }
+    requires { let g = w.now.nodes in EntriesReady g.records.stmts.now g.falls.now g.links.now w.now.lists.now w.now.edges.now g.records.n calls.now.list.now calls.now.spans.now sets.old × (e < g.records.n) }
+    ensures { let g = w.now.nodes in RegionJoined g.records.stmts.now g.falls.now g.links.now (stored_list w.now.lists.now w.now.edges.now) g.records.n e sets.old sets.new }
 {
-    let at = e * 2;
-    let end = usize::from(spans[at + 1]);
-    if end == 0 {
+    let Some(called) = calls.of_entry(e) else {
         return;
-    }
-    let start = usize::from(spans[at]);
-    let count = region(lists, edges, n, e, work);
-    join_region(
-        stmts,
-        falls,
-        links,
-        n,
-        &calls[start..end],
-        e,
-        &work[..count],
-        sets,
-    );
+    };
+    let count = w.region(e, work);
+    join_region(&w.nodes, called, e, &work[..count], sets);
 }
 
 // All called entries.
-fn join_entries(
-    stmts: &[u16],
-    falls: &[u16],
-    links: &[u16],
-    lists: &[u16],
-    edges: &[u16],
-    n: usize,
-    calls: &[u16],
-    spans: &[u16],
-    work: &mut [u16],
-    sets: &mut [u64],
-)
-    requires { EntriesReady stmts.now falls.now links.now lists.now edges.now n calls.now spans.now sets.old × (length work.old ≡ 4096) }
-    ensures { RegionsJoined stmts.now falls.now links.now (stored_list lists.now edges.now) n n sets.old sets.new }
+fn join_entries(w: &Listed<'_>, calls: &Calls<'_>, work: &mut [u16; MAX_STMTS], sets: &mut [u64])
+    requires { let g = w.now.nodes in EntriesReady g.records.stmts.now g.falls.now g.links.now w.now.lists.now w.now.edges.now g.records.n calls.now.list.now calls.now.spans.now sets.old }
+    ensures { let g = w.now.nodes in RegionsJoined g.records.stmts.now g.falls.now g.links.now (stored_list w.now.lists.now w.now.edges.now) g.records.n g.records.n sets.old sets.new }
 {
-    for e in 0..n {
-        join_called(
-            stmts, falls, links, lists, edges, n, calls, spans, e, work, sets,
-        );
+    for e in 0..w.nodes.records.n {
+        join_called(w, calls, e, work, sets);
     }
 }
 
 // All entries of all calls.
-fn join_regions(
-    stmts: &[u16],
-    falls: &[u16],
-    links: &[u16],
-    lists: &[u16],
-    edges: &[u16],
-    n: usize,
-    sets: &mut [u64],
-)
-    requires { CallsRead stmts.now falls.now links.now n × Stored lists.now edges.now n (stored_list lists.now edges.now) × (n * 64 ≤ length sets.old) }
-    ensures { SetsFound stmts.now falls.now links.now (stored_list lists.now edges.now) n sets.old sets.new }
+fn join_regions(w: &Listed<'_>, sets: &mut [u64])
+    requires { let g = w.now.nodes in CallsRead g.records.stmts.now g.falls.now g.links.now g.records.n × Stored w.now.lists.now w.now.edges.now g.records.n (stored_list w.now.lists.now w.now.edges.now) × (g.records.n * 64 ≤ length sets.old) }
+    ensures { let g = w.now.nodes in SetsFound g.records.stmts.now g.falls.now g.links.now (stored_list w.now.lists.now w.now.edges.now) g.records.n sets.old sets.new }
 {
     let mut buffer = all_of::<u16, MAX_STMTS>(0);
-    let count = list_calls(stmts, n, &mut buffer);
-    let calls = &buffer[..count];
-    let mut spans = all_of::<u16, SPANS_LENGTH>(0);
-    span_calls(stmts, links, calls, &mut spans);
+    let count = list_calls(&w.nodes.records, &mut buffer);
+    let list = &buffer[..count];
+    let mut table = all_of::<u16, SPANS_LENGTH>(0);
+    span_calls(&w.nodes, list, &mut table);
+    let spans = &table;
     let mut work = all_of::<u16, MAX_STMTS>(0);
-    join_entries(
-        stmts, falls, links, lists, edges, n, calls, &spans, &mut work, sets,
-    );
+    join_entries(w, &Calls { list, spans }, &mut work, sets);
 }
 
 // Where each RETURN goes back to comes into its set, 64 words in its own row of `sets`, by walks over the stored lists. Answers whether the tables
 // can be read; where they cannot, nothing is written.
-pub fn region_return_edges(
-    stmts: &[u16],
-    falls: &[u16],
-    links: &[u16],
-    lists: &[u16],
-    edges: &[u16],
+// Kept: takes tables whoever wrote them, so a struct with an invariant would ask more.
+pub fn region_return_edges<'a>(
+    stmts: &'a [u16],
+    falls: &'a [u16],
+    links: &'a [u16],
+    lists: &'a [u16],
+    edges: &'a [u16],
     n: usize,
     sets: &mut [u64],
 ) -> bool
     ensures { RegionsAnswered stmts.now falls.now links.now lists.now edges.now n sets.old sets.new result }
 {
     if walks_readable(stmts, falls, links, lists, edges, n, sets) {
-        join_regions(stmts, falls, links, lists, edges, n, sets);
+        let records = Records { stmts, n };
+        let nodes = Nodes {
+            records,
+            falls,
+            links,
+        };
+        join_regions(
+            &Listed {
+                nodes,
+                lists,
+                edges,
+            },
+            sets,
+        );
         return true;
     }
     false

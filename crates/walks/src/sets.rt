@@ -1,12 +1,44 @@
 // Sets of nodes, 64 words each: id i is bit i % 64 of word i / 64.
-ghost use Rattle.std.specs.Prelude.{◌≡◌, ◌+◌, ◌%◌, ◌≤◌, ◌<◌, ◌^◌, eqb, length, replicate};
+ghost use Rattle.std.specs.Prelude.{◌≡◌, ◌+◌, ◌*◌, ◌%◌, ◌≤◌, ◌<◌, ◌^◌, eqb, length, replicate};
 ghost use Rattle.listings.specs.Bytes.{pick};
 ghost use Rattle.passes.specs.Sets.{inserted, joined, one_if, word_members, members_of, size_of, members_within, Put};
+ghost use Rattle.passes.specs.ReturnSets.{set_of};
 
+use layout::columns::ARG_ENTRIES;
 use layout::zeroing::all_of;
+use tables::nodes::Records;
 
 // The words of a set.
 const WORDS: usize = 64;
+
+// The set of node i, of a table with one for each node.
+pub fn set_at(sets: &[u64], i: usize) -> &[u64]
+    requires { i * 64 + 64 ≤ length sets.now }
+    ensures is_set { result.now ≡ set_of sets.now i }
+    ensures whole { length result.now ≡ 64 }
+{
+    let start = i * ARG_ENTRIES;
+    &sets[start..start + WORDS]
+}
+
+// n nodes and a set for each, which are only read.
+#[derive(Clone, Copy)]
+pub struct Sets<'a> {
+    pub records: Records<'a>,
+    pub words: &'a [u64],
+    pub ghost rows: { records.n * 64 ≤ length words.now },
+}
+
+impl<'a> Sets<'a> {
+    // The set of node i.
+    pub fn of(&self, i: usize) -> &'a [u64]
+        requires { i < self.now.records.n }
+        ensures is_set { result.now ≡ set_of self.now.words.now i }
+        ensures whole { length result.now ≡ 64 }
+    {
+        set_at(self.words, i)
+    }
+}
 
 // The empty set.
 pub fn no_words() -> [u64; 64]
@@ -87,7 +119,8 @@ fn put_if(part: &mut [u16], n: usize, i: usize, b: u64) -> usize
     n + 1
 }
 
-// Puts the members of a word, whose lowest bit is the id `base`. The loop ends at the highest one, so an empty word costs nothing.
+// Puts the members of a word, whose lowest bit is the id `base`.
+// Kept: a `while` that halves the word, as its definition does, and ends behind the highest one; a range would ask all 64 bits of each word.
 fn put_word(part: &mut [u16], n: usize, base: usize, word: u64) -> usize
     requires { (base ≤ 4096) × (n + length (word_members base word 64) ≤ length part.old) }
     ensures { Put part.old n part.new result (word_members base word 64) }

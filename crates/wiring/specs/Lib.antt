@@ -14,3 +14,6 @@ pub mod CameBefore
 pub mod FrameWords
 pub mod Places
 pub mod BuiltAnswer
+pub mod FromLeads
+pub mod Passes
+pub mod Found

@@ -6,12 +6,16 @@ ghost use Rattle.passes.specs.TableForms.{sizes_of, tables_of};
 ghost use Rattle.wiring.specs.BuiltAnswer.{built_told};
 ghost use Rattle.wiring.specs.GraphTables.{Zeroed, BuildWrote};
 ghost use Rattle.wiring.specs.BuildLaws.{GraphReady, GraphMade};
+ghost use Rattle.reader.specs.Inputs.{is_program, bytes_of};
 
+use crate::entries::Entries;
 use crate::prepare::prepare;
 use crate::reading::read_fitting;
 use crate::room::{line_room, stmt_room};
 use crate::wire::wire_graph;
 use layout::refusals::Refusal;
+use reader::listing::Input;
+use tables::nodes::Records;
 
 // What the passes before the lists write becomes zero.
 fn clear_links(entries: &mut [u16], falls: &mut [u16], links: &mut [u16])
@@ -23,6 +27,7 @@ fn clear_links(entries: &mut [u16], falls: &mut [u16], links: &mut [u16])
 }
 
 // The lists become zero.
+// Kept: tables that are written go one by one; of a struct of `&mut` a clause names what is left behind it by nested pairs.
 fn clear_lists(lists: &mut [u16], returns: &mut [u16], succ: &mut [u16], pred: &mut [u16])
     ensures { Zeroed lists.old lists.new × Zeroed returns.old returns.new × Zeroed succ.old succ.new × Zeroed pred.old pred.new }
 {
@@ -33,6 +38,7 @@ fn clear_lists(lists: &mut [u16], returns: &mut [u16], succ: &mut [u16], pred: &
 }
 
 // The reader's records become zero.
+// Kept: tables that are written go one by one; of a struct of `&mut` a clause names what is left behind it by nested pairs.
 fn clear_records(counts: &mut [u32; 6], lines: &mut [u16], stmts: &mut [u16], args: &mut [u64])
     ensures { (counts.new ≡ replicate 6 0) × Zeroed lines.old lines.new × Zeroed stmts.old stmts.new × Zeroed args.old args.new }
 {
@@ -43,6 +49,7 @@ fn clear_records(counts: &mut [u32; 6], lines: &mut [u16], stmts: &mut [u16], ar
 }
 
 // The graph of the listing that the reader's tables hold; all other tables are zero.
+// Kept: tables that are written go one by one; of a struct of `&mut` a clause names what is left behind it by nested pairs.
 fn graph_of(
     handlers: bool,
     count: usize,
@@ -62,10 +69,15 @@ fn graph_of(
     requires { GraphReady handlers count n counts.old lines.old stmts.old args.old entries.old falls.old links.old lists.old returns.old succ.old pred.old }
     ensures { GraphMade handlers count n lines.old stmts.old args.old (sizes_of lines.old stmts.old args.old entries.old falls.old links.old lists.old returns.old succ.old pred.old) counts.new lines.new stmts.new args.new entries.new falls.new links.new lists.new returns.new succ.new pred.new (built_told result) }
 {
-    let found = prepare(lines, stmts, args, entries, falls, links, count, n);
+    // that this never refuses is proved, so nothing is cleared behind it
+    prepare(lines, stmts, args, entries, falls, links, count, n)?;
+    let r = Records { stmts, n };
+    let w = Entries {
+        rows: entries,
+        count,
+    };
     match wire_graph(
-        handlers, count, n, found, counts, stmts, args, entries, falls, links, lists, returns,
-        succ, pred,
+        &r, &w, falls, links, handlers, counts, args, lists, returns, succ, pred,
     ) {
         Ok(()) => Ok(()),
         Err(refusal) => {
@@ -78,10 +90,11 @@ fn graph_of(
 }
 
 // Reads the input, a saved program or a text, and writes the graph of the listing that it means: counts (lines, statements, handlers, edges, return targets, entry rows), the reader's records, and what docs/DECISIONS.md
-// says of each other table. A refused build leaves every entry zero.
+// says of each other table. A refused build leaves every entry zero. Inlined, so that a program that makes the tables as zeros does not zero them twice.
+// Kept: the C interface lends the tables one by one.
+#[inline(always)]
 pub fn build_input(
-    program: bool,
-    input: &[u8],
+    input: Input<'_>,
     counts: &mut [u32; 6],
     lines: &mut [u16],
     stmts: &mut [u16],
@@ -94,7 +107,7 @@ pub fn build_input(
     succ: &mut [u16],
     pred: &mut [u16],
 ) -> Result<(), Refusal>
-    ensures { BuildWrote (meaning program input.now) (sizes_of lines.old stmts.old args.old entries.old falls.old links.old lists.old returns.old succ.old pred.old) (tables_of counts.new lines.new stmts.new args.new entries.new falls.new links.new lists.new returns.new succ.new pred.new) (built_told result) }
+    ensures { BuildWrote (meaning (is_program input.entry) (bytes_of input.entry)) (sizes_of lines.old stmts.old args.old entries.old falls.old links.old lists.old returns.old succ.old pred.old) (tables_of counts.new lines.new stmts.new args.new entries.new falls.new links.new lists.new returns.new succ.new pred.new) (built_told result) }
 {
     let most_lines = line_room(lines.len(), entries.len());
     let most_stmts = stmt_room(
@@ -107,18 +120,15 @@ pub fn build_input(
     );
     clear_links(entries, falls, links);
     clear_lists(lists, returns, succ, pred);
-    match read_fitting(
-        program, input, counts, lines, stmts, args, most_lines, most_stmts,
-    ) {
-        Err(refusal) => Err(refusal),
-        Ok(a) => graph_of(
-            a.handlers, a.lines, a.stmts, counts, lines, stmts, args, entries, falls, links, lists,
-            returns, succ, pred,
-        ),
-    }
+    let a = read_fitting(input, counts, lines, stmts, args, most_lines, most_stmts)?;
+    graph_of(
+        a.handlers, a.lines, a.stmts, counts, lines, stmts, args, entries, falls, links, lists,
+        returns, succ, pred,
+    )
 }
 
 // The same of a text.
+// Kept: the C interface lends the tables one by one.
 pub fn build(
     text: &[u8],
     counts: &mut [u32; 6],
@@ -135,7 +145,8 @@ pub fn build(
 ) -> Result<(), Refusal>
     ensures { BuildWrote (meant text.now) (sizes_of lines.old stmts.old args.old entries.old falls.old links.old lists.old returns.old succ.old pred.old) (tables_of counts.new lines.new stmts.new args.new entries.new falls.new links.new lists.new returns.new succ.new pred.new) (built_told result) }
 {
+    let input = Input::Text(text);
     build_input(
-        false, text, counts, lines, stmts, args, entries, falls, links, lists, returns, succ, pred,
+        input, counts, lines, stmts, args, entries, falls, links, lists, returns, succ, pred,
     )
 }

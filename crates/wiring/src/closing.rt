@@ -1,9 +1,10 @@
 // What later nodes add to a node's list: where the closer of its frame falls, and where the ELSEs of a DOIF fall.
-ghost use Rattle.std.specs.Prelude.{◌≡◌, length};
+ghost use Rattle.std.specs.Prelude.{◌≡◌, length, ◌<◌};
 ghost use Rattle.graph_laws.specs.Adding.{Added};
 ghost use Rattle.passes.specs.Closing.{FitsPart, fall_from, FallFitsFrom, ElsesFit, ElsesAdded, DoifFits, DoifAdded, closer_from, CloserFits, joins_word, ClosingReady, ClosingAdded};
 
-use layout::columns::{CLOSER, ELSE_LINK, FALL_ENTRIES, FRAME_ENTRIES, STMT_ENTRIES};
+use crate::leads::Leads;
+use layout::columns::{CLOSER, ELSE_LINK, FALL_ENTRIES, FRAME_ENTRIES};
 use layout::words::{DOIF, ELSE, EXIT, EXITIF};
 use storing::growing::add_edge;
 
@@ -66,23 +67,17 @@ fn joins_frame(word: u16) -> bool
 }
 
 // Adds what later nodes add to node i's list, which is the first n entries.
-pub(crate) fn add_closing(
-    stmts: &[u16],
-    falls: &[u16],
-    frames: &[u16],
-    i: usize,
-    part: &mut [u16],
-    n: usize,
-) -> usize
-    requires { FitsPart part.old n × ClosingReady stmts.now falls.now frames.now i (length part.old) }
-    ensures { ClosingAdded stmts.now falls.now frames.now i part.old n part.new result × FitsPart part.new result }
+pub(crate) fn add_closing(g: &Leads<'_, '_>, i: usize, part: &mut [u16], n: usize) -> usize
+    requires in_bounds { i < g.now.nodes.records.n }
+    requires ready { FitsPart part.old n × ClosingReady g.now.nodes.records.stmts.now g.now.nodes.falls.now g.now.frames.now i (length part.old) }
+    ensures { ClosingAdded g.now.nodes.records.stmts.now g.now.nodes.falls.now g.now.frames.now i part.old n part.new result × FitsPart part.new result }
 {
-    let word = stmts[i * STMT_ENTRIES];
+    let word = g.nodes.records.word(i);
     match word {
-        DOIF => add_doif(falls, frames, i, part, n),
+        DOIF => add_doif(g.nodes.falls, g.frames, i, part, n),
         _ if joins_frame(word) => {
-            let met = usize::from(frames[i * FRAME_ENTRIES]);
-            add_closer(falls, frames, met, part, n)
+            let met = usize::from(g.opener(i));
+            add_closer(g.nodes.falls, g.frames, met, part, n)
         }
         _ => n,
     }

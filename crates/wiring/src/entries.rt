@@ -7,6 +7,7 @@ ghost use Rattle.passes.specs.LineSearch.{LineFound, EntryFound};
 ghost use Rattle.wiring.specs.Places.{one_more};
 
 use layout::columns::{ENTRY_ENTRIES, ENTRY_NODE, ENTRY_NUMBER, LINE, STMT_ENTRIES};
+use tables::nodes::Records;
 
 // Stores x as the node of row l; a line index that no line has stores nothing.
 fn store(entries: &mut [u16], l: u16, x: u16)
@@ -19,12 +20,11 @@ fn store(entries: &mut [u16], l: u16, x: u16)
 }
 
 // Stores each statement at its line's entry, the last one first, so that a line's first statement stays.
-fn store_first_nodes(stmts: &[u16], entries: &mut [u16], n: usize)
-    requires { (n ≤ 4096) × (n * 12 ≤ length stmts.now) }
-    ensures { FirstStored stmts.now n entries.old entries.new }
+fn store_first_nodes(r: &Records<'_>, entries: &mut [u16])
+    ensures { FirstStored r.now.stmts.now r.now.n entries.old entries.new }
 {
-    for i in (0..n).rev() {
-        let l = stmts[i * STMT_ENTRIES + LINE];
+    for i in (0..r.n).rev() {
+        let l = r.stmts[i * STMT_ENTRIES + LINE];
         store(entries, l, (i + 1) as u16);
     }
 }
@@ -49,51 +49,53 @@ fn fill_empty_lines(lines: &[u16], entries: &mut [u16], count: usize)
     }
 }
 
-// The rows of `count` lines with n statements.
-pub(crate) fn compute_line_after(
-    lines: &[u16],
-    stmts: &[u16],
-    entries: &mut [u16],
-    count: usize,
-    n: usize,
-)
-    requires { (n ≤ 4096) × (n * 12 ≤ length stmts.now) × (count ≤ length lines.now) × (count * 2 ≤ length entries.old) }
-    ensures { EntriesComputed lines.now stmts.now count n entries.old entries.new }
+// The rows of `count` lines with these statements.
+pub(crate) fn compute_line_after(r: &Records<'_>, lines: &[u16], entries: &mut [u16], count: usize)
+    requires { (count ≤ length lines.now) × (count * 2 ≤ length entries.old) }
+    ensures { EntriesComputed lines.now r.now.stmts.now count r.now.n entries.old entries.new }
 {
-    store_first_nodes(stmts, entries, n);
+    store_first_nodes(r, entries);
     fill_empty_lines(lines, entries, count);
 }
 
-// The index of the row with that number among the first n. The numbers ascend; since a row has two entries, they are no slice for `binary_search`.
-fn find_line(entries: &[u16], n: usize, number: u16) -> Option<usize>
-    requires { n * 2 ≤ length entries.now }
-    ensures within { IfSome result (λ k. k < n) }
-    ensures found { LineFound (entry_column 0 n entries.now) number (one_more result) }
-{
-    let mut low: usize = 0;
-    let mut high = n;
-    while low < high {
-        let mid = low + (high - low) / 2;
-        let at = entries[mid * ENTRY_ENTRIES + ENTRY_NUMBER];
-        if at == number {
-            return Some(mid);
-        }
-        if at < number {
-            low = mid + 1;
-        } else {
-            high = mid;
-        }
-    }
-    None
+// The entries of `count` lines, once they are computed.
+#[derive(Clone, Copy)]
+pub(crate) struct Entries<'a> {
+    pub rows: &'a [u16],
+    pub count: usize,
+    pub ghost fit: { count * 2 ≤ length rows.now },
 }
 
-// The entry of the line with that number: one more than the node, or 0 if there is no such line or entry.
-pub(crate) fn entry_of(entries: &[u16], n: usize, number: u16) -> u16
-    requires { n * 2 ≤ length entries.now }
-    ensures { EntryFound entries.now n number result }
-{
-    match find_line(entries, n, number) {
-        Some(k) => entries[k * ENTRY_ENTRIES + ENTRY_NODE],
-        None => 0,
+impl<'a> Entries<'a> {
+    // The index of the row with that number. The numbers ascend. Kept: a `while`, since a row has two entries and the numbers are no slice for `binary_search`.
+    fn find_line(&self, number: u16) -> Option<usize>
+        ensures within { IfSome result (λ k. k < self.now.count) }
+        ensures found { LineFound (entry_column 0 self.now.count self.now.rows.now) number (one_more result) }
+    {
+        let mut low: usize = 0;
+        let mut high = self.count;
+        while low < high {
+            let mid = low + (high - low) / 2;
+            let at = self.rows[mid * ENTRY_ENTRIES + ENTRY_NUMBER];
+            if at == number {
+                return Some(mid);
+            }
+            if at < number {
+                low = mid + 1;
+            } else {
+                high = mid;
+            }
+        }
+        None
+    }
+
+    // The entry of the line with that number: one more than the node, or 0 if there is no such line or entry.
+    pub fn entry_of(&self, number: u16) -> u16
+        ensures { EntryFound self.now.rows.now self.now.count number result }
+    {
+        match self.find_line(number) {
+            Some(k) => self.rows[k * ENTRY_ENTRIES + ENTRY_NODE],
+            None => 0,
+        }
     }
 }

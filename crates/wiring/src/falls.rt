@@ -3,13 +3,16 @@ ghost use Rattle.std.specs.Prelude.{◌≡◌, true, false, [], ◌∷◌, ◌+�
 ghost use Rattle.std.proofs.lemmas.List.Edits.{sets};
 ghost use Rattle.passes.specs.Falls.{target_of, BranchLed, RowConnected, StmtConnected, BranchConnected, LinesConnected, AllLines};
 ghost use Rattle.passes.specs.Connecting.{Begins};
+ghost use Rattle.wiring.specs.Found.{all_found};
 
-use crate::entries::entry_of;
+use crate::entries::Entries;
 use layout::columns::{
     END, ENTRY_ENTRIES, ENTRY_NODE, FALL_ENTRIES, FIRST_BRANCH, FORM1, FORM2, LINE, NO_BRANCH,
     NUMBER1, NUMBER2, SECOND, SECOND_BRANCH, STMT_ENTRIES, TO_BRANCH,
 };
 use layout::limits::MAX_DEPTH;
+use layout::refusals::{Reason, Refusal};
+use tables::nodes::Records;
 
 // Statements nest to depth 16, and those of a line have depth 0.
 const DEPTHS: usize = MAX_DEPTH + 1;
@@ -30,20 +33,12 @@ fn out_of_order(depth: usize, first: usize, middle: usize, last: usize) -> bool
 }
 
 // Where a branch leads: to its line's entry, to its first statement, or, without one, to where its IF falls.
-fn branch_target(
-    entries: &[u16],
-    count: usize,
-    form: u16,
-    number: u16,
-    from: usize,
-    end: usize,
-    next: u16,
-) -> u16
-    requires { (count * 2 ≤ length entries.now) × (from < 65535) }
-    ensures { BranchLed entries.now count form number from end next result }
+fn branch_target(w: &Entries<'_>, form: u16, number: u16, from: usize, end: usize, next: u16) -> u16
+    requires { from < 65535 }
+    ensures { BranchLed w.now.rows.now w.now.count form number from end next result }
 {
     match form {
-        TO_BRANCH => entry_of(entries, count, number),
+        TO_BRANCH => w.entry_of(number),
         NO_BRANCH => next,
         _ => target_of(from, end, next),
     }
@@ -61,34 +56,30 @@ fn put_falls(falls: &mut [u16], i: usize, fall: u16, first: u16, second: u16)
 
 // The row of an IF whose second branch begins at m and that ends at `end`.
 fn connect_row(
-    entries: &[u16],
-    count: usize,
-    stmts: &[u16],
+    w: &Entries<'_>,
+    r: &Records<'_>,
     falls: &mut [u16],
     i: usize,
     m: usize,
     end: usize,
     next: u16,
 )
-    requires count_in_bounds { (count * 2 ≤ length entries.now) × (i < 4096) × (m ≤ 4096) }
-    requires i_in_bounds { (i * 12 + 12 ≤ length stmts.now) × (i * 3 + 3 ≤ length falls.old) }
-    ensures { RowConnected entries.now count stmts.now i m end next falls.old falls.new }
+    requires { (i < r.now.n) × (m ≤ 4096) × (i * 3 + 3 ≤ length falls.old) }
+    ensures { RowConnected w.now.rows.now w.now.count r.now.stmts.now i m end next falls.old falls.new }
 {
     let row = i * STMT_ENTRIES;
     let first = branch_target(
-        entries,
-        count,
-        stmts[row + FORM1],
-        stmts[row + NUMBER1],
+        w,
+        r.stmts[row + FORM1],
+        r.stmts[row + NUMBER1],
         i + 1,
         m,
         next,
     );
     let second = branch_target(
-        entries,
-        count,
-        stmts[row + FORM2],
-        stmts[row + NUMBER2],
+        w,
+        r.stmts[row + FORM2],
+        r.stmts[row + NUMBER2],
         m,
         end,
         next,
@@ -99,57 +90,53 @@ fn connect_row(
 // Statement i, which ends at `end`, and those in its branches fall to `next`; false if its record does not say where they are (27).
 #[cycle(connect_stmt_connect_then_branch)]
 pub(crate) fn connect_stmt(
-    entries: &[u16],
-    count: usize,
-    stmts: &[u16],
+    w: &Entries<'_>,
+    r: &Records<'_>,
     falls: &mut [u16],
     depth: usize,
     i: usize,
     end: usize,
     next: u16,
 ) -> bool
-    requires count_in_bounds { (count * 2 ≤ length entries.now) × (i < end) × (end ≤ 4096) }
-    requires end_in_bounds { (end * 12 ≤ length stmts.now) × (end * 3 ≤ length falls.old) }
-    ensures { StmtConnected entries.now count stmts.now depth i end next falls.old falls.new result }
+    requires { (i < end) × (end ≤ r.now.n) × (end * 3 ≤ length falls.old) }
+    ensures { StmtConnected w.now.rows.now w.now.count r.now.stmts.now depth i end next falls.old falls.new result }
 {
     let row = i * STMT_ENTRIES;
-    if stmts[row + FORM1] == NO_BRANCH {
+    if r.stmts[row + FORM1] == NO_BRANCH {
         put_falls(falls, i, next, 0, 0);
         return true;
     }
-    let m = usize::from(stmts[row + SECOND]);
+    let m = usize::from(r.stmts[row + SECOND]);
     if out_of_order(depth, i + 1, m, end) {
         return false;
     }
-    connect_row(entries, count, stmts, falls, i, m, end, next);
-    connect_then_branch(entries, count, stmts, falls, depth - 1, i + 1, m, next)
-        && connect_then_branch(entries, count, stmts, falls, depth - 1, m, end, next)
+    connect_row(w, r, falls, i, m, end, next);
+    connect_then_branch(w, r, falls, depth - 1, i + 1, m, next)
+        && connect_then_branch(w, r, falls, depth - 1, m, end, next)
 }
 
-// The statements from `from` up to `end`: each falls to the one after it, the last to `next`. A `while`, since each ends where its record says.
+// The statements from `from` up to `end`: each falls to the one after it, the last to `next`. Kept: a `while`, since each ends where its record says.
 #[cycle(connect_stmt_connect_then_branch)]
 pub(crate) fn connect_then_branch(
-    entries: &[u16],
-    count: usize,
-    stmts: &[u16],
+    w: &Entries<'_>,
+    r: &Records<'_>,
     falls: &mut [u16],
     depth: usize,
     from: usize,
     end: usize,
     next: u16,
 ) -> bool
-    requires count_in_bounds { (count * 2 ≤ length entries.now) × (from ≤ end) × (end ≤ 4096) }
-    requires end_in_bounds { (end * 12 ≤ length stmts.now) × (end * 3 ≤ length falls.old) }
-    ensures { BranchConnected entries.now count stmts.now depth from end next falls.old falls.new result }
+    requires { (from ≤ end) × (end ≤ r.now.n) × (end * 3 ≤ length falls.old) }
+    ensures { BranchConnected w.now.rows.now w.now.count r.now.stmts.now depth from end next falls.old falls.new result }
 {
     let mut i = from;
     while i < end {
-        let e = usize::from(stmts[i * STMT_ENTRIES + END]);
+        let e = usize::from(r.stmts[i * STMT_ENTRIES + END]);
         if out_of_order(1, i + 1, e, end) {
             return false;
         }
         let target = target_of(e, end, next);
-        if !connect_stmt(entries, count, stmts, falls, depth, i, e, target) {
+        if !connect_stmt(w, r, falls, depth, i, e, target) {
             return false;
         }
         i = e;
@@ -158,12 +145,12 @@ pub(crate) fn connect_then_branch(
 }
 
 // Where the statements of line l begin that end at `end`, by the records: its entry may be another line's statement.
-fn start_of(stmts: &[u16], l: usize, end: usize) -> usize
-    requires { end * 12 ≤ length stmts.now }
-    ensures { Begins stmts.now l end result }
+fn start_of(r: &Records<'_>, l: usize, end: usize) -> usize
+    requires { end ≤ r.now.n }
+    ensures { Begins r.now.stmts.now l end result }
 {
     for i in (0..end).rev() {
-        let line = usize::from(stmts[i * STMT_ENTRIES + LINE]);
+        let line = usize::from(r.stmts[i * STMT_ENTRIES + LINE]);
         if line != l {
             return i + 1;
         }
@@ -172,41 +159,35 @@ fn start_of(stmts: &[u16], l: usize, end: usize) -> usize
 }
 
 // Each line's statements fall to the next line's entry. From the last line up, where that entry is at hand.
-fn connect_top_level(
-    entries: &[u16],
-    count: usize,
-    stmts: &[u16],
-    falls: &mut [u16],
-    n: usize,
-) -> bool
-    requires count_in_bounds { (count * 2 ≤ length entries.now) × (n ≤ 4096) }
-    requires n_in_bounds { (n * 12 ≤ length stmts.now) × (n * 3 ≤ length falls.old) }
-    ensures { AllLines entries.now stmts.now count n falls.old falls.new result }
+fn connect_top_level(w: &Entries<'_>, r: &Records<'_>, falls: &mut [u16]) -> bool
+    requires { r.now.n * 3 ≤ length falls.old }
+    ensures { AllLines w.now.rows.now r.now.stmts.now w.now.count r.now.n falls.old falls.new result }
 {
     let mut next: u16 = 0;
-    let mut end = n;
-    for l in (0..count).rev() {
-        let from = start_of(stmts, l, end);
-        if !connect_then_branch(entries, count, stmts, falls, DEPTHS, from, end, next) {
+    let mut end = r.n;
+    for l in (0..w.count).rev() {
+        let from = start_of(r, l, end);
+        if !connect_then_branch(w, r, falls, DEPTHS, from, end, next) {
             return false;
         }
-        next = entries[l * ENTRY_ENTRIES + ENTRY_NODE];
+        next = w.rows[l * ENTRY_ENTRIES + ENTRY_NODE];
         end = from;
     }
     true
 }
 
-// Where the n statements of `count` lines fall, and where their branches lead; false if a record does not say where statements are (27).
+// Where the statements of all lines fall, and where their branches lead; refused 27 if a record does not say where statements are.
 pub(crate) fn connect_lines(
-    entries: &[u16],
-    count: usize,
-    stmts: &[u16],
+    w: &Entries<'_>,
+    r: &Records<'_>,
     falls: &mut [u16],
-    n: usize,
-) -> bool
-    requires count_in_bounds { (count * 2 ≤ length entries.now) × (n ≤ 4096) }
-    requires n_in_bounds { (n * 12 ≤ length stmts.now) × (n * 3 ≤ length falls.old) }
-    ensures { LinesConnected entries.now stmts.now count n falls.old falls.new result }
+) -> Result<(), Refusal>
+    requires { r.now.n * 3 ≤ length falls.old }
+    ensures { LinesConnected w.now.rows.now r.now.stmts.now w.now.count r.now.n falls.old falls.new (all_found result) }
 {
-    connect_top_level(entries, count, stmts, falls, n)
+    if connect_top_level(w, r, falls) {
+        Ok(())
+    } else {
+        Err(Reason::NotFound.at(0))
+    }
 }

@@ -9,9 +9,10 @@ ghost use Rattle.passes.specs.ForLinks.{ForsLinked};
 ghost use Rattle.passes.specs.Dispatched.{is_dispatched, DispatchedTo, DispatchedOne};
 
 use crate::stacks::FrameStack;
-use layout::columns::{ARG_ENTRIES, COUNT, DETAIL, DISPATCHED, FALL_ENTRIES, STMT_ENTRIES};
+use layout::columns::{ARG_ENTRIES, DETAIL, DISPATCHED, FALL_ENTRIES, STMT_ENTRIES};
 use layout::words::{FOR, NEXT};
 use layout::zeroing::{all_of, fill_behind};
+use tables::nodes::Records;
 use walks::sets::insert;
 
 // The keys of FORs are noted by their remainders: by a prime, so that names that are alike seldom share one.
@@ -139,61 +140,61 @@ fn moves_fors(word: u16) -> bool
 
 // What node i, a FOR or a NEXT, does to the FOR stack, and to its row of links.
 fn link_node(
-    stmts: &[u16],
+    r: &Records<'_>,
     args: &[u64],
     s: FrameStack,
     notes: &mut [u64; NOTES],
     i: usize,
     links: &mut [u16],
 ) -> FrameStack
-    requires i_bound { (i < 4096) × (i * 12 + 12 ≤ length stmts.now) × (i * 64 + 64 ≤ length args.now) × (i * 64 + 64 ≤ length links.old) }
-    requires i_value { moves_fors (get_or stmts.now (i * 12) 0) ≡ true }
-    requires slots_counted { SlotsCounted stmts.now i }
+    requires i_bound { (i < r.now.n) × (i * 64 + 64 ≤ length args.now) × (i * 64 + 64 ≤ length links.old) }
+    requires i_value { moves_fors (get_or r.now.stmts.now (i * 12) 0) ≡ true }
+    requires slots_counted { SlotsCounted r.now.stmts.now i }
     requires holds_below { HoldsBelow s.words i }
     requires keys_noted { KeysNoted args.now notes.old s.words }
     ensures keys_noted_2 { KeysNoted args.now notes.new result.words }
-    ensures node_linked { NodeLinked stmts.now args.now i s.words result.words links.old links.new }
+    ensures node_linked { NodeLinked r.now.stmts.now args.now i s.words result.words links.old links.new }
 {
-    if stmts[i * STMT_ENTRIES] == FOR {
+    if r.word(i) == FOR {
         return open_for(args, s, i, notes);
     }
     let at = i * ARG_ENTRIES;
-    let end = at + usize::from(stmts[i * STMT_ENTRIES + COUNT]);
+    let end = at + r.count(i);
     pop_slots(args, &args[at..end], s, notes, i, &mut links[at..end])
 }
 
 // In reading order, what each slot of each NEXT pops; the rows of other nodes stay.
-pub(crate) fn link_fors(stmts: &[u16], args: &[u64], n: usize, links: &mut [u16])
-    requires n_bound { (n ≤ 4096) × (n * 12 ≤ length stmts.now) × (n * 64 ≤ length args.now) × (n * 64 ≤ length links.old) }
-    requires all_counted { AllCounted stmts.now n }
-    ensures { ForsLinked stmts.now args.now n links.old links.new }
+pub(crate) fn link_fors(r: &Records<'_>, args: &[u64], links: &mut [u16])
+    requires n_bound { (r.now.n * 64 ≤ length args.now) × (r.now.n * 64 ≤ length links.old) }
+    requires all_counted { AllCounted r.now.stmts.now r.now.n }
+    ensures { ForsLinked r.now.stmts.now args.now r.now.n links.old links.new }
 {
     let mut s = FrameStack::new();
     let mut notes = all_of::<u64, NOTES>(0);
-    for i in 0..n {
-        if moves_fors(stmts[i * STMT_ENTRIES]) {
-            s = link_node(stmts, args, s, &mut notes, i, links);
+    for i in 0..r.n {
+        if moves_fors(r.word(i)) {
+            s = link_node(r, args, s, &mut notes, i, links);
         }
     }
 }
 
 // Whether node i is a dispatched FOR that has a body.
 #[tactic(auto, using(std::proofs::lemmas::Bool::Decides::nat_tests), unfolding(passes::specs::Dispatched::is_dispatched))]
-fn is_dispatched(stmts: &[u16], falls: &[u16], i: usize) -> bool
-    requires { (i * 12 + 12 ≤ length stmts.now) × (i * 3 < length falls.now) }
-    ensures { result ≡ is_dispatched stmts.now falls.now i }
+fn is_dispatched(r: &Records<'_>, falls: &[u16], i: usize) -> bool
+    requires { (i < r.now.n) × (i * 3 < length falls.now) }
+    ensures { result ≡ is_dispatched r.now.stmts.now falls.now i }
 {
-    stmts[i * STMT_ENTRIES] == FOR
-        && stmts[i * STMT_ENTRIES + DETAIL] == DISPATCHED
+    r.word(i) == FOR
+        && r.stmts[i * STMT_ENTRIES + DETAIL] == DISPATCHED
         && falls[i * FALL_ENTRIES] != 0
 }
 
 // Node i goes to the end of the list of d entries, if it is a dispatched FOR that has a body.
-fn list_one(stmts: &[u16], falls: &[u16], i: usize, dispatched: &mut [u16], d: usize) -> usize
-    requires { (i < 4096) × (i * 12 + 12 ≤ length stmts.now) × (i * 3 < length falls.now) × (d < length dispatched.old) }
-    ensures { DispatchedOne stmts.now falls.now i dispatched.old d dispatched.new result }
+fn list_one(r: &Records<'_>, falls: &[u16], i: usize, dispatched: &mut [u16], d: usize) -> usize
+    requires { (i < r.now.n) × (i * 3 < length falls.now) × (d < length dispatched.old) }
+    ensures { DispatchedOne r.now.stmts.now falls.now i dispatched.old d dispatched.new result }
 {
-    if is_dispatched(stmts, falls, i) {
+    if is_dispatched(r, falls, i) {
         dispatched[d] = i as u16;
         return d + 1;
     }
@@ -201,18 +202,13 @@ fn list_one(stmts: &[u16], falls: &[u16], i: usize, dispatched: &mut [u16], d: u
 }
 
 // The dispatched FORs that have a body, in reading order; answers how many.
-pub(crate) fn list_dispatched(
-    stmts: &[u16],
-    falls: &[u16],
-    n: usize,
-    dispatched: &mut [u16],
-) -> usize
-    requires { (n ≤ 4096) × (n * 12 ≤ length stmts.now) × (n * 3 ≤ length falls.now) × (n ≤ length dispatched.old) }
-    ensures { DispatchedTo stmts.now falls.now n dispatched.old dispatched.new result }
+pub(crate) fn list_dispatched(r: &Records<'_>, falls: &[u16], dispatched: &mut [u16]) -> usize
+    requires { (r.now.n * 3 ≤ length falls.now) × (r.now.n ≤ length dispatched.old) }
+    ensures { DispatchedTo r.now.stmts.now falls.now r.now.n dispatched.old dispatched.new result }
 {
     let mut d: usize = 0;
-    for i in 0..n {
-        d = list_one(stmts, falls, i, dispatched, d);
+    for i in 0..r.n {
+        d = list_one(r, falls, i, dispatched, d);
     }
     d
 }

@@ -5,9 +5,10 @@ ghost use Rattle.passes.specs.Frames.{Framed};
 ghost use Rattle.passes.specs.FramePass.{move_of, moves_stack, Stepped, AllZero, MetFrames, linked};
 
 use crate::stacks::FrameStack;
-use layout::columns::{CLOSER, ELSE_LINK, FRAME_ENTRIES, STMT_ENTRIES};
+use layout::columns::{CLOSER, ELSE_LINK, FRAME_ENTRIES};
 use layout::words::{ELSE, EXIT, EXITIF};
 use passes::moves::{FrameMove, do_move, loop_move, moves};
+use tables::nodes::Records;
 
 // Node i leaves the stack alone: if it joins a frame, it writes which.
 fn join_frame(s: &FrameStack, m: FrameMove, i: usize, frames: &mut [u16])
@@ -40,15 +41,15 @@ fn move_stack(s: FrameStack, m: FrameMove, i: usize, frames: &mut [u16]) -> Fram
 }
 
 // What each node meets, in reading order. A stack is 512 bytes, so it is handed over only to be changed.
-fn meet_frames(stmts: &[u16], n: usize, frames: &mut [u16])
-    requires n_bound { (n ≤ 4096) × (n * 12 ≤ length stmts.now) × (n * 3 ≤ length frames.old) }
+fn meet_frames(r: &Records<'_>, frames: &mut [u16])
+    requires n_bound { r.now.n * 3 ≤ length frames.old }
     requires all_zero { AllZero frames.old }
-    ensures { MetFrames stmts.now n frames.new }
+    ensures { MetFrames r.now.stmts.now r.now.n frames.new }
 {
     let mut loops = FrameStack::new();
     let mut dos = FrameStack::new();
-    for i in 0..n {
-        let word = stmts[i * STMT_ENTRIES];
+    for i in 0..r.n {
+        let word = r.word(i);
         let l = loop_move(word);
         if moves(l) {
             loops = move_stack(loops, l, i, frames);
@@ -85,22 +86,22 @@ fn link_node(word: u16, i: usize, frames: &mut [u16])
 }
 
 // From the last node to the first, so that what is written last is what comes first.
-fn link_frames(stmts: &[u16], n: usize, frames: &mut [u16])
-    requires n_bound { (n ≤ 4096) × (n * 12 ≤ length stmts.now) × (n * 3 ≤ length frames.old) }
-    requires met_frames { MetFrames stmts.now n frames.old }
-    ensures { Framed stmts.now n frames.new }
+fn link_frames(r: &Records<'_>, frames: &mut [u16])
+    requires n_bound { r.now.n * 3 ≤ length frames.old }
+    requires met_frames { MetFrames r.now.stmts.now r.now.n frames.old }
+    ensures { Framed r.now.stmts.now r.now.n frames.new }
 {
-    for i in (0..n).rev() {
-        link_node(stmts[i * STMT_ENTRIES], i, frames);
+    for i in (0..r.n).rev() {
+        link_node(r.word(i), i, frames);
     }
 }
 
-// The table of the frames of n statements.
-pub(crate) fn stack_frames(stmts: &[u16], n: usize, frames: &mut [u16])
-    requires n_bound { (n ≤ 4096) × (n * 12 ≤ length stmts.now) × (n * 3 ≤ length frames.old) }
+// The table of the frames of all statements.
+pub(crate) fn stack_frames(r: &Records<'_>, frames: &mut [u16])
+    requires n_bound { r.now.n * 3 ≤ length frames.old }
     requires all_zero { AllZero frames.old }
-    ensures { Framed stmts.now n frames.new }
+    ensures { Framed r.now.stmts.now r.now.n frames.new }
 {
-    meet_frames(stmts, n, frames);
-    link_frames(stmts, n, frames);
+    meet_frames(r, frames);
+    link_frames(r, frames);
 }

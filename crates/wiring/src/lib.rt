@@ -10,6 +10,7 @@ pub mod fill_rows;
 pub mod fors;
 pub mod frames;
 pub mod jumps;
+pub mod leads;
 pub mod list_of;
 pub mod nexts;
 pub mod prepare;

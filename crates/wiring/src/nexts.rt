@@ -7,7 +7,8 @@ ghost use Rattle.passes.specs.Growing.{Grows};
 ghost use Rattle.passes.specs.AddedAgain.{AllIn};
 ghost use Rattle.passes.specs.NextBodies.{body_at, link_body, selects_key, selected_body, slot_bodies, came_before, orphan_bodies, LinksRoom, PoppedRoom, SelectRoom, LinkRoom, ForRoom};
 
-use layout::columns::{ARG_ENTRIES, COUNT, DETAIL, FALL_ENTRIES, ORPHAN, STMT_ENTRIES};
+use crate::leads::Leads;
+use layout::columns::{ARG_ENTRIES, DETAIL, FALL_ENTRIES, ORPHAN, STMT_ENTRIES};
 use layout::words::NEXT;
 use storing::growing::add_edge;
 
@@ -137,26 +138,32 @@ fn add_slots(
     r
 }
 
-// Adds, if node i is an orphan NEXT, the bodies of the dispatched FORs that its slots select; there are d of these.
+// Adds, if node i is an orphan NEXT, the bodies of the dispatched FORs that its slots select.
 pub(crate) fn add_dispatched_back_edges(
-    stmts: &[u16],
+    g: &Leads<'_, '_>,
     args: &[u64],
-    falls: &[u16],
-    dispatched: &[u16],
-    d: usize,
     i: usize,
     part: &mut [u16],
     n: usize,
 ) -> usize
-    requires i_in_bounds { (i * 12 + 12 ≤ length stmts.now) × (i * 64 + 64 ≤ length args.now) × (d ≤ length dispatched.now) }
-    requires slots_counted { SlotsCounted stmts.now i }
-    requires select_room { SelectRoom args.now falls.now (take d dispatched.now) part.old n }
-    ensures { Grows part.old n part.new result (orphan_bodies stmts.now args.now falls.now (take d dispatched.now) i) }
+    requires i_in_bounds { (i < g.now.nodes.records.n) × (i * 64 + 64 ≤ length args.now) }
+    requires slots_counted { SlotsCounted g.now.nodes.records.stmts.now i }
+    requires select_room { SelectRoom args.now g.now.nodes.falls.now (take g.now.d g.now.dispatched.now) part.old n }
+    ensures { Grows part.old n part.new result (orphan_bodies g.now.nodes.records.stmts.now args.now g.now.nodes.falls.now (take g.now.d g.now.dispatched.now) i) }
 {
-    if stmts[i * STMT_ENTRIES] != NEXT || stmts[i * STMT_ENTRIES + DETAIL] != ORPHAN {
+    if g.nodes.records.word(i) != NEXT
+        || g.nodes.records.stmts[i * STMT_ENTRIES + DETAIL] != ORPHAN
+    {
         return n;
     }
     let at = i * ARG_ENTRIES;
-    let end = at + usize::from(stmts[i * STMT_ENTRIES + COUNT]);
-    add_slots(args, falls, &dispatched[..d], &args[at..end], part, n)
+    let end = at + g.nodes.records.count(i);
+    add_slots(
+        args,
+        g.nodes.falls,
+        &g.dispatched[..g.d],
+        &args[at..end],
+        part,
+        n,
+    )
 }

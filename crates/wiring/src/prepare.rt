@@ -1,12 +1,16 @@
 // The passes before the lists that write to lent tables: line entries, falls and links.
 ghost use Rattle.passes.specs.Preparing.{PrepareReady, PreparedTo};
+ghost use Rattle.wiring.specs.Found.{all_found};
 
-use crate::entries::compute_line_after;
+use crate::entries::{Entries, compute_line_after};
 use crate::falls::connect_lines;
 use crate::fors::link_fors;
 use crate::jumps::link_jumps;
+use layout::refusals::Refusal;
+use tables::nodes::Records;
 
-// Answers whether each inner statement was found (27 if not).
+// Refused 27 if an inner statement was not found; that each is found is proved.
+// Kept: tables that are written go one by one; of a struct of `&mut` a clause names what is left behind it by nested pairs.
 pub(crate) fn prepare(
     lines: &[u16],
     stmts: &[u16],
@@ -16,15 +20,18 @@ pub(crate) fn prepare(
     links: &mut [u16],
     count: usize,
     n: usize,
-) -> bool
+) -> Result<(), Refusal>
     requires { PrepareReady lines.now stmts.now args.now entries.old falls.old links.old count n }
-    ensures { PreparedTo lines.now stmts.now args.now entries.new falls.new links.new count n result }
+    ensures { PreparedTo lines.now stmts.now args.now entries.new falls.new links.new count n (all_found result) }
 {
-    compute_line_after(lines, stmts, entries, count, n);
-    if !connect_lines(entries, count, stmts, falls, n) {
-        return false;
-    }
-    link_jumps(entries, count, stmts, args, links, n);
-    link_fors(stmts, args, n, links);
-    true
+    let r = Records { stmts, n };
+    compute_line_after(&r, lines, entries, count);
+    let w = Entries {
+        rows: entries,
+        count,
+    };
+    connect_lines(&w, &r, falls)?;
+    link_jumps(&w, &r, args, links);
+    link_fors(&r, args, links);
+    Ok(())
 }

@@ -2,16 +2,17 @@
 ghost use Rattle.std.specs.Prelude.{◌≡◌, ◌*◌, ◌≤◌, length};
 ghost use Rattle.program_files.specs.Inputs.{meaning};
 ghost use Rattle.passes.specs.Reading.{FittingRead};
+ghost use Rattle.reader.specs.Inputs.{is_program, bytes_of};
 
 use layout::columns::{ARG_ENTRIES, STMT_ENTRIES};
 use layout::refusals::Refusal;
 use layout::zeroing::fill_behind;
-use reader::listing::{Accepted, read_input};
+use reader::listing::{Accepted, Input, read_input};
 
 // What stands behind the front parts becomes zero.
+// Kept: tables that are written go one by one; of a struct of `&mut` a clause names what is left behind it by nested pairs.
 pub(crate) fn read_fitting(
-    program: bool,
-    input: &[u8],
+    input: Input<'_>,
     counts: &mut [u32; 6],
     lines: &mut [u16],
     stmts: &mut [u16],
@@ -20,7 +21,7 @@ pub(crate) fn read_fitting(
     stmt_room: usize,
 ) -> Result<Accepted, Refusal>
     requires { (line_room ≤ length lines.old) × (stmt_room * 12 ≤ length stmts.old) × (stmt_room * 64 ≤ length args.old) }
-    ensures { FittingRead (meaning program input.now) line_room stmt_room (length lines.old) (length stmts.old) (length args.old) counts.new lines.new stmts.new args.new result }
+    ensures { FittingRead (meaning (is_program input.entry) (bytes_of input.entry)) line_room stmt_room (length lines.old) (length stmts.old) (length args.old) counts.new lines.new stmts.new args.new result }
 {
     let stmt_end = stmt_room * STMT_ENTRIES;
     let arg_end = stmt_room * ARG_ENTRIES;
@@ -28,7 +29,6 @@ pub(crate) fn read_fitting(
     fill_behind(stmts, stmt_end, 0);
     fill_behind(args, arg_end, 0);
     read_input(
-        program,
         input,
         counts,
         &mut lines[..line_room],

@@ -3,18 +3,18 @@ ghost use Rattle.std.specs.Prelude.{◌≡◌, ◌+◌, ◌*◌, ◌≤◌, ◌<
 ghost use Rattle.graph_laws.specs.Adding.{decode};
 ghost use Rattle.passes.specs.ReturnTargets.{continuation_number, FallsFit, Marking, TargetsAdded, TargetsListed};
 
-use layout::columns::{FALL_ENTRIES, STMT_ENTRIES};
+use crate::leads::Leads;
 use layout::limits::MAX_STMTS;
 use tables::calls::is_call;
 use walks::walk::no_marks;
 
 // Where node i continues if it is a call: one more than the node, or 0.
-fn continuation(stmts: &[u16], falls: &[u16], i: usize) -> u16
-    requires { (i < 4096) × (i * 12 + 12 ≤ length stmts.now) × (i * 3 + 3 ≤ length falls.now) }
-    ensures { result ≡ continuation_number stmts.now falls.now i }
+fn continuation(g: &Leads<'_, '_>, i: usize) -> u16
+    requires { i < g.now.nodes.records.n }
+    ensures { result ≡ continuation_number g.now.nodes.records.stmts.now g.now.nodes.falls.now i }
 {
-    if is_call(stmts[i * STMT_ENTRIES]) {
-        return falls[i * FALL_ENTRIES];
+    if is_call(g.nodes.records.word(i)) {
+        return g.nodes.fall(i);
     }
     0
 }
@@ -37,37 +37,26 @@ fn put_target(t: u16, marks: &mut [bool; MAX_STMTS], returns: &mut [u16], k: usi
 }
 
 // From no marks and no target. A call adds at most one, so there is room for each.
-fn put_targets(
-    stmts: &[u16],
-    falls: &[u16],
-    n: usize,
-    marks: &mut [bool; MAX_STMTS],
-    returns: &mut [u16],
-) -> usize
-    requires n_bound { (n ≤ 4096) × (n * 12 ≤ length stmts.now) × (n * 3 ≤ length falls.now) × (n ≤ length returns.old) }
-    requires falls_fit { FallsFit falls.now n }
+fn put_targets(g: &Leads<'_, '_>, marks: &mut [bool; MAX_STMTS], returns: &mut [u16]) -> usize
+    requires n_bound { g.now.nodes.records.n ≤ length returns.old }
+    requires falls_fit { FallsFit g.now.nodes.falls.now g.now.nodes.records.n }
     requires marking { Marking 4096 marks.old returns.old 0 }
-    ensures { TargetsListed stmts.now falls.now n returns.old returns.new result }
+    ensures { TargetsListed g.now.nodes.records.stmts.now g.now.nodes.falls.now g.now.nodes.records.n returns.old returns.new result }
 {
     let mut k: usize = 0;
-    for i in 0..n {
-        let t = continuation(stmts, falls, i);
+    for i in 0..g.nodes.records.n {
+        let t = continuation(g, i);
         k = put_target(t, marks, returns, k);
     }
     k
 }
 
-// Writes the return targets of n nodes and answers how many; the rest of the table stays.
-pub(crate) fn list_return_targets(
-    stmts: &[u16],
-    falls: &[u16],
-    n: usize,
-    returns: &mut [u16],
-) -> usize
-    requires n_bound { (n ≤ 4096) × (n * 12 ≤ length stmts.now) × (n * 3 ≤ length falls.now) × (n ≤ length returns.old) }
-    requires falls_fit { FallsFit falls.now n }
-    ensures { TargetsListed stmts.now falls.now n returns.old returns.new result }
+// Writes the return targets of all nodes and answers how many; the rest of the table stays.
+pub(crate) fn list_return_targets(g: &Leads<'_, '_>, returns: &mut [u16]) -> usize
+    requires n_bound { g.now.nodes.records.n ≤ length returns.old }
+    requires falls_fit { FallsFit g.now.nodes.falls.now g.now.nodes.records.n }
+    ensures { TargetsListed g.now.nodes.records.stmts.now g.now.nodes.falls.now g.now.nodes.records.n returns.old returns.new result }
 {
     let mut marks = no_marks();
-    put_targets(stmts, falls, n, &mut marks, returns)
+    put_targets(g, &mut marks, returns)
 }

@@ -2,10 +2,11 @@
 ghost use Rattle.std.specs.Prelude.{◌*◌, ◌≤◌, ◌<◌, length, take};
 ghost use Rattle.tables.specs.Columns.{fall_entry};
 ghost use Rattle.passes.specs.NodeList.{ListIs};
-ghost use Rattle.passes.specs.SkipLists.{skip_list, SkipReady, SkipDone, SkipsReady, SkipsDone};
+ghost use Rattle.passes.specs.SkipLists.{skip_list};
+ghost use Rattle.wiring.specs.FromLeads.{StoreDoneFrom, StoreReadyFrom, StoresDoneFrom, StoresReadyFrom};
 
+use crate::leads::Leads;
 use crate::list_of::list_of;
-use layout::columns::{FALL_ENTRIES, STMT_ENTRIES};
 use layout::limits::MAX_EDGES;
 use storing::store::append_list;
 use tables::calls::is_call;
@@ -18,11 +19,11 @@ struct Edges {
 }
 
 // Where node i falls goes to the front of the part.
-pub(crate) fn put_fall(falls: &[u16], i: usize, part: &mut [u16]) -> usize
-    requires { (i < 4096) × (i * 3 < length falls.now) × (0 < length part.old) }
-    ensures { ListIs (fall_entry falls.now i) part.old part.new result }
+pub(crate) fn put_fall(g: &Leads<'_, '_>, i: usize, part: &mut [u16]) -> usize
+    requires { (i < g.now.nodes.records.n) × (0 < length part.old) }
+    ensures { ListIs (fall_entry g.now.nodes.falls.now i) part.old part.new result }
 {
-    let Some(node) = falls[i * FALL_ENTRIES].checked_sub(1) else {
+    let Some(node) = g.nodes.fall(i).checked_sub(1) else {
         return 0;
     };
     part[0] = node;
@@ -30,44 +31,36 @@ pub(crate) fn put_fall(falls: &[u16], i: usize, part: &mut [u16]) -> usize
 }
 
 // From node i's list, the first count entries of the buffer, to what skipping paths follow: from a call only where it falls.
-fn skip_list(stmts: &[u16], falls: &[u16], i: usize, buffer: &mut [u16], count: usize) -> usize
-    requires { (i < 4096) × (i * 12 < length stmts.now) × (i * 3 < length falls.now) × (count ≤ length buffer.old) × (0 < length buffer.old) }
-    ensures { ListIs (skip_list stmts.now falls.now i (take count buffer.old)) buffer.old buffer.new result }
+fn skip_list(g: &Leads<'_, '_>, i: usize, buffer: &mut [u16], count: usize) -> usize
+    requires { (i < g.now.nodes.records.n) × (count ≤ length buffer.old) × (0 < length buffer.old) }
+    ensures { ListIs (skip_list g.now.nodes.records.stmts.now g.now.nodes.falls.now i (take count buffer.old)) buffer.old buffer.new result }
 {
-    if is_call(stmts[i * STMT_ENTRIES]) {
-        return put_fall(falls, i, buffer);
+    if is_call(g.nodes.records.word(i)) {
+        return put_fall(g, i, buffer);
     }
     count
 }
 
 // Node i: its edges are counted, and while all are few, what skipping paths follow from it goes behind the lists stored before.
 fn store_skip_list(
-    stmts: &[u16],
+    g: &Leads<'_, '_>,
     args: &[u64],
-    entries: &[u16],
-    falls: &[u16],
-    links: &[u16],
-    frames: &[u16],
-    dispatched: &[u16],
-    lines: usize,
-    d: usize,
     i: usize,
     e: Edges,
     lists: &mut [u16],
     scratch: &mut [u16],
     buffer: &mut [u16],
 ) -> Edges
-    requires { SkipReady stmts.now args.now entries.now falls.now links.now frames.now dispatched.now lines d i e.total e.at lists.old scratch.old buffer.old }
-    ensures { SkipDone stmts.now args.now entries.now falls.now links.now frames.now dispatched.now lines d i e.total e.at lists.old lists.new scratch.old scratch.new result.total result.at }
+    requires in_bounds { i < g.now.nodes.records.n }
+    requires ready { StoreReadyFrom g.now args.now i e.total e.at lists.old scratch.old buffer.old }
+    ensures { StoreDoneFrom g.now args.now i e.total e.at lists.old lists.new scratch.old scratch.new result.total result.at }
 {
-    let count = list_of(
-        stmts, args, entries, falls, links, frames, dispatched, lines, d, i, buffer,
-    );
+    let count = list_of(g, args, i, buffer);
     let total = e.total + count;
     if MAX_EDGES < total {
         return Edges { total, at: e.at };
     }
-    let kept = skip_list(stmts, falls, i, buffer, count);
+    let kept = skip_list(g, i, buffer, count);
     let at = append_list(lists, scratch, i, e.at, &buffer[..kept]);
     Edges { total, at }
 }
@@ -75,29 +68,18 @@ fn store_skip_list(
 // The lists that skipping paths follow go into a scratch table, as long as all lists together are few; answers how many edges all
 // nodes that are no RETURNs have.
 pub(crate) fn store_skip_lists(
-    stmts: &[u16],
+    g: &Leads<'_, '_>,
     args: &[u64],
-    entries: &[u16],
-    falls: &[u16],
-    links: &[u16],
-    frames: &[u16],
-    dispatched: &[u16],
-    lines: usize,
-    n: usize,
-    d: usize,
     lists: &mut [u16],
     scratch: &mut [u16],
     buffer: &mut [u16],
 ) -> usize
-    requires { SkipsReady stmts.now args.now entries.now falls.now links.now frames.now dispatched.now lines n d lists.old scratch.old buffer.old }
-    ensures { SkipsDone stmts.now args.now entries.now falls.now links.now frames.now dispatched.now lines n d lists.old lists.new scratch.old scratch.new result }
+    requires { StoresReadyFrom g.now args.now lists.old scratch.old buffer.old }
+    ensures { StoresDoneFrom g.now args.now lists.old lists.new scratch.old scratch.new result }
 {
     let mut e = Edges { total: 0, at: 0 };
-    for i in 0..n {
-        e = store_skip_list(
-            stmts, args, entries, falls, links, frames, dispatched, lines, d, i, e, lists, scratch,
-            buffer,
-        );
+    for i in 0..g.nodes.records.n {
+        e = store_skip_list(g, args, i, e, lists, scratch, buffer);
     }
     e.total
 }

@@ -1,12 +1,13 @@
 // Frames and dispatched FORs; then the lists of the nodes: counted, and written where they fit.
-ghost use Rattle.std.specs.Prelude.{◌≡◌, true, length};
-ghost use Rattle.wiring.specs.CountGraph.{ReturnsReady, ReturnsFound, CountReady, CountedTo};
-ghost use Rattle.passes.specs.Preparing.{FramesMade};
+ghost use Rattle.std.specs.Prelude.{length};
 ghost use Rattle.wiring.specs.Wiring.{WireReady, WiredTo};
+ghost use Rattle.wiring.specs.FromLeads.{CountReadyFrom, CountedFrom, FramesIn, ReturnsFoundFrom, ReturnsReadyFrom};
 
 use crate::by_rows::return_edges_by_filled_rows;
+use crate::entries::Entries;
 use crate::fors::list_dispatched;
 use crate::frames::stack_frames;
+use crate::leads::Leads;
 use crate::return_targets::list_return_targets;
 use crate::skip_lists::store_skip_lists;
 use layout::columns::FRAME_ENTRIES;
@@ -15,6 +16,7 @@ use layout::refusals::{Reason, Refusal};
 use layout::zeroing::all_of;
 use storing::edge_count::edges_fit;
 use storing::write_graph::write_graph;
+use tables::nodes::{Nodes, Records};
 use walks::regions::region_return_edges;
 use walks::return_totals::count_returns;
 
@@ -33,172 +35,144 @@ const FRAMES: usize = MAX_STMTS * FRAME_ENTRIES;
 
 // Without handlers, the set of each RETURN goes into its row of arguments: by walks over the stored lists, or where these are too long, by
 // rows of bits. All other nodes have `own` edges.
+// Kept: `handlers` says what the listing has, a word of the paper and of every definition here; an enum would be taken apart at each clause.
 fn find_returns(
+    g: &Leads<'_, '_>,
     handlers: bool,
     own: usize,
-    stmts: &[u16],
     args: &mut [u64],
-    entries: &[u16],
-    falls: &[u16],
-    links: &[u16],
-    frames: &[u16],
-    dispatched: &[u16],
-    lines: usize,
-    n: usize,
-    d: usize,
     lists: &[u16],
     scratch: &[u16],
     buffer: &mut [u16],
 )
-    requires { ReturnsReady own stmts.now args.old entries.now falls.now links.now frames.now dispatched.now lines n d lists.now scratch.now (length buffer.old) }
-    ensures { ReturnsFound handlers own stmts.now args.old entries.now falls.now links.now frames.now dispatched.now lines n d lists.now scratch.now args.new }
+    requires { ReturnsReadyFrom g.now own args.old lists.now scratch.now (length buffer.old) }
+    ensures { ReturnsFoundFrom g.now handlers own args.old lists.now scratch.now args.new }
 {
     if handlers {
         return;
     }
     if MAX_EDGES < own {
-        return_edges_by_filled_rows(
-            stmts, args, entries, falls, links, frames, dispatched, lines, n, d, buffer,
-        );
+        return_edges_by_filled_rows(g, args, buffer);
         return;
     }
-    region_return_edges(stmts, falls, links, lists, scratch, n, args);
+    region_return_edges(
+        g.nodes.records.stmts,
+        g.nodes.falls,
+        g.nodes.links,
+        lists,
+        scratch,
+        g.nodes.records.n,
+        args,
+    );
 }
 
-// The edges of the n nodes, RETURNs too, and the return targets.
+// The edges of all nodes, RETURNs too, and the return targets.
+// Kept: `handlers`, as above.
 fn count_graph(
+    g: &Leads<'_, '_>,
     handlers: bool,
-    stmts: &[u16],
     args: &mut [u64],
-    entries: &[u16],
-    falls: &[u16],
-    links: &[u16],
-    frames: &[u16],
-    dispatched: &[u16],
-    lines: usize,
-    n: usize,
-    d: usize,
     lists: &mut [u16],
     scratch: &mut [u16],
     returns: &mut [u16],
     buffer: &mut [u16],
 ) -> Counted
-    requires { CountReady handlers stmts.now args.old entries.now falls.now links.now frames.now dispatched.now lines n d lists.old scratch.old returns.old (length buffer.old) }
-    ensures { CountedTo handlers stmts.now args.old entries.now falls.now links.now frames.now dispatched.now lines n d args.new lists.new scratch.new returns.new result.edges result.targets }
+    requires { CountReadyFrom g.now handlers args.old lists.old scratch.old returns.old (length buffer.old) }
+    ensures { CountedFrom g.now handlers args.old args.new lists.new scratch.new returns.new result.edges result.targets }
 {
-    let own = store_skip_lists(
-        stmts, args, entries, falls, links, frames, dispatched, lines, n, d, lists, scratch, buffer,
+    let own = store_skip_lists(g, args, lists, scratch, buffer);
+    let targets = list_return_targets(g, returns);
+    find_returns(g, handlers, own, args, lists, scratch, buffer);
+    let back = count_returns(
+        handlers,
+        g.nodes.records.stmts,
+        args,
+        g.nodes.records.n,
+        targets,
     );
-    let targets = list_return_targets(stmts, falls, n, returns);
-    find_returns(
-        handlers, own, stmts, args, entries, falls, links, frames, dispatched, lines, n, d, lists,
-        scratch, buffer,
-    );
-    let back = count_returns(handlers, stmts, args, n, targets);
     Counted {
         edges: own + back,
         targets,
     }
 }
 
-// The lists of the n nodes; d of these are dispatched FORs that have a body. The tables are a listing's and the edges are counted before, so writing is
-// never refused.
+// The lists of all nodes. The tables are a listing's and the edges are counted before, so writing is never refused.
+// Kept: tables that are written go one by one; of a struct of `&mut` a clause names what is left behind it by nested pairs.
 fn wire_lists(
+    g: &Leads<'_, '_>,
     handlers: bool,
-    count: usize,
-    n: usize,
-    d: usize,
     counts: &mut [u32; 6],
-    stmts: &[u16],
     args: &mut [u64],
-    entries: &[u16],
-    falls: &[u16],
-    links: &[u16],
-    frames: &[u16],
-    dispatched: &[u16],
     lists: &mut [u16],
     returns: &mut [u16],
     succ: &mut [u16],
     pred: &mut [u16],
 ) -> Result<(), Refusal>
-    requires wire_ready { WireReady handlers count n counts.old stmts.now args.old entries.now falls.now links.now lists.old returns.old succ.old pred.old }
-    requires frames_made { FramesMade stmts.now falls.now frames.now dispatched.now n d }
-    ensures { WiredTo handlers count n stmts.now args.old entries.now falls.now links.now counts.old succ.old pred.old counts.new args.new lists.new returns.new succ.new pred.new result }
+    requires wire_ready { WireReady handlers g.now.entries.count g.now.nodes.records.n counts.old g.now.nodes.records.stmts.now args.old g.now.entries.rows.now g.now.nodes.falls.now g.now.nodes.links.now lists.old returns.old succ.old pred.old }
+    requires frames_made { FramesIn g.now }
+    ensures { WiredTo handlers g.now.entries.count g.now.nodes.records.n g.now.nodes.records.stmts.now args.old g.now.entries.rows.now g.now.nodes.falls.now g.now.nodes.links.now counts.old succ.old pred.old counts.new args.new lists.new returns.new succ.new pred.new result }
 {
     let mut scratch = all_of::<u16, SCRATCH>(0);
     // room for one list
     let mut buffer = all_of::<u16, MAX_STMTS>(0);
-    let c = count_graph(
-        handlers,
-        stmts,
-        args,
-        entries,
-        falls,
-        links,
-        frames,
-        dispatched,
-        count,
-        n,
-        d,
-        lists,
-        &mut scratch,
-        returns,
-        &mut buffer,
-    );
+    let c = count_graph(g, handlers, args, lists, &mut scratch, returns, &mut buffer);
     if edges_fit(c.edges, succ.len(), pred.len()) {
         let _ = write_graph(
-            handlers, stmts, args, falls, links, n, count, counts, lists, &scratch, returns,
-            c.targets, succ, pred,
+            handlers,
+            g.nodes.records.stmts,
+            args,
+            g.nodes.falls,
+            g.nodes.links,
+            g.nodes.records.n,
+            g.entries.count,
+            counts,
+            lists,
+            &scratch,
+            returns,
+            c.targets,
+            succ,
+            pred,
         );
         return Ok(());
     }
     Err(Reason::EdgeTables.at(c.edges))
 }
 
-// The lists of the n nodes. Their frames and dispatched FORs are in arrays of its own, since nothing else reads them. `found`: whether each inner
-// statement was.
-pub(crate) fn wire_graph(
+// The lists of all nodes. Their frames and dispatched FORs are in arrays of its own, since nothing else reads them.
+// Kept: tables that are written go one by one; of a struct of `&mut` a clause names what is left behind it by nested pairs.
+pub(crate) fn wire_graph<'a>(
+    r: &Records<'a>,
+    w: &Entries<'a>,
+    falls: &'a [u16],
+    links: &'a [u16],
     handlers: bool,
-    count: usize,
-    n: usize,
-    found: bool,
     counts: &mut [u32; 6],
-    stmts: &[u16],
     args: &mut [u64],
-    entries: &[u16],
-    falls: &[u16],
-    links: &[u16],
     lists: &mut [u16],
     returns: &mut [u16],
     succ: &mut [u16],
     pred: &mut [u16],
 ) -> Result<(), Refusal>
-    requires { (found ≡ true) × WireReady handlers count n counts.old stmts.now args.old entries.now falls.now links.now lists.old returns.old succ.old pred.old }
-    ensures { WiredTo handlers count n stmts.now args.old entries.now falls.now links.now counts.old succ.old pred.old counts.new args.new lists.new returns.new succ.new pred.new result }
+    requires { WireReady handlers w.now.count r.now.n counts.old r.now.stmts.now args.old w.now.rows.now falls.now links.now lists.old returns.old succ.old pred.old }
+    ensures { WiredTo handlers w.now.count r.now.n r.now.stmts.now args.old w.now.rows.now falls.now links.now counts.old succ.old pred.old counts.new args.new lists.new returns.new succ.new pred.new result }
 {
-    if !found {
-        return Err(Reason::NotFound.at(0));
-    }
     let mut frames = all_of::<u16, FRAMES>(0);
     let mut dispatched = all_of::<u16, MAX_STMTS>(0);
-    stack_frames(stmts, n, &mut frames);
-    let d = list_dispatched(stmts, falls, n, &mut dispatched);
-    wire_lists(
-        handlers,
-        count,
-        n,
-        d,
-        counts,
-        stmts,
-        args,
-        entries,
+    stack_frames(r, &mut frames);
+    let d = list_dispatched(r, falls, &mut dispatched);
+    let records = *r;
+    let nodes = Nodes {
+        records,
         falls,
         links,
-        &frames,
-        &dispatched,
-        lists,
-        returns,
-        succ,
-        pred,
-    )
+    };
+    let entries = *w;
+    let leads = Leads {
+        nodes,
+        entries,
+        frames: &frames,
+        dispatched: &dispatched,
+        d,
+    };
+    wire_lists(&leads, handlers, counts, args, lists, returns, succ, pred)
 }

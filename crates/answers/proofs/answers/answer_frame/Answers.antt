@@ -11,10 +11,10 @@ pub returns-in-Err : goal.returns-in-Err
 returns-in-Err c =
     let a = c.args in
     let g = subst (FrameRead a.s.now) c.in-Err.is c.frame_words.ensures in
-    refused_on _ a.k _ c.at.ensures (refused_by (answer_at a.counts.now a.stmts.now a.args.now [] a.falls.now a.lists.now a.succ.now []) a.k (frame_question (split 32 a.s.now)) _ g) c.put_refusal.ensures
+    refused_on _ a.k _ c.at.ensures (refused_by (answer_at a.g.now.counts.now a.g.now.stmts.now a.g.now.args.now [] a.g.now.falls.now a.g.now.lists.now a.g.now.succ.now []) a.k (frame_question (split 32 a.s.now)) _ g) c.put_refusal.ensures
 
 pub returns-in-Ok : goal.returns-in-Ok
 returns-in-Ok c =
     let a = c.args in
     let g = subst (FrameRead a.s.now) c.in-Ok.is c.frame_words.ensures in
-    frame_answered a.counts.now a.stmts.now a.args.now a.falls.now a.lists.now a.succ.now a.k a.s.now c.in-Ok.w _ _ g c.from.ensures c.from-in-Ok.ensures c.put_frame.ensures
+    frame_answered a.g.now.counts.now a.g.now.stmts.now a.g.now.args.now a.g.now.falls.now a.g.now.lists.now a.g.now.succ.now a.k a.s.now c.in-Ok.w _ _ g c.from.ensures c.from-in-Ok.ensures c.put_frame.ensures

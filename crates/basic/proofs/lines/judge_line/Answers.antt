@@ -8,7 +8,7 @@ pub returns-in-Some-clause-told : goal.returns-in-Some-clause-told
 unfolding cover_of
 returns-in-Some-clause-told c ls a k =
     let f = c.args.file.now in
-    let told = stmts_told f c.args.at c.judge_body-body.result c.judge_body-body.ensures.told in
+    let told = stmts_told f c.args.at c.judge_body-body.result (rw c.uncovered.ensures at c.judge_body-body.ensures.told) in
     told_offends f c.args.at c.word_at-n.result c.requires.inside c.requires.linked c.word_at-n.ensures c.judge_body-body.result told c.offence_at.result c.offence_at.ensures
     c.in-Some.offence c.in-Some.is ls k
 
@@ -16,7 +16,7 @@ pub returns-in_err-body-clause-told : goal.returns-in_err-body-clause-told
 unfolding cover_of
 returns-in_err-body-clause-told c =
     let f = c.args.file.now in
-    let told = stmts_told f c.args.at c.judge_body-body.result c.judge_body-body.ensures.told in
+    let told = stmts_told f c.args.at c.judge_body-body.result (rw c.uncovered.ensures at c.judge_body-body.ensures.told) in
     absurd
     (told_good f c.args.at c.word_at-n.result c.requires.inside c.requires.linked c.word_at-n.ensures c.judge_body-body.result told c.offence_at.result c.offence_at.ensures
     c.in_default.is _ c.in_err-body.was)
@@ -25,7 +25,7 @@ pub returns-clause-told : goal.returns-clause-told
 unfolding cover_of
 returns-clause-told c =
     let f = c.args.file.now in
-    let told = stmts_told f c.args.at c.judge_body-body.result c.judge_body-body.ensures.told in
+    let told = stmts_told f c.args.at c.judge_body-body.result (rw c.uncovered.ensures at c.judge_body-body.ensures.told) in
     told_with f c.args.at c.word_at-n.result c.requires.inside c.requires.linked c.word_at-n.ensures c.judge_body-body.result told c.offence_at.result c.offence_at.ensures
     c.in_default.is c.with_line.result c.args.s (λ st h. c.with_line.ensures.told st (sym c.in_ok-body.was ∙ h))
     (kept_at f c.args.at c.find-zero.result c.with_line.result c.find-zero.ensures.0 c.with_line.ensures.kept)

@@ -20,34 +20,34 @@ told : (st : Stmts) (b : Body) → Ok b ≡ summary (definition.body st) → Tol
 unfolding summary
 told st b f = record { stmts = cc; deep = cc; long = cc }
 
-pub returns-then-n-s-clause-told : goal.returns-then-n-s-clause-told
-returns-then-n-s-clause-told c st e = rw c.at.ensures (told_4 c.args.s c.args.n st c.if-n-s.true)
+pub returns-then-not-ascends-clause-told : goal.returns-then-not-ascends-clause-told
+returns-then-not-ascends-clause-told c st e = rw c.at.ensures (told_4 c.args.s c.args.n st (sym c.ascends.ensures ∙ c.if-not-ascends.true))
 
 pub returns-then-s-ge-MAX_LINES-clause-told : goal.returns-then-s-ge-MAX_LINES-clause-told
-returns-then-s-ge-MAX_LINES-clause-told c st e = rw c.at-then-s-ge-MAX_LINES.ensures (told_5 c.args.s c.args.n st (omega arith) (omega arith))
+returns-then-s-ge-MAX_LINES-clause-told c st e = rw c.at-then-s-ge-MAX_LINES.ensures (told_5 c.args.s c.args.n st (sym c.ascends.ensures ∙ c.if-not-ascends.false) (omega arith))
 
 pub returns-then-s-body-gt-MAX_STMTS-clause-told : goal.returns-then-s-body-gt-MAX_STMTS-clause-told
 returns-then-s-body-gt-MAX_STMTS-clause-told c st e =
     let t = told st c.args.body e in
     let z = t.stmts in
-    rw c.at-then-s-body-gt-MAX_STMTS.ensures (told_6 c.args.s c.args.n st (omega arith) (omega arith) (omega arith))
+    rw c.at-then-s-body-gt-MAX_STMTS.ensures (told_6 c.args.s c.args.n st (sym c.ascends.ensures ∙ c.if-not-ascends.false) (omega arith) (omega arith))
 
 pub returns-then-body-clause-told : goal.returns-then-body-clause-told
 returns-then-body-clause-told c st e =
     let t = told st c.args.body e in
     let z = t.stmts in
-    rw c.at-then-body.ensures (told_7 c.args.s c.args.n st (omega arith) (omega arith) (omega arith) (not-true _ (sym t.deep ∙ c.if-body.true)))
+    rw c.at-then-body.ensures (told_7 c.args.s c.args.n st (sym c.ascends.ensures ∙ c.if-not-ascends.false) (omega arith) (omega arith) (not-true _ (sym t.deep ∙ c.if-body.true)))
 
 pub returns-then-body-2-clause-told : goal.returns-then-body-2-clause-told
 returns-then-body-2-clause-told c st e =
     let t = told st c.args.body e in
     let z = t.stmts in
     rw c.at-then-body-2.ensures
-    (told_8 c.args.s c.args.n st (omega arith) (omega arith) (omega arith) (not-false _ (sym t.deep ∙ c.if-body.false)) (not-true _ (sym t.long ∙ c.if-body-2.true)))
+    (told_8 c.args.s c.args.n st (sym c.ascends.ensures ∙ c.if-not-ascends.false) (omega arith) (omega arith) (not-false _ (sym t.deep ∙ c.if-body.false)) (not-true _ (sym t.long ∙ c.if-body-2.true)))
 
 pub returns-clause-told : goal.returns-clause-told
 returns-clause-told c st e =
     let t = told st c.args.body e in
     let z = t.stmts in
     rw t.stmts
-    (told-taken c.args.s c.args.n st (omega arith) (omega arith) (omega arith) (not-false _ (sym t.deep ∙ c.if-body.false)) c.args.next (not-false _ (sym t.long ∙ c.if-body-2.false)))
+    (told-taken c.args.s c.args.n st (sym c.ascends.ensures ∙ c.if-not-ascends.false) (omega arith) (omega arith) (not-false _ (sym t.deep ∙ c.if-body.false)) c.args.next (not-false _ (sym t.long ∙ c.if-body-2.false)))

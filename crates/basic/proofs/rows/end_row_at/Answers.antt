@@ -16,7 +16,7 @@ pub returns-in-1 : goal.returns-in-1
 unfolding ends_then contents_from
 returns-in-1 c =
     let ds = lines_behind c.args.file.now c.args.s.at in
-    record { content = end_row; says = refl; behind = ap (λ (n : ℕ). ends_then n ds) c.in-1.is ∙ ap (λ (l : List Content). end_row ∷ l) (sym c.link_behind-in-1.ensures) }
+    record { content = end_row; says = refl; behind = rw c.uncovered.ensures (ap (λ (n : ℕ). ends_then n ds) c.in-1.is ∙ ap (λ (l : List Content). end_row ∷ l) (sym c.link_behind-in-1.ensures)) }
 
 pub returns-in_default : goal.returns-in_default
 unfolding contents_from

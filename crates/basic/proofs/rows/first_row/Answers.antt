@@ -4,4 +4,4 @@ use Rattle.basic.proofs.rows.first_row.Goals as goal
 
 pub returns : goal.returns
 unfolding contents_from
-returns c = λ f. refl
+returns c = λ f. rw c.uncovered.ensures refl

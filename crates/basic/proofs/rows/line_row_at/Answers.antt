@@ -21,4 +21,4 @@ unfolding contents_from
 returns c =
     let f = c.args.file.now in
     let linked : word_at f c.args.at ≡ 0 → ⊥ = λ e. c.if-word_at-eq0.false (c.word_at.ensures ∙ e) in
-    record { content = line_row (parsed c.word_at-2.result); says = refl; behind = lines_line f c.args.at c.word_at-2.result (omega arith) linked c.word_at-2.ensures }
+    record { content = line_row (parsed c.word_at-2.result); says = refl; behind = rw c.uncovered.ensures (lines_line f c.args.at c.word_at-2.result (omega arith) linked c.word_at-2.ensures) }

@@ -8,7 +8,7 @@ use Rattle.frame_lists.proofs.frame.keep_part.Goals as goal
 
 pub returns : goal.returns
 returns c =
-    let a = c.args in
-    let p = c.successors-own.ensures ∙ part_is a.counts.now a.lists.now a.succ.now a.node c.requires.1 in
-    let q = c.successors-shared.ensures ∙ part_is a.counts.now a.lists.now a.succ.now a.header c.requires.0 in
-    answered_as _ _ _ _ _ (ap (λ (x : List ℕ). kept x c.successors-own.result.now) q ∙ ap (kept (succ_part a.lists.now a.succ.now a.header)) p) c.keep_shared.ensures
+    let a = c.args.t.now in
+    let p = c.successors-own.ensures ∙ part_is a.counts.now a.lists.now a.succ.now c.args.node c.requires.1 in
+    let q = c.successors-shared.ensures ∙ part_is a.counts.now a.lists.now a.succ.now c.args.header c.requires.0 in
+    answered_as _ _ _ _ _ (ap (λ (x : List ℕ). kept x c.successors-own.result.now) q ∙ ap (kept (succ_part a.lists.now a.succ.now c.args.header)) p) c.keep_shared.ensures

@@ -6,9 +6,9 @@ use Rattle.printing.specs.PrintedTables.{held_as}
 use Rattle.printing.proofs.list.print_counted.Goals as goal
 
 pub print_graph-requires : goal.print_graph-requires
-print_graph-requires c = let h = c.requires in ((h.0, held_as _ _ _ c.count_of.ensures.0 c.count_of-2.ensures.0 c.count_of-3.ensures.0 h.1), c.count_of-2.ensures.0)
+print_graph-requires c = let h = c.requires in ((h.0, held_as _ _ _ c.count_of-rows.ensures.0 c.count_of-n.ensures.0 c.count_of-targets.ensures.0 h.1), c.count_of-n.ensures.0)
 
 pub returns : goal.returns
 returns c = λ L g.
-    let w : Wrote c.new-page.result c.print_graph.new.page (printed L) = c.print_graph.ensures L (held_as _ _ _ c.count_of.ensures.0 c.count_of-2.ensures.0 c.count_of-3.ensures.0 g) in
+    let w : Wrote c.new-page.result c.print_graph.new.page (printed L) = c.print_graph.ensures L (held_as _ _ _ c.count_of-rows.ensures.0 c.count_of-n.ensures.0 c.count_of-targets.ensures.0 g) in
     search rules

@@ -20,4 +20,4 @@ put_backs-requires c = (c.requires.0.1.stmts_fit, c.requires.0.1.falls_fit)
 
 pub returns : goal.returns
 unfolding bytes
-returns c = λ L g. wrote_is (graph_text_lem g) (wrote_graph c.args.n (take c.args.targets c.args.returns.now) c.put_pair.ensures c.put_bytes.ensures c.put_nodes.ensures c.put_entries.ensures c.put_returns.ensures c.put_backs.ensures c.put_bytes-2.ensures)
+returns c = λ L g. wrote_is (graph_text_lem g) (wrote_graph c.args.n (take c.args.targets c.args.g.now.returns.now) c.put_pair.ensures c.put_bytes.ensures c.put_nodes.ensures c.put_entries.ensures c.put_returns.ensures c.put_backs.ensures c.put_bytes-2.ensures)

@@ -1,6 +1,6 @@
 -- `list_page`: the page is longer than any listing. Assumes nothing.
 use Rattle.std.proofs.Common.{arith}
-use Rattle.program_text.specs.Limits.{puts_whole}
+use Rattle.formatting.specs.Whole.{puts_whole}
 use Rattle.program_text.specs.TextLength.{prglist-length}
 use Rattle.program_text.proofs.program.list_page.Goals as goal
 

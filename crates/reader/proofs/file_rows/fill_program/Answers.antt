@@ -20,16 +20,16 @@ returns c =
 pub step_row-requires : goal.step_row-requires
 step_row-requires c =
     let b = fills_bounded c.loop-r.invariant.1 in
-    (b.open_conds, b.word, b.branches, b.depth)
+    (b.open_conds, b.branches, b.depth)
 
-pub returns-in-Err : goal.returns-in-Err
-returns-in-Err c =
+pub returns-in_default-step_row : goal.returns-in_default-step_row
+returns-in_default-step_row c =
     let v = c.loop-r in
     let g = v.invariant.0 in
     let o : First c.args.file.now v.due c.in-Some.r = c.in-Some.ensures in
     let ahead = subst (λ (ds : List Content). Fills g.tree (length c.args.lines.now) (length c.args.stmts.now) (length c.args.args.now) ds v.s v.w v.lines v.stmts v.args) o.behind v.invariant.1 in
     let says = file_says_by c.args.file.now o.content c.in-Some.r.row c.row_of_file-row.result c.row_of_file-row.ensures o.says in
-    absurd (fills_refused g.room ahead says c.step_row.ensures c.in-Err.is)
+    absurd (fills_refused g.room ahead says c.step_row.ensures c.in_default-step_row.is)
 
 pub write_file_row-w-requires : goal.write_file_row-w-requires
 write_file_row-w-requires c =

@@ -1,24 +1,17 @@
--- By what is asked for. Assumes nothing.
-use mathlib.Core.Path.{sym, ap, ◌∙◌}
-use mathlib.Core.Bool.{Bool}
+-- By what the words of the list are. Assumes nothing.
+use Rattle.std.proofs.Common.{rules, ◌≡◌, ◌∙◌, ap}
 use Rattle.listings.specs.Rows.{parse_name, parse_number}
-use Rattle.reader.specs.Operands.{entry_by, number_answer, key_answer, number_answer_lem, key_answer_lem}
+use Rattle.reader.specs.Operands.{entry_by, or_zero, number_or_zero, key_or_zero}
 use Rattle.reader.proofs.operands.operand_of.Goals as goal
 
-pub returns-then-slots : goal.returns-then-slots
+pub returns-in-Numbers : goal.returns-in-Numbers
 unfolding entry_by
-returns-then-slots c =
-    let w = c.args.w.now in
-    c.unwrap_or.ensures ∙ ap key_answer c.key_of.ensures ∙ key_answer_lem (parse_name w) ∙ ap (λ (b : Bool). entry_by b w) (sym c.if-slots.true)
+returns-in-Numbers c =
+    let u : c.unwrap_or.result ≡ or_zero c.number.result = search rules in
+    rw c.in-Numbers.is (c.from.ensures ∙ u ∙ ap or_zero c.number.ensures ∙ number_or_zero (parse_number c.args.w.now))
 
-pub returns-in-Ok : goal.returns-in-Ok
+pub returns-in-Slots : goal.returns-in-Slots
 unfolding entry_by
-returns-in-Ok c =
-    let w = c.args.w.now in
-    c.from.ensures ∙ ap number_answer c.in-Ok.ensures ∙ number_answer_lem (parse_number w) ∙ ap (λ (b : Bool). entry_by b w) (sym c.if-slots.false)
-
-pub returns-in-Err : goal.returns-in-Err
-unfolding entry_by
-returns-in-Err c =
-    let w = c.args.w.now in
-    ap number_answer c.in-Err.ensures ∙ number_answer_lem (parse_number w) ∙ ap (λ (b : Bool). entry_by b w) (sym c.if-slots.false)
+returns-in-Slots c =
+    let u : c.unwrap_or-in-Slots.result ≡ or_zero c.key_of.result = search rules in
+    rw c.in-Slots.is (u ∙ ap or_zero c.key_of.ensures ∙ key_or_zero (parse_name c.args.w.now))

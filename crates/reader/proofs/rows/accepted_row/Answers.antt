@@ -1,10 +1,7 @@
 -- The brackets off, and the form between. Assumes nothing.
 use native.Mathlib.Omega.{arith}
-use mathlib.Core.Path.{◌∙◌, refl, sym, ap, subst}
-use Prim.Native.Nat.{◌-◌}
-use lib.Dec.{eqb}
-use lib.ListN.{length, get_or}
-use Rattle.reader.specs.CodedRows.{row_form}
+use mathlib.Core.Path.{◌∙◌, sym, ap, subst}
+use Rattle.reader.specs.CodedRows.{is_closed, row_form}
 use Rattle.reader.specs.AcceptedRows.{WellFormed, uncounted, formed_some, formed_end}
 use Rattle.reader.proofs.rows.accepted_row.Goals as goal
 
@@ -18,12 +15,12 @@ pub accepted_form-requires : goal.accepted_form-requires
 accepted_form-requires c =
     let w = c.words_end-end in
     let s = c.args.s.now in
-    let p = row_form s (formed_some s c.requires) c.if-s-ne40.false (eqb (get_or s (length s - 1) 0) 41) refl w.result w.ensures in
+    let p = row_form s (formed_some s c.requires) c.if-s-ne40.false (is_closed c.bracket_of-bracket.result) (sym c.bracket_of-bracket.ensures) w.result w.ensures in
     subst WellFormed p.2 c.requires
 
 pub returns : goal.returns
 returns c =
     let w = c.words_end-end in
     let s = c.args.s.now in
-    let p = row_form s (formed_some s c.requires) c.if-s-ne40.false (eqb (get_or s (length s - 1) 0) 41) refl w.result w.ensures in
+    let p = row_form s (formed_some s c.requires) c.if-s-ne40.false (is_closed c.bracket_of-bracket.result) (sym c.bracket_of-bracket.ensures) w.result w.ensures in
     c.accepted_form.ensures ∙ ap uncounted (sym p.2)

@@ -1,15 +1,20 @@
 -- `args_row`: closed or not. Assumes nothing.
-use Rattle.reader.specs.CodedRows.{args_row}
+use Rattle.std.proofs.Common.{rules, arith, ◌≡◌}
+use Rattle.std.specs.Prelude.{Some, None}
+use Rattle.reader.specs.CodedRows.{no_row, args_row}
 use Rattle.reader.proofs.rows.args_row.Goals as goal
 
-pub returns-in_default : goal.returns-in_default
+pub returns-in_err-kind : goal.returns-in_err-kind
 unfolding args_row
-returns-in_default c = rw (← c.in_default.ensures)
+returns-in_err-kind c =
+    let n : c.kind_of.result ≡ None = grind arith in
+    let e : c.from_residual.result ≡ no_row = search rules in
+    rw (← c.kind_of.ensures, n) e
 
-pub returns-then-closed : goal.returns-then-closed
+pub returns-in-Closed : goal.returns-in-Closed
 unfolding args_row
-returns-then-closed c = rw (← c.in-Some.ensures, c.if-closed.true) c.closed_args.ensures
+returns-in-Closed c = let n : c.kind_of.result ≡ Some c.in_ok-kind.kind = grind arith in rw (← c.kind_of.ensures, n, c.in-Closed.is) c.closed_args.ensures
 
-pub returns : goal.returns
+pub returns-in-Open : goal.returns-in-Open
 unfolding args_row
-returns c = rw (← c.in-Some.ensures, c.if-closed.false) c.opened_args.ensures
+returns-in-Open c = let n : c.kind_of.result ≡ Some c.in_ok-kind.kind = grind arith in rw (← c.kind_of.ensures, n, c.in-Open.is) c.opened_args.ensures

@@ -1,10 +1,7 @@
 -- `row_of`: the brackets off, and the form between. Assumes nothing.
 use native.Mathlib.Omega.{arith}
-use mathlib.Core.Path.{◌∙◌, refl, sym}
-use Prim.Native.Nat.{◌-◌}
-use lib.Dec.{eqb}
-use lib.ListN.{length, get_or}
-use Rattle.reader.specs.CodedRows.{row_bad, row_empty, row_end, row_form}
+use mathlib.Core.Path.{◌∙◌, sym}
+use Rattle.reader.specs.CodedRows.{is_closed, row_bad, row_empty, row_end, row_form}
 use Rattle.reader.proofs.rows.row_of.Goals as goal
 
 pub returns-then-n-eq0 : goal.returns-then-n-eq0
@@ -20,5 +17,5 @@ pub returns : goal.returns
 returns c =
     let w = c.words_end-end in
     let s = c.args.s.now in
-    let p = row_form s (omega arith) c.if-s-ne40.false (eqb (get_or s (length s - 1) 0) 41) refl w.result w.ensures in
+    let p = row_form s (omega arith) c.if-s-ne40.false (is_closed c.bracket_of-bracket.result) (sym c.bracket_of-bracket.ensures) w.result w.ensures in
     c.form_row.ensures ∙ sym p.2

@@ -14,9 +14,9 @@ pub returns-in_err-check_record : goal.returns-in_err-check_record
 returns-in_err-check_record c =
     let a = c.args in
     let p = err_from_is_err_and c.from_residual.result c.from_residual.ensures.1 in
-    rw (p.1, p.2) (refusal_passes _ _ _ _ c.in_err-check_record.ensures ∙ by_record a.counts.now a.stmts.now a.node _ c.count_of-n.ensures.0 (omega arith) (omega arith) _ c.count_of.ensures.0)
+    rw (p.1, p.2) (refusal_passes _ _ _ _ c.in_err-check_record.ensures ∙ by_record a.counts.now a.stmts.now a.node _ c.count_of-n.ensures.0 (omega arith) (omega arith) _ c.count_of-lines.ensures.0)
 
 pub returns : goal.returns
 returns c =
     let a = c.args in
-    rw c.from.ensures (answer_passes _ _ c.in_ok-check_record.ensures ∙ by_record a.counts.now a.stmts.now a.node _ c.count_of-n.ensures.0 (omega arith) (omega arith) _ c.count_of.ensures.0)
+    rw c.from.ensures (answer_passes _ _ c.in_ok-check_record.ensures ∙ by_record a.counts.now a.stmts.now a.node _ c.count_of-n.ensures.0 (omega arith) (omega arith) _ c.count_of-lines.ensures.0)

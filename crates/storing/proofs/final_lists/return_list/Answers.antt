@@ -1,5 +1,6 @@
 -- `return_list`: the return targets, copied, or the members of the set in its row. Assumes nothing.
-use Prim.Native.Nat.{◌+◌, ◌-◌, ◌*◌}
+use borrow.Author.Rules.{rules}
+use lib.ListN.{length}
 use mathlib.Core.Path.{◌≡◌}
 use native.Mathlib.Omega.{arith}
 use Rattle.storing.specs.FinalLists.{back_done}
@@ -7,5 +8,6 @@ use Rattle.storing.proofs.final_lists.return_list.Goals as goal
 
 pub returns : goal.returns
 returns c =
-    let k : c.args.i * 64 + 64 - c.args.i * 64 ≡ 64 = omega arith in
-    back_done c.args.handlers c.args.args.now c.args.i c.args.returns.now c.args.targets c.if-handlers.false k c.requires.1 c.members.ensures c.requires.3 c.members.auto.part
+    let s = c.args.source.now in
+    let size : length c.args.buffer.now ≡ 4096 = search rules in
+    back_done s.handlers c.args.args.now c.args.i s.returns.now s.targets c.if-source.false c.requires.1 (rw c.set_at.ensures.is_set at c.members.ensures) (omega (arith, c.requires.2, size)) c.members.auto.part

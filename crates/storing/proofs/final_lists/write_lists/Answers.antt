@@ -2,14 +2,17 @@
 use mathlib.Core.Path.{refl}
 use native.Mathlib.Omega.{arith}
 use borrow.Author.Rules.{rules}
-use Rattle.storing.specs.FinalLists.{final_list, writes_none, turn_ready, turn_done}
+use Rattle.storing.specs.FinalLists.{writes_none, turn_ready, turn_done}
+use Rattle.storing.specs.FromSource.{list_from}
 use Rattle.storing.proofs.final_lists.write_lists.Goals as goal
 
 pub loop-i-init : goal.loop-i-init
-loop-i-init c = (refl, refl, refl, writes_none (final_list c.args.handlers c.args.stmts.now c.args.args.now c.args.falls.now c.args.links.now c.args.lists.now c.args.scratch.now c.args.returns.now c.args.targets) c.args.lists.now c.args.succ.now)
+loop-i-init c =
+    let a = c.args in
+    (refl, refl, writes_none (list_from a.source.now a.args.now a.lists.now) a.lists.now a.succ.now)
 
 pub write_list-at-requires : goal.write_list-at-requires
-write_list-at-requires c = turn_ready c.requires c.loop-i.invariant.3 (omega arith) _ _ c.loop-i.invariant.0 c.loop-i.invariant.1 c.loop-i.invariant.2
+write_list-at-requires c = (omega arith, turn_ready c.requires c.loop-i.invariant.2 (omega arith) _ c.loop-i.invariant.0 c.loop-i.invariant.1)
 
 pub loop-i-preserved : goal.loop-i-preserved
-loop-i-preserved c = (search rules, search rules, search rules, turn_done c.requires c.loop-i.invariant.3 (omega arith) c.write_list-at.ensures)
+loop-i-preserved c = (search rules, search rules, turn_done c.requires c.loop-i.invariant.2 (omega arith) c.write_list-at.ensures)

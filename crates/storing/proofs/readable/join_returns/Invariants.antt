@@ -4,4 +4,4 @@ use mathlib.Core.Path.{◌≡◌}
 use Rattle.storing.proofs.readable.join_returns.Given as goal
 
 abbrev pub invariant-loop-i : goal.invariant-loop-i
-invariant-loop-i l = l.all ≡ joined_returns l.stmts l.args l.i
+invariant-loop-i l = l.all ≡ joined_returns l.sets.records.stmts.now l.sets.words.now l.i

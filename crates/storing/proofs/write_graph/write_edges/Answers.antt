@@ -3,7 +3,7 @@ use Rattle.storing.specs.StoredGraph.{writes_ready, preds_ready, edges_stored}
 use Rattle.storing.proofs.write_graph.write_edges.Goals as goal
 
 pub write_lists-total-requires : goal.write_lists-total-requires
-write_lists-total-requires c = writes_ready c.requires.read c.args.succ.now c.args.pred.now c.requires.fits _ c.requires.buffer_size
+write_lists-total-requires c = writes_ready c.requires.read c.args.succ.now c.args.pred.now c.requires.fits
 
 pub write_predecessors-requires : goal.write_predecessors-requires
 write_predecessors-requires c = preds_ready c.requires.read c.args.succ.now c.args.pred.now c.requires.fits c.write_lists-total.ensures

@@ -1,42 +1,51 @@
--- `check_all`: refusal and count of the pieces before `at`, to be joined with those left. Assumes nothing.
-use native.Mathlib.Omega.{arith}
-use mathlib.Core.Path.{◌∙◌, ◌≡◌, ap, refl, sym}
-use mathlib.Core.List.{List}
-use Prim.Native.Nat.{◌+◌, ℕ}
-use lib.ListN.{drop, length}
-use Rattle.std.specs.Prelude.{Ok}
-use Rattle.std.specs.Result.{result_and}
+-- `check_all`: refusal and count of the pieces so far, to be joined with those left. Assumes nothing.
+use Rattle.std.proofs.Common.{◌≡◌, ℕ, ◌+◌, ◌<◌, List, ◌∷◌, length, get_or, drop, sym, ap, ◌∙◌, refl, arith, rules, tests}
+use Rattle.std.proofs.lemmas.Iterator.Consumers.{YieldsList-at, YieldsList-turn, YieldsList-end}
+use Rattle.std.proofs.lemmas.List.{at_drop_more, at_drop_all, length_push}
 use Rattle.listings.specs.Rows.{split}
-use Rattle.listings.specs.Scan.{next_last, next_more, piece_at}
-use Rattle.tokens.specs.Arguments.{Verdict, refusal_by, lowest, lowest_last, lowest_next, lowest_of}
+use Rattle.listings.specs.Scan.{YieldsList-from_pieces, split_fits}
+use Rattle.tokens.specs.Arguments.{Verdict, are_slots, checked, refusal_by, lowest, lowest_next, lowest_of, lowest_of_none}
 use Rattle.tokens.proofs.arguments.check_all.Goals as goal
 
-pub loop-g-init : goal.loop-g-init
+pub loop-w-init : goal.loop-w-init
 unfolding lowest
-loop-g-init c = (omega arith, omega arith, refl, omega arith)
+loop-w-init c = (refl, refl)
 
-pub returns-then-to-s : goal.returns-then-to-s
-returns-then-to-s c =
-    let l = c.loop-g in
-    let w = piece_at c.args.s.now l.at c.find.result in
-    let f = refusal_by c.args.slots in
-    let x = c.lower-g.ensures ∙ ap (lowest l.g) c.argument_refusal.ensures in
-    let p = next_last 32 c.args.s.now l.at c.find.result (omega arith) c.find.ensures.0 c.if-to-s.true in
-    let g : c.lower-g.result ≡ lowest_of f (split 32 c.args.s.now) =
-    x ∙ sym (lowest_last f l.g w) ∙ ap (λ (z : List (List ℕ)). lowest l.g (lowest_of f z)) (sym p) ∙ l.invariant.2 in
-    let n : l.n + 1 ≡ length (split 32 c.args.s.now) = omega (arith, ap length p, l.invariant.3) in
-    c.and.ensures ∙ ap (λ (v : Verdict). result_and v (Ok (l.n + 1))) g ∙ ap (λ (z : ℕ). result_and (lowest_of f (split 32 c.args.s.now)) (Ok z)) n
+pub overflow_add-count : goal.overflow_add-count
+overflow_add-count c =
+    let l = c.loop-w in
+    let s = c.args.s.now in
+    let p = c.split-w-items.ensures in
+    let i = c.into_iter-w-iterator.ensures.into_iter_gives in
+    let t = YieldsList-turn (YieldsList-at i (YieldsList-from_pieces _ 32 s p.rest p.done p.closure (λ x r q k. search (rules, tests)))) l.yielded _ l.yielded_by _ _ c.in-Some.w c.in-Some.is c.next.ensures.steps in
+    omega (arith, split_fits 32 s, t.0, l.invariant.0)
 
-pub loop-g-preserved : goal.loop-g-preserved
-loop-g-preserved c =
-    let l = c.loop-g in
-    let w = piece_at c.args.s.now l.at c.find.result in
-    let f = refusal_by c.args.slots in
-    let x = c.lower-g.ensures ∙ ap (lowest l.g) c.argument_refusal.ensures in
-    let p = next_more 32 c.args.s.now l.at c.find.result (omega arith) c.find.ensures.0 c.if-to-s.false c.find.ensures.1 in
-    let ws = split 32 (drop (l.at + c.find.result + 1) c.args.s.now) in (
-      omega arith,
-      omega arith,
-      ap (λ (z : Verdict). lowest z (lowest_of f ws)) x ∙ lowest_next f l.g w ws ∙ ap (λ (z : List (List ℕ)). lowest l.g (lowest_of f z)) (sym p.1) ∙ l.invariant.2,
-      omega (arith, ap length p.1, l.invariant.3),
+pub loop-w-preserved : goal.loop-w-preserved
+loop-w-preserved c =
+    let l = c.loop-w in
+    let s = c.args.s.now in
+    let w = c.in-Some.w.now in
+    let n = l.count in
+    let f = refusal_by (are_slots c.args.arguments) in
+    let p = c.split-w-items.ensures in
+    let i = c.into_iter-w-iterator.ensures.into_iter_gives in
+    let t = YieldsList-turn (YieldsList-at i (YieldsList-from_pieces _ 32 s p.rest p.done p.closure (λ x r q k. search (rules, tests)))) l.yielded _ l.yielded_by _ _ c.in-Some.w c.in-Some.is c.next.ensures.steps in
+    let u : (n < length (split 32 s)) × (w ≡ get_or (split 32 s) n w) = rw (l.invariant.0) t in
+    let ws = drop (n + 1) (split 32 s) in
+    let x = c.lower-verdict.ensures ∙ ap (lowest l.verdict) c.argument_refusal.ensures in (
+      omega (arith, l.invariant.0, length_push l.yielded c.in-Some.w),
+      ap (λ (z : Verdict). lowest z (lowest_of f ws)) x ∙ lowest_next f l.verdict w ws ∙ ap (λ (z : List ℕ). lowest l.verdict (lowest_of f (z ∷ ws))) u.1 ∙ sym (at_drop_more (λ z. lowest l.verdict (lowest_of f z)) (split 32 s) n w u.0) ∙ l.invariant.1,
     )
+
+pub returns : goal.returns
+unfolding lowest_of
+returns c =
+    let l = c.loop-w in
+    let s = c.args.s.now in
+    let f = refusal_by (are_slots c.args.arguments) in
+    let p = c.split-w-items.ensures in
+    let i = c.into_iter-w-iterator.ensures.into_iter_gives in
+    let t = YieldsList-end (YieldsList-at i (YieldsList-from_pieces _ 32 s p.rest p.done p.closure (λ x r q k. search (rules, tests)))) l.yielded _ l.yielded_by _ _ c.in-None.is c.next.ensures.steps in
+    let n : l.count ≡ length (split 32 s) = l.invariant.0 ∙ t.1 in
+    let g = sym (lowest_of_none l.verdict) ∙ sym (at_drop_all (λ z. lowest l.verdict (lowest_of f z)) (split 32 s) l.count (omega (arith, n))) ∙ l.invariant.1 in
+    ap (λ z. checked z l.verdict) n ∙ ap (checked (length (split 32 s))) g

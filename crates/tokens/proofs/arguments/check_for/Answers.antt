@@ -3,11 +3,9 @@ use native.Mathlib.Omega.{arith}
 use mathlib.Core.Path.{◌∙◌, ◌≡◌, ap, sym}
 use Prim.Native.Nat.{◌+◌, ◌-◌, ◌<◌}
 use lib.ListN.{drop, length, length-drop, take}
-use Rattle.std.specs.Prelude.{Ok}
-use Rattle.std.specs.Result.{result_and}
 use Rattle.listings.specs.Rows.{parse_name}
 use Rattle.listings.specs.Scan.{rest_all}
-use Rattle.tokens.specs.Arguments.{Verdict, verdict, for_alone, for_longer, for_right, lowest}
+use Rattle.tokens.specs.Arguments.{Verdict, checked, verdict, for_alone, for_longer, for_right, lowest}
 use Rattle.tokens.proofs.arguments.check_for.Goals as goal
 
 pub returns-then-e-s : goal.returns-then-e-s
@@ -28,4 +26,4 @@ returns c =
     let tier = c.tier_refusal in
     let p : c.lower.result ≡ lowest (verdict (parse_name (take (e - 0) (drop 0 s)))) _ =
     c.lower.ensures ∙ ap (λ (g : Verdict). lowest g tier.result) c.name_refusal.ensures ∙ ap (lowest (verdict (parse_name (take (e - 0) (drop 0 s))))) tier.ensures in
-    c.and.ensures ∙ ap (λ (g : Verdict). result_and g (Ok 0)) p ∙ sym (for_right s e c.find.result c.find-e.ensures.0 lt c.find.ensures.0 d)
+    ap (checked 0) p ∙ sym (for_right s e c.find.result c.find-e.ensures.0 lt c.find.ensures.0 d)

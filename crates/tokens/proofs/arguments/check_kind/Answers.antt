@@ -1,19 +1,15 @@
 -- `check_kind`: each kind in turn. Assumes nothing.
-use mathlib.Core.Path.{◌∙◌, ◌≡◌, ap, sym, refl}
+use mathlib.Core.Path.{◌≡◌, sym, refl}
 use mathlib.Core.Logic.{inl, inr}
 use mathlib.Core.List.{List}
 use Prim.Native.Nat.{ℕ}
-use Rattle.std.specs.Prelude.{Result, Ok, Err}
-use Rattle.std.specs.Result.{result_and}
-use Rattle.layout.specs.declared.refusals.Reason.{Reason}
-use Rattle.layout.specs.declared.refusals.Reason.TheVariants as reason
-use Rattle.listings.specs.Rows.{single, split}
+use Rattle.listings.specs.Rows.{split}
 use Rattle.tokens.specs.declared.words.Kind.{Kind}
 use Rattle.tokens.specs.declared.words.Kind.TheVariants as kind
-use Rattle.tokens.specs.Arguments.{check_kind, number_counted}
+use Rattle.tokens.specs.Arguments.{check_kind, no_form}
 use Rattle.tokens.proofs.arguments.check_kind.Goals as goal
 
-others : (k : Kind) (ws : List (List ℕ)) → (k ≡ kind.Number → ⊥) → (k ≡ kind.Run → ⊥) → (k ≡ kind.Numbers → ⊥) → (k ≡ kind.For → ⊥) → (k ≡ kind.Next → ⊥) → check_kind k ws ≡ Err reason.NotAForm
+others : (k : Kind) (ws : List (List ℕ)) → (k ≡ kind.Number → ⊥) → (k ≡ kind.Run → ⊥) → (k ≡ kind.Numbers → ⊥) → (k ≡ kind.For → ⊥) → (k ≡ kind.Next → ⊥) → check_kind k ws ≡ no_form
 unfolding check_kind
 others kind.Number ws a b c d e = absurd (a refl)
 others kind.Run ws a b c d e = absurd (b refl)
@@ -29,9 +25,7 @@ others kind.Bare ws a b c d e = refl
 
 pub returns-in-Number : goal.returns-in-Number
 unfolding check_kind
-returns-in-Number c =
-    let n = c.and.ensures ∙ ap (λ (r : Result ℕ Reason). result_and r (Ok 0)) c.single_number.ensures ∙ number_counted (single (split 32 c.args.s.now)) 0 in
-    elim c.in-Number.is [ inl e ↦ rw e n | inr e ↦ rw e n ]
+returns-in-Number c = elim c.in-Number.is [ inl e ↦ rw e c.check_single.ensures | inr e ↦ rw e c.check_single.ensures ]
 
 pub returns-in-Numbers : goal.returns-in-Numbers
 unfolding check_kind

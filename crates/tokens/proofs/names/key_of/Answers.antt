@@ -11,7 +11,7 @@ use Rattle.listing_laws.specs.WordText.{name_text}
 use Rattle.listings.specs.Records.{name_key}
 use Rattle.listings.specs.Cut.{cut_to}
 use Rattle.tokens.specs.Names.{as_key, cut_from, kept, key_next, key_whole, name_byte, name_invalid, rest_below}
-use Rattle.std.specs.Prelude.{Some}
+use Rattle.std.specs.Prelude.{Ok}
 use Rattle.tokens.proofs.names.key_of.Goals as goal
 
 -- one turn: the byte before i goes in front, or is left out
@@ -54,4 +54,4 @@ returns c =
     sym c.is_name.ensures ∙ c.if-not-is_name.false in
     let w = c.args.w.now in
     let z : c.loop-i.i ≡ 0 = omega arith in
-    ap Some (c.loop-i.invariant ∙ ap (λ (i : ℕ). name_key (cut_from w i)) z ∙ ap name_key (key_whole w)) ∙ ap as_key (sym (name_text w (named)))
+    ap Ok (c.loop-i.invariant ∙ ap (λ (i : ℕ). name_key (cut_from w i)) z ∙ ap name_key (key_whole w)) ∙ ap as_key (sym (name_text w (named)))

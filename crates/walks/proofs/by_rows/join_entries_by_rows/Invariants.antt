@@ -5,4 +5,4 @@ use Rattle.passes.specs.ByRows.{EntriesByRows}
 use Rattle.walks.proofs.by_rows.join_entries_by_rows.Given as goal
 
 abbrev pub invariant-loop-e : goal.invariant-loop-e
-invariant-loop-e l = (length l.work ≡ length l.initial.work) × (length l.rows ≡ length l.initial.rows) × EntriesByRows l.stmts l.falls l.links l.n l.e l.initial.rows l.rows
+invariant-loop-e l = (length l.rows ≡ length l.initial.rows) × EntriesByRows l.g.records.stmts.now l.g.falls.now l.g.links.now l.g.records.n l.e l.initial.rows l.rows

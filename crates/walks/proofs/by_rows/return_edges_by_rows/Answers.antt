@@ -6,11 +6,18 @@ use Rattle.passes.specs.WalkTables.{calls_read, calls_sets}
 use Rattle.passes.specs.ByRowsLaws.{sets_by_rows}
 use Rattle.walks.proofs.by_rows.return_edges_by_rows.Goals as goal
 
+pub invariant_of-records : goal.invariant_of-records
+invariant_of-records c =
+    let k = calls_read c.args.stmts.now c.args.falls.now c.args.links.now c.args.n c.args.rows.now (sym c.calls_readable.ensures ∙ c.if-calls_readable.true) in
+    record { few = k.few; rows = k.in_stmts }
+
+pub invariant_of-nodes : goal.invariant_of-nodes
+invariant_of-nodes c =
+    let k = calls_read c.args.stmts.now c.args.falls.now c.args.links.now c.args.n c.args.rows.now (sym c.calls_readable.ensures ∙ c.if-calls_readable.true) in
+    record { fall_rows = k.in_falls; link_rows = k.in_links }
+
 pub clear_returns-requires : goal.clear_returns-requires
-clear_returns-requires c =
-    let h = sym c.calls_readable.ensures ∙ c.if-calls_readable.true in
-    let k = calls_read c.args.stmts.now c.args.falls.now c.args.links.now c.args.n c.args.rows.now h in
-    (k.few, k.in_stmts, calls_sets c.args.stmts.now c.args.falls.now c.args.links.now c.args.n c.args.rows.now h)
+clear_returns-requires c = calls_sets c.args.stmts.now c.args.falls.now c.args.links.now c.args.n c.args.rows.now (sym c.calls_readable.ensures ∙ c.if-calls_readable.true)
 
 pub close_rows-requires : goal.close_rows-requires
 close_rows-requires c =

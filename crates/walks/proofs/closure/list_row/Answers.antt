@@ -6,7 +6,9 @@ use Rattle.passes.specs.ClosureLaws.{row_listed}
 use Rattle.walks.proofs.closure.list_row.Goals as goal
 
 pub put_members-requires : goal.put_members-requires
-put_members-requires c = (search rules, omega (arith, members_few c.row_region-set.result, c.requires.4))
+put_members-requires c = (search rules, omega (arith, members_few c.row_region-set.result))
 
 pub returns : goal.returns
-returns c = (omega (arith, c.put_members.ensures.count, members_few c.row_region-set.result, c.requires.4), row_listed c.args.stmts.now c.args.rows.now c.args.n c.args.from c.row_region-set.result _ c.row_region-set.ensures c.put_members.ensures.list)
+returns c =
+    let r = c.args.rows.now in
+    (omega (arith, c.put_members.ensures.count, members_few c.row_region-set.result), row_listed r.records.stmts.now r.words.now r.records.n c.args.from c.row_region-set.result _ c.row_region-set.ensures c.put_members.ensures.list)

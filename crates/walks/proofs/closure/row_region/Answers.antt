@@ -1,17 +1,20 @@
 -- `row_region`: the node alone, or with its row. Assumes nothing.
-use Prim.Native.Nat.{◌+◌, ◌-◌, ◌*◌}
-use mathlib.Core.Path.{◌≡◌}
+use mathlib.Core.Path.{refl, sym, ap, ◌∙◌}
 use native.Mathlib.Omega.{arith}
+use Rattle.passes.specs.Sets.{joined}
+use Rattle.passes.specs.ReturnSets.{set_of}
 use Rattle.passes.specs.ClosureLaws.{return_reached, row_reached}
 use Rattle.walks.proofs.closure.row_region.Goals as goal
 
-pub returns-then-stmts-from-eq-RETURN : goal.returns-then-stmts-from-eq-RETURN
-returns-then-stmts-from-eq-RETURN c =
+pub returns-then-word-eq-RETURN : goal.returns-then-word-eq-RETURN
+returns-then-word-eq-RETURN c =
+    let r = c.args.rows.now.records in
     let a = c.args in
-    return_reached a.from (omega (arith, c.requires.0, c.requires.3)) c.no_words-set.result c.no_words-set.ensures a.stmts.now a.rows.now a.n c.requires.3 _ c.insert.ensures c.if-stmts-from-eq-RETURN.true
+    return_reached a.from (omega (arith, r.few, c.requires)) c.no_words-set.result c.no_words-set.ensures r.stmts.now a.rows.now.words.now r.n c.requires _ c.insert.ensures (sym c.word.ensures ∙ c.if-word-eq-RETURN.true)
 
 pub returns : goal.returns
+unfolding set_of
 returns c =
+    let r = c.args.rows.now.records in
     let a = c.args in
-    let k : a.from * 64 + 64 - a.from * 64 ≡ 64 = omega arith in
-    row_reached a.from (omega (arith, c.requires.0, c.requires.3)) c.no_words-set.result c.no_words-set.ensures a.stmts.now a.rows.now a.n c.requires.3 _ _ _ c.insert.ensures k (omega (arith, c.requires.2, c.requires.3)) c.join.ensures c.if-stmts-from-eq-RETURN.false
+    row_reached a.from (omega (arith, r.few, c.requires)) c.no_words-set.result c.no_words-set.ensures r.stmts.now a.rows.now.words.now r.n c.requires _ _ _ c.insert.ensures refl (omega (arith, a.rows.now.rows, c.requires)) (c.join.ensures ∙ ap (joined c.insert.new.set) c.of.ensures.is_set) (λ e. c.if-word-eq-RETURN.false (c.word.ensures ∙ e))

@@ -9,6 +9,7 @@ use Rattle.walks.proofs.readable.nodes_readable.Goals as goal
 pub returns : goal.returns
 returns c =
     let a = c.args in
-    let f = node_readable a.stmts.now a.falls.now a.links.now a.n in
-    let e : c.all.result ≡ every_below f a.n = all_from_yields_List f _ _ c.all.result c.all.ensures.ran (YieldsList-from_range 0 a.n a.n refl (omega arith)) (λ x b q k. search rules) ∙ every_number f a.n in
+    let r = a.records.now in
+    let f = node_readable r.stmts.now a.falls.now a.links.now r.n in
+    let e : c.all.result ≡ every_below f r.n = all_from_yields_List f _ _ c.all.result c.all.ensures.ran (YieldsList-from_range 0 r.n r.n refl (omega arith)) (λ x b q k. search rules) ∙ every_number f r.n in
     grind arith

@@ -5,12 +5,14 @@ use Rattle.walks.proofs.regions.add_back.Goals as goal
 
 pub returns-else-holds : goal.returns-else-holds
 returns-else-holds c =
+    let g = c.args.g.now in
     let a = c.args in
-    back_no a.stmts.now a.falls.now a.links.now a.e a.c _ _ c.holds.result refl
-    (target_part a.stmts.now a.links.now a.c c.from.result c.from.ensures) c.holds.ensures _ c.if-holds.false
+    back_no g.records.stmts.now g.falls.now g.links.now a.e a.c _ _ c.holds.result refl
+    (target_part g.records.stmts.now g.links.now a.c c.from.result c.from.ensures) c.holds.ensures _ c.if-holds.false
 
 pub returns-then-holds : goal.returns-then-holds
 returns-then-holds c =
+    let g = c.args.g.now in
     let a = c.args in
-    back_yes a.stmts.now a.falls.now a.links.now a.e a.c _ _ c.holds.result refl
-    (target_part a.stmts.now a.links.now a.c c.from.result c.from.ensures) c.holds.ensures _ _ c.if-holds.true c.insert_some.ensures
+    back_yes g.records.stmts.now g.falls.now g.links.now a.e a.c _ _ c.holds.result refl
+    (target_part g.records.stmts.now g.links.now a.c c.from.result c.from.ensures) c.holds.ensures _ _ c.if-holds.true c.insert_some.ensures

@@ -5,4 +5,4 @@ use Rattle.passes.specs.Regions.{back_from, SetAdded}
 use Rattle.walks.proofs.regions.add_backs.Given as goal
 
 abbrev pub invariant-loop-c : goal.invariant-loop-c
-invariant-loop-c l = SetAdded l.initial.backs l.backs (each (back_from l.stmts l.falls l.links l.e) (take l.c-index l.calls))
+invariant-loop-c l = SetAdded l.initial.backs l.backs (each (back_from l.g.records.stmts.now l.g.falls.now l.g.links.now l.e) (take l.c-index l.calls))

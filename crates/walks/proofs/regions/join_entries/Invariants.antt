@@ -6,4 +6,4 @@ use Rattle.passes.specs.Regions.{RegionsJoined}
 use Rattle.walks.proofs.regions.join_entries.Given as goal
 
 abbrev pub invariant-loop-e : goal.invariant-loop-e
-invariant-loop-e l = (length l.work ≡ length l.initial.work) × (length l.sets ≡ length l.initial.sets) × RegionsJoined l.stmts l.falls l.links (stored_list l.lists l.edges) l.n l.e l.initial.sets l.sets
+invariant-loop-e l = (length l.sets ≡ length l.initial.sets) × RegionsJoined l.w.nodes.records.stmts.now l.w.nodes.falls.now l.w.nodes.links.now (stored_list l.w.lists.now l.w.edges.now) l.w.nodes.records.n l.e l.initial.sets l.sets

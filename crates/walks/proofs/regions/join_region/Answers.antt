@@ -4,6 +4,7 @@ use Rattle.walks.proofs.regions.join_region.Goals as goal
 
 pub returns : goal.returns
 returns c =
+    let g = c.args.g.now in
     let a = c.args in
-    listed-joined a.stmts.now a.falls.now a.links.now a.n a.e a.list.now c.no_words-backs.result _ a.calls.now a.sets.now _ c.no_words-backs.ensures
+    listed-joined g.records.stmts.now g.falls.now g.links.now g.records.n a.e a.list.now c.no_words-backs.result _ a.calls.now a.sets.now _ c.no_words-backs.ensures
     c.requires.0 c.add_backs.ensures c.join_returns.ensures

@@ -1,5 +1,4 @@
 -- `join_regions`: the calls are listed, their spans found, all regions joined. Assumes nothing.
-use borrow.Author.Rules.{rules}
 use mathlib.Core.Path.{ap}
 use native.Mathlib.Omega.{arith}
 use lib.ListN.{length}
@@ -9,20 +8,19 @@ use Rattle.walks.proofs.regions.join_regions.Goals as goal
 
 pub span_calls-requires : goal.span_calls-requires
 span_calls-requires c =
+    let w = c.args.w.now in
     let r = calls_ready c.requires.0 c.list_calls-count.ensures.list in
-    (targets_fit r.fit, omega (arith, ap length c.list_calls-count.ensures.list, calls_few c.args.stmts.now c.args.n, c.requires.0.few), c.all_of-spans.ensures)
+    (targets_fit r.fit, omega (arith, ap length c.list_calls-count.ensures.list, calls_few w.nodes.records.stmts.now w.nodes.records.n, c.requires.0.few), c.all_of-table.ensures)
 
 pub join_entries-requires : goal.join_entries-requires
-join_entries-requires c = (
-  record {
-    calls_ready = calls_ready c.requires.0 c.list_calls-count.ensures.list;
-    spanned = c.span_calls.ensures;
-    in_spans = search rules;
-    stored = c.requires.1;
-    in_sets = c.requires.2;
-  },
-  search rules,
-)
+join_entries-requires c = record {
+  calls_ready = calls_ready c.requires.0 c.list_calls-count.ensures.list;
+  spanned = c.span_calls.ensures;
+  stored = c.requires.1;
+  in_sets = c.requires.2;
+}
 
 pub returns : goal.returns
-returns c = regions_all c.args.stmts.now c.args.falls.now c.args.links.now (stored_list c.args.lists.now c.args.edges.now) c.args.n c.requires.0 c.args.sets.now _ c.join_entries.ensures
+returns c =
+    let w = c.args.w.now in
+    regions_all w.nodes.records.stmts.now w.nodes.falls.now w.nodes.links.now (stored_list w.lists.now w.edges.now) w.nodes.records.n c.requires.0 c.args.sets.now _ c.join_entries.ensures

@@ -5,6 +5,7 @@ use Rattle.walks.proofs.return_sets.join_returns.Goals as goal
 
 pub loop-i-preserved : goal.loop-i-preserved
 loop-i-preserved c =
+    let r = c.args.records.now in
     let a = c.args in
     let l = c.loop-i in
-    returns_more a.stmts.now a.n a.backs.now a.list.now l.i-index c.from.result a.sets.now l.sets _ (omega arith) c.from.ensures l.invariant c.join_return.ensures
+    returns_more r.stmts.now r.n a.backs.now a.list.now l.i-index c.from.result a.sets.now l.sets _ (omega arith) c.from.ensures l.invariant c.join_return.ensures

@@ -6,4 +6,4 @@ use Rattle.passes.specs.ReturnTotals.{sum_where, return_size}
 use Rattle.walks.proofs.return_totals.sum_returns.Given as goal
 
 abbrev pub invariant-loop-i : goal.invariant-loop-i
-invariant-loop-i l = l.sum ≡ sum_where (λ i. eqb (word_of l.stmts i) 9) (λ i. return_size l.handlers l.targets l.sets i) l.i
+invariant-loop-i l = l.sum ≡ sum_where (λ i. eqb (word_of l.sets.records.stmts.now i) 9) (λ i. return_size l.handlers l.targets l.sets.words.now i) l.i

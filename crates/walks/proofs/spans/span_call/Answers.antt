@@ -4,10 +4,12 @@ use Rattle.walks.proofs.spans.span_call.Goals as goal
 
 pub span_row-requires : goal.span_row-requires
 span_row-requires c =
+    let g = c.args.g.now in
     let a = c.args in
-    (part_ids a.stmts.now a.links.now a.c _ (target_part a.stmts.now a.links.now a.c _ c.from.ensures) c.requires.0, c.requires.1, c.requires.2)
+    (part_ids g.records.stmts.now g.links.now a.c _ (target_part g.records.stmts.now g.links.now a.c _ c.from.ensures) c.requires.0, c.requires.1)
 
 pub returns : goal.returns
 returns c =
+    let g = c.args.g.now in
     let a = c.args in
-    target-entries a.stmts.now a.links.now a.c a.k _ _ _ (target_part a.stmts.now a.links.now a.c _ c.from.ensures) c.span_row.ensures
+    target-entries g.records.stmts.now g.links.now a.c a.k _ _ _ (target_part g.records.stmts.now g.links.now a.c _ c.from.ensures) c.span_row.ensures

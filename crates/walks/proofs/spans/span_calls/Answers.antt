@@ -9,17 +9,19 @@ use Rattle.walks.proofs.spans.span_calls.Goals as goal
 
 pub loop-k-init : goal.loop-k-init
 loop-k-init c =
+    let g = c.args.g.now in
     let a = c.args in
-    (ap length c.requires.2 ∙ length-replicate {A = ℕ} 8192 0, spanned_none a.stmts.now a.links.now a.calls.now 8192 _ c.requires.2)
+    (ap length c.requires.2 ∙ length-replicate {A = ℕ} 8192 0, spanned_none g.records.stmts.now g.links.now a.calls.now 8192 _ c.requires.2)
 
 pub span_call-requires : goal.span_call-requires
 span_call-requires c =
     let l = c.loop-k in
-    (all_get_d c.requires.0 l.k _ (omega arith) c.from.ensures, omega (arith, c.requires.1), l.invariant.0)
+    (all_get_d c.requires.0 l.k _ (omega arith) c.from.ensures, omega (arith, c.requires.1))
 
 pub loop-k-preserved : goal.loop-k-preserved
 loop-k-preserved c =
+    let g = c.args.g.now in
     let a = c.args in
     let l = c.loop-k in
-    let g = c.span_call.ensures in
-    (g.size ∙ l.invariant.0, spanned_more a.stmts.now a.links.now a.calls.now l.k _ l.spans _ c.from.ensures l.invariant.1 g)
+    let h = c.span_call.ensures in
+    (h.size ∙ l.invariant.0, spanned_more g.records.stmts.now g.links.now a.calls.now l.k _ l.spans _ c.from.ensures l.invariant.1 h)

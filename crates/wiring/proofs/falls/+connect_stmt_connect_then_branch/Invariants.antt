@@ -20,7 +20,7 @@ decreases-connect_then_branch l = 2 * l.depth + 1
 abbrev pub invariant-connect_then_branch-loop-i : goal.invariant-connect_then_branch-loop-i
 invariant-connect_then_branch-loop-i l =
     (l.from ≤ l.i) × (l.i ≤ l.end) × (length l.falls ≡ length l.initial.falls)
-    × ((es : Entries) → EntryTable es l.entries l.count → (d : ℕ) → d + l.depth ≡ 17 → (s : Stmts) → Spans l.stmts l.from s → StmtsOk d s → l.end ≡ l.from + size s
+    × ((es : Entries) → EntryTable es l.w.rows.now l.w.count → (d : ℕ) → d + l.depth ≡ 17 → (s : Stmts) → Spans l.r.stmts.now l.from s → StmtsOk d s → l.end ≡ l.from + size s
     → Gone es l.from l.end l.next l.initial.falls l.falls l.i s)
 
 abbrev pub decreases-connect_then_branch-loop-i : goal.decreases-connect_then_branch-loop-i

@@ -15,7 +15,7 @@ returns-then-not-connect_then_branch c =
     let a = c.args in
     let l = c.loop-l in
     λ ls ok et sh.
-    let r = ahead_down a.entries.now a.count a.stmts.now a.falls.now (definition.entries ls) _ et l.falls _ l.l l.end l.next _ _
+    let r = ahead_down a.w.now.rows.now a.w.now.count a.r.now.stmts.now a.falls.now (definition.entries ls) _ et l.falls _ l.l l.end l.next _ _
     c.loop-l-test.true c.start_of-from.ensures (l.invariant.2 ls ok et sh) c.connect_then_branch.ensures in
     not_both c.connect_then_branch.result r.0 (ap not c.if-not-connect_then_branch.true)
 
@@ -26,7 +26,7 @@ loop-l-preserved c =
       omega (arith, l.invariant.0, c.start_of-from.ensures.within),
       c.connect_then_branch.auto.falls ∙ l.invariant.1,
       λ ls ok et sh.
-          (ahead_down a.entries.now a.count a.stmts.now a.falls.now (definition.entries ls) _ et l.falls _ l.l l.end l.next _ _
+          (ahead_down a.w.now.rows.now a.w.now.count a.r.now.stmts.now a.falls.now (definition.entries ls) _ et l.falls _ l.l l.end l.next _ _
           c.loop-l-test.true c.start_of-from.ensures (l.invariant.2 ls ok et sh) c.connect_then_branch.ensures).1,
     )
 

@@ -13,6 +13,6 @@ use Rattle.wiring.proofs.falls.connect_top_level.Given as goal
 
 abbrev pub invariant-loop-l : goal.invariant-loop-l
 invariant-loop-l l =
-    (l.end ≤ l.n) × (length l.falls ≡ length l.initial.falls)
-    × ((ls : Lines) → LinesOk ls → EntryTable (definition.entries ls) l.entries l.count → StmtsHeld ls l.stmts l.n
-    → Ahead (definition.entries ls) (fall_rows (definition.entries ls) (definition.nodes ls)) l.entries l.stmts l.initial.falls l.falls l.l l.end l.next)
+    (l.end ≤ l.r.n) × (length l.falls ≡ length l.initial.falls)
+    × ((ls : Lines) → LinesOk ls → EntryTable (definition.entries ls) l.w.rows.now l.w.count → StmtsHeld ls l.r.stmts.now l.r.n
+    → Ahead (definition.entries ls) (fall_rows (definition.entries ls) (definition.nodes ls)) l.w.rows.now l.r.stmts.now l.initial.falls l.falls l.l l.end l.next)

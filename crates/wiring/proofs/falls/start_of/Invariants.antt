@@ -5,4 +5,4 @@ use lib.ListN.{get_or}
 use Rattle.wiring.proofs.falls.start_of.Given as goal
 
 abbrev pub invariant-loop-i : goal.invariant-loop-i
-invariant-loop-i l = (k : ℕ) → l.i ≤ k → k < l.end → get_or l.stmts (k * 12 + 1) 0 ≡ l.l
+invariant-loop-i l = (k : ℕ) → l.i ≤ k → k < l.end → get_or l.r.stmts.now (k * 12 + 1) 0 ≡ l.l

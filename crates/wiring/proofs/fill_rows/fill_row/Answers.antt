@@ -8,6 +8,7 @@ use Rattle.passes.specs.ReturnSetLaws.{row_part, row_length}
 use Rattle.passes.specs.FillRows.{passes}
 use Rattle.passes.specs.FillRowLaws.{row_left, row_filled, skip_fits}
 use Rattle.graph_laws.specs.EdgeBounds.{Ids}
+use Rattle.wiring.specs.Passes.{are_nexts}
 use Rattle.wiring.proofs.fill_rows.fill_row.Goals as goal
 use Rattle.wiring.proofs.fill_rows.fill_row.Goals.{After-skip_list-count}
 
@@ -15,18 +16,18 @@ use Rattle.wiring.proofs.fill_rows.fill_row.Goals.{After-skip_list-count}
 made : (c : After-skip_list-count) → (c.skip_list-count.result ≤ length c.skip_list-count.new.part) × Ids 4096 (take c.skip_list-count.result c.skip_list-count.new.part)
 unfolding passes
 made c =
-    skip_fits c.args.stmts.now c.args.args.now c.args.entries.now c.args.falls.now c.args.links.now c.args.frames.now c.args.dispatched.now c.args.lines c.args.d c.args.i
-    c.args.part.now _ _ (c.requires.skips (sym c.in_pass.ensures ∙ c.if-not-in_pass.false)) c.skip_list-count.ensures
+    skip_fits c.args.g.now.nodes.records.stmts.now c.args.args.now c.args.g.now.entries.rows.now c.args.g.now.nodes.falls.now c.args.g.now.nodes.links.now c.args.g.now.frames.now c.args.g.now.dispatched.now c.args.g.now.entries.count c.args.g.now.d c.args.i
+    c.args.part.now _ _ (c.requires.ready.skips (rw c.word.ensures at (sym c.in_pass.ensures ∙ c.if-not-in_pass.false))) c.skip_list-count.ensures
 
 pub returns-then-not-in_pass : goal.returns-then-not-in_pass
 unfolding passes
 returns-then-not-in_pass c =
-    row_left c.args.stmts.now c.args.args.now c.args.entries.now c.args.falls.now c.args.links.now c.args.frames.now c.args.dispatched.now c.args.lines c.args.d c.args.i c.args.nexts
-    (sym c.in_pass.ensures ∙ c.if-not-in_pass.true)
+    row_left c.args.g.now.nodes.records.stmts.now c.args.args.now c.args.g.now.entries.rows.now c.args.g.now.nodes.falls.now c.args.g.now.nodes.links.now c.args.g.now.frames.now c.args.g.now.dispatched.now c.args.g.now.entries.count c.args.g.now.d c.args.i (are_nexts c.args.pass)
+    (rw c.word.ensures at (sym c.in_pass.ensures ∙ c.if-not-in_pass.true))
 
-pub skip_list-count-requires : goal.skip_list-count-requires
+pub skip_list-count-requires-clause-ready : goal.skip_list-count-requires-clause-ready
 unfolding passes
-skip_list-count-requires c = c.requires.skips (sym c.in_pass.ensures ∙ c.if-not-in_pass.false)
+skip_list-count-requires-clause-ready c = c.requires.ready.skips (rw c.word.ensures at (sym c.in_pass.ensures ∙ c.if-not-in_pass.false))
 
 pub slice_bounds-put_set-end-2 : goal.slice_bounds-put_set-end-2
 slice_bounds-put_set-end-2 c = (made (goal.at.slice_bounds-put_set-end-2 c).After-skip_list-count).0
@@ -37,11 +38,11 @@ slice_bounds-put_set-end-3 c = sym (length-take-le c.skip_list-count.result c.sk
 pub put_set-requires : goal.put_set-requires
 put_set-requires c =
     let k : c.args.i * 64 + 64 - c.args.i * 64 ≡ 64 = omega arith in
-    (ap length (row_part c.args.args.now c.args.i _ k) ∙ row_length c.args.args.now c.args.i c.requires.fits, (made (goal.at.put_set-requires c).After-skip_list-count).1)
+    (ap length (row_part c.args.args.now c.args.i _ k) ∙ row_length c.args.args.now c.args.i c.requires.ready.fits, (made (goal.at.put_set-requires c).After-skip_list-count).1)
 
 pub returns : goal.returns
 unfolding passes
 returns c =
     let k : c.args.i * 64 + 64 - c.args.i * 64 ≡ 64 = omega arith in
-    row_filled c.args.stmts.now c.args.args.now c.args.entries.now c.args.falls.now c.args.links.now c.args.frames.now c.args.dispatched.now c.args.lines c.args.d c.args.i c.args.nexts
-    c.args.part.now _ _ _ _ (sym c.in_pass.ensures ∙ c.if-not-in_pass.false) k c.requires.fits c.skip_list-count.ensures c.put_set.ensures
+    row_filled c.args.g.now.nodes.records.stmts.now c.args.args.now c.args.g.now.entries.rows.now c.args.g.now.nodes.falls.now c.args.g.now.nodes.links.now c.args.g.now.frames.now c.args.g.now.dispatched.now c.args.g.now.entries.count c.args.g.now.d c.args.i (are_nexts c.args.pass)
+    c.args.part.now _ _ _ _ (rw c.word.ensures at (sym c.in_pass.ensures ∙ c.if-not-in_pass.false)) k c.requires.ready.fits c.skip_list-count.ensures c.put_set.ensures

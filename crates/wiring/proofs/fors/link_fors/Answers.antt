@@ -18,21 +18,21 @@ loop-i-init c =
       refl,
       record { openers = []; held = e; below = omega arith },
       none_noted 512 _ _ _ refl c.all_of-notes.ensures e,
-      going_start c.args.stmts.now c.args.args.now c.args.n c.args.links.now _ e,
+      going_start c.args.r.now.stmts.now c.args.args.now c.args.r.now.n c.args.links.now _ e,
     )
 
 pub loop-i-preserved : goal.loop-i-preserved
 loop-i-preserved c =
-    let e : NodeLinked c.args.stmts.now c.args.args.now c.loop-i.i c.loop-i.s.words c.if-moves_fors.s.words c.loop-i.links c.if-moves_fors.links × (length c.if-moves_fors.links ≡ length c.loop-i.links) × KeysNoted c.args.args.now c.if-moves_fors.notes c.if-moves_fors.s.words
+    let e : NodeLinked c.args.r.now.stmts.now c.args.args.now c.loop-i.i c.loop-i.s.words c.if-moves_fors.s.words c.loop-i.links c.if-moves_fors.links × (length c.if-moves_fors.links ≡ length c.loop-i.links) × KeysNoted c.args.args.now c.if-moves_fors.notes c.if-moves_fors.s.words
     = elim c.if-moves_fors.branch [
       | then-moves_fors w ↦ rw (w.links-is, w.s-is, w.notes-is) (w.link_node-s.ensures.node_linked, search rules, w.link_node-s.ensures.keys_noted_2)
-      | else-moves_fors w ↦ rw (w.links-is, w.s-is, w.notes-is) (node_other _ _ _ _ _ (sym c.moves_fors.ensures ∙ w.if-moves_fors.false), refl, c.loop-i.invariant.2)
+      | else-moves_fors w ↦ rw (w.links-is, w.s-is, w.notes-is) (node_other _ _ _ _ _ (rw c.word.ensures at (sym c.moves_fors.ensures ∙ w.if-moves_fors.false)), refl, c.loop-i.invariant.2)
     ] in (
       e.1 ∙ c.loop-i.invariant.0,
       node_open _ _ _ _ _ _ _ c.loop-i.invariant.1 e.0,
       e.2,
-      going_on c.args.stmts.now c.args.args.now c.args.n c.args.links.now _ _ _ _ c.loop-i.i c.loop-i-test.true (omega (arith, c.requires.n_bound)) (omega (arith, c.requires.n_bound)) c.loop-i.invariant.3 e.0,
+      going_on c.args.r.now.stmts.now c.args.args.now c.args.r.now.n c.args.links.now _ _ _ _ c.loop-i.i c.loop-i-test.true (omega (arith, c.requires.n_bound)) (omega (arith, c.requires.n_bound)) c.loop-i.invariant.3 e.0,
     )
 
 pub returns : goal.returns
-returns c = going_end c.args.stmts.now c.args.args.now c.args.n c.args.links.now _ _ c.loop-i.i (omega arith) (omega arith) c.loop-i.invariant.3
+returns c = going_end c.args.r.now.stmts.now c.args.args.now c.args.r.now.n c.args.links.now _ _ c.loop-i.i (omega arith) (omega arith) c.loop-i.invariant.3

@@ -7,4 +7,4 @@ use Rattle.passes.specs.NotedKeys.{KeysNoted}
 use Rattle.wiring.proofs.fors.link_fors.Given as goal
 
 abbrev pub invariant-loop-i : goal.invariant-loop-i
-invariant-loop-i l = (length l.links ≡ length l.initial.links) × HoldsBelow l.s.words l.i × KeysNoted l.args l.notes l.s.words × GoingOn l.stmts l.args l.n l.initial.links l.s.words l.links l.i
+invariant-loop-i l = (length l.links ≡ length l.initial.links) × HoldsBelow l.s.words l.i × KeysNoted l.args l.notes l.s.words × GoingOn l.r.stmts.now l.args l.r.n l.initial.links l.s.words l.links l.i

@@ -26,5 +26,5 @@ loop-i-preserved c =
       | else-moves-2 w ↦ rw (w.dos-is, w.frames-is) w.join_frame-else-moves-2.ensures
     ] in (
       step-length _ _ _ _ _ _ c.loop-i.invariant.1.dos (do_step) ∙ loop_length ∙ c.loop-i.invariant.0,
-      meeting_next _ _ _ _ _ _ _ _ _ c.loop-i.i _ _ _ c.loop-i-test.true refl c.loop_move-l.ensures c.do_move-d.ensures (omega (arith, c.loop-i.invariant.0, c.requires.n_bound)) (loop_step) (do_step) c.loop-i.invariant.1,
+      meeting_next _ _ _ _ _ _ _ _ _ c.loop-i.i _ _ _ c.loop-i-test.true c.word-word.ensures c.loop_move-l.ensures c.do_move-d.ensures (omega (arith, c.loop-i.invariant.0, c.requires.n_bound)) (loop_step) (do_step) c.loop-i.invariant.1,
     )

@@ -5,4 +5,4 @@ use Rattle.passes.specs.FramePassLaws.{Meeting}
 use Rattle.wiring.proofs.frames.meet_frames.Given as goal
 
 abbrev pub invariant-loop-i : goal.invariant-loop-i
-invariant-loop-i l = (length l.frames ≡ length l.initial.frames) × Meeting l.stmts l.n l.loops.words l.dos.words l.frames l.i
+invariant-loop-i l = (length l.frames ≡ length l.initial.frames) × Meeting l.r.stmts.now l.r.n l.loops.words l.dos.words l.frames l.i

@@ -16,14 +16,14 @@ loop-i-preserved c =
     let room : c.loop-i.i * 64 + 64 ≤ length c.loop-i.links = omega (arith, c.loop-i.invariant.0) in (
       lent_length c.loop-i.links c.link_row.new.links (c.loop-i.i * 64) (c.loop-i.i * 64 + 64 - c.loop-i.i * 64) (omega (arith, room)) c.link_row.auto.links ∙ c.loop-i.invariant.0,
       λ ls ok et sh ah.
-          jumps-lent c.args.entries.now c.args.count c.args.stmts.now c.args.args.now c.args.n ls ok et sh ah _ c.loop-i.links _ c.loop-i.i _ _ w c.loop-i-test.true room
+          jumps-lent c.args.w.now.rows.now c.args.w.now.count c.args.r.now.stmts.now c.args.args.now c.args.r.now.n ls ok et sh ah _ c.loop-i.links _ c.loop-i.i _ _ w c.loop-i-test.true room
           c.jump_count-c.ensures c.link_row.ensures (c.loop-i.invariant.1 ls ok et sh ah),
     )
 
 pub returns : goal.returns
 returns c = λ ls ok et sh ah. jumps_end ls _ _ _ _ sh.counted c.loop-i-test.false (c.loop-i.invariant.1 ls ok et sh ah)
 
-pub link_row-requires-clause-c_in_bounds : goal.link_row-requires-clause-c_in_bounds
-link_row-requires-clause-c_in_bounds c =
+pub link_row-requires : goal.link_row-requires
+link_row-requires c =
     let few : c.jump_count-c.result ≤ 64 = rw c.jump_count-c.ensures (count_few _ _) in
     simp (length-take, length-drop) (omega (arith, few), omega (arith, few, c.loop-i.invariant.0))

@@ -12,5 +12,5 @@ use Rattle.wiring.proofs.jumps.link_jumps.Given as goal
 abbrev pub invariant-loop-i : goal.invariant-loop-i
 invariant-loop-i l =
     (length l.links ≡ length l.initial.links)
-    × ((ls : Lines) → LinesOk ls → EntryTable (definition.entries ls) l.entries l.count → StmtsHeld ls l.stmts l.n → ArgsHeld ls l.args
+    × ((ls : Lines) → LinesOk ls → EntryTable (definition.entries ls) l.w.rows.now l.w.count → StmtsHeld ls l.r.stmts.now l.r.n → ArgsHeld ls l.args
     → l.links ≡ linked (definition.entries ls) l.initial.links 0 (take l.i (definition.nodes ls)))

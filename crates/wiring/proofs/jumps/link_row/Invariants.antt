@@ -8,4 +8,4 @@ use Rattle.graph.specs.Nodes.{Entries}
 use Rattle.wiring.proofs.jumps.link_row.Given as goal
 
 abbrev pub invariant-loop-j : goal.invariant-loop-j
-invariant-loop-j l = (length l.links ≡ length l.initial.links) × ((es : Entries) → EntryTable es l.entries l.count → l.links ≡ sets l.initial.links 0 (link_row es (take l.j l.args)))
+invariant-loop-j l = (length l.links ≡ length l.initial.links) × ((es : Entries) → EntryTable es l.w.rows.now l.w.count → l.links ≡ sets l.initial.links 0 (link_row es (take l.j l.args)))

@@ -7,6 +7,6 @@ use Rattle.wiring.proofs.list_of.add_next.Goals as goal
 
 pub returns : goal.returns
 returns c =
-    let e = next_parts c.args.stmts.now c.args.falls.now c.args.links.now c.args.i c.from-count.result c.from-count.ensures in
+    let e = next_parts c.args.g.now.nodes.records.stmts.now c.args.g.now.nodes.falls.now c.args.g.now.nodes.links.now c.args.i c.count.result c.count.ensures in
     let w = room_next _ _ _ _ (room_as e c.requires.room_to_add) _ _ c.add_popped-r.ensures in
-    grows_as e (grows_both _ _ _ _ _ _ _ _ c.add_popped-r.ensures (grows_within c.add_edge.ensures w))
+    grows_as e (grows_both _ _ _ _ _ _ _ _ c.add_popped-r.ensures (grows_within (rw c.fall.ensures at c.add_edge.ensures) w))

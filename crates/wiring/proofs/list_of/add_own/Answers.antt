@@ -1,5 +1,6 @@
 -- `add_own`: by the word. Assumes nothing.
 use borrow.Author.Rules.{rules}
+use mathlib.Core.Path.{sym, ◌∙◌}
 use native.Mathlib.Omega.{arith}
 use Rattle.passes.specs.AddRoom.{room_as, grows_as}
 use Rattle.passes.specs.NodeListLaws.{own_branches, own-run, own_jump, own_next, own_any, own_block_lem}
@@ -8,35 +9,35 @@ use Rattle.wiring.proofs.list_of.add_own.Goals as goal
 
 pub returns-in-0-to-6 : goal.returns-in-0-to-6
 returns-in-0-to-6 c =
-    let e = own_branches c.args.stmts.now c.args.entries.now c.args.falls.now c.args.links.now c.args.frames.now c.args.lines c.args.i (search rules) in
-    grows_as e (grows_within c.add_targets.ensures (room_as e c.requires.room))
+    let e = own_branches c.args.g.now.nodes.records.stmts.now c.args.g.now.entries.rows.now c.args.g.now.nodes.falls.now c.args.g.now.nodes.links.now c.args.g.now.frames.now c.args.g.now.entries.count c.args.i (search rules) in
+    grows_as e (grows_within c.add_targets.ensures (room_as e c.requires.ready.room))
 
 pub add_run-requires-clause-room_to_add : goal.add_run-requires-clause-room_to_add
-add_run-requires-clause-room_to_add c = room_as (own-run c.args.stmts.now c.args.entries.now c.args.falls.now c.args.links.now c.args.frames.now c.args.lines c.args.i (omega (arith, c.in-10.is)) c.in-10.is) c.requires.room
+add_run-requires-clause-room_to_add c = room_as (own-run c.args.g.now.nodes.records.stmts.now c.args.g.now.entries.rows.now c.args.g.now.nodes.falls.now c.args.g.now.nodes.links.now c.args.g.now.frames.now c.args.g.now.entries.count c.args.i (omega (arith, c.word-word.ensures, c.in-10.is)) (sym c.word-word.ensures ∙ c.in-10.is)) c.requires.ready.room
 
 pub returns-in-10 : goal.returns-in-10
-returns-in-10 c = grows_as (own-run c.args.stmts.now c.args.entries.now c.args.falls.now c.args.links.now c.args.frames.now c.args.lines c.args.i (omega (arith, c.in-10.is)) c.in-10.is) c.add_run.ensures
+returns-in-10 c = grows_as (own-run c.args.g.now.nodes.records.stmts.now c.args.g.now.entries.rows.now c.args.g.now.nodes.falls.now c.args.g.now.nodes.links.now c.args.g.now.frames.now c.args.g.now.entries.count c.args.i (omega (arith, c.word-word.ensures, c.in-10.is)) (sym c.word-word.ensures ∙ c.in-10.is)) c.add_run.ensures
 
 pub returns-in-0-to-12 : goal.returns-in-0-to-12
 returns-in-0-to-12 c =
-    let e = own_jump c.args.stmts.now c.args.entries.now c.args.falls.now c.args.links.now c.args.frames.now c.args.lines c.args.i (search rules) (search rules) (search rules) in
-    let j = jump_is c.args.stmts.now c.args.falls.now c.args.links.now c.args.i (fits_jump c.args.stmts.now c.args.falls.now c.args.links.now c.args.i c.requires.stmts c.requires.falls c.requires.links (c.requires.few (search rules))) in
-    grows_as e (grows_within (within_as j c.add_jump.ensures) (room_as e c.requires.room))
+    let e = own_jump c.args.g.now.nodes.records.stmts.now c.args.g.now.entries.rows.now c.args.g.now.nodes.falls.now c.args.g.now.nodes.links.now c.args.g.now.frames.now c.args.g.now.entries.count c.args.i (search rules) (search rules) (search rules) in
+    let j = jump_is c.args.g.now.nodes.records.stmts.now c.args.g.now.nodes.falls.now c.args.g.now.nodes.links.now c.args.i (fits_jump c.args.g.now.nodes.records.stmts.now c.args.g.now.nodes.falls.now c.args.g.now.nodes.links.now c.args.i c.requires.ready.stmts c.requires.ready.falls c.requires.ready.links (c.requires.ready.few (search rules))) in
+    grows_as e (grows_within (within_as j c.add_jump.ensures) (room_as e c.requires.ready.room))
 
 pub add_next-requires-clause-room_to_add : goal.add_next-requires-clause-room_to_add
-add_next-requires-clause-room_to_add c = let e = c.in-14.is in room_as (own_next c.args.stmts.now c.args.entries.now c.args.falls.now c.args.links.now c.args.frames.now c.args.lines c.args.i (omega arith) (omega arith) (omega arith) e) c.requires.room
+add_next-requires-clause-room_to_add c = let e = sym c.word-word.ensures ∙ c.in-14.is in room_as (own_next c.args.g.now.nodes.records.stmts.now c.args.g.now.entries.rows.now c.args.g.now.nodes.falls.now c.args.g.now.nodes.links.now c.args.g.now.frames.now c.args.g.now.entries.count c.args.i (omega arith) (omega arith) (omega arith) e) c.requires.ready.room
 
 pub returns-in-14 : goal.returns-in-14
-returns-in-14 c = let e = c.in-14.is in grows_as (own_next c.args.stmts.now c.args.entries.now c.args.falls.now c.args.links.now c.args.frames.now c.args.lines c.args.i (omega arith) (omega arith) (omega arith) e) c.add_next.ensures
+returns-in-14 c = let e = sym c.word-word.ensures ∙ c.in-14.is in grows_as (own_next c.args.g.now.nodes.records.stmts.now c.args.g.now.entries.rows.now c.args.g.now.nodes.falls.now c.args.g.now.nodes.links.now c.args.g.now.frames.now c.args.g.now.entries.count c.args.i (omega arith) (omega arith) (omega arith) e) c.add_next.ensures
 
 pub all_line_entry_nodes-requires : goal.all_line_entry_nodes-requires
-all_line_entry_nodes-requires c = let e = c.in-26.is in (c.requires.entries, room_as (own_any c.args.stmts.now c.args.entries.now c.args.falls.now c.args.links.now c.args.frames.now c.args.lines c.args.i (omega arith) (omega arith) (omega arith) e) c.requires.room, c.requires.rises)
+all_line_entry_nodes-requires c = let e = sym c.word-word.ensures ∙ c.in-26.is in (room_as (own_any c.args.g.now.nodes.records.stmts.now c.args.g.now.entries.rows.now c.args.g.now.nodes.falls.now c.args.g.now.nodes.links.now c.args.g.now.frames.now c.args.g.now.entries.count c.args.i (omega arith) (omega arith) (omega arith) e) c.requires.ready.room, c.requires.ready.rises)
 
 pub returns-in-26 : goal.returns-in-26
-returns-in-26 c = let e = c.in-26.is in grows_as (own_any c.args.stmts.now c.args.entries.now c.args.falls.now c.args.links.now c.args.frames.now c.args.lines c.args.i (omega arith) (omega arith) (omega arith) e) c.all_line_entry_nodes.ensures
+returns-in-26 c = let e = sym c.word-word.ensures ∙ c.in-26.is in grows_as (own_any c.args.g.now.nodes.records.stmts.now c.args.g.now.entries.rows.now c.args.g.now.nodes.falls.now c.args.g.now.nodes.links.now c.args.g.now.frames.now c.args.g.now.entries.count c.args.i (omega arith) (omega arith) (omega arith) e) c.all_line_entry_nodes.ensures
 
 pub add_block-requires-clause-room_to_add : goal.add_block-requires-clause-room_to_add
-add_block-requires-clause-room_to_add c = room_as (own_block_lem c.args.stmts.now c.args.entries.now c.args.falls.now c.args.links.now c.args.frames.now c.args.lines c.args.i (search rules) (search rules) (search rules) (search rules) (search rules)) c.requires.room
+add_block-requires-clause-room_to_add c = rw c.word-word.ensures (room_as (own_block_lem c.args.g.now.nodes.records.stmts.now c.args.g.now.entries.rows.now c.args.g.now.nodes.falls.now c.args.g.now.nodes.links.now c.args.g.now.frames.now c.args.g.now.entries.count c.args.i (search rules) (search rules) (search rules) (search rules) (search rules)) c.requires.ready.room)
 
 pub returns-in_default : goal.returns-in_default
-returns-in_default c = grows_as (own_block_lem c.args.stmts.now c.args.entries.now c.args.falls.now c.args.links.now c.args.frames.now c.args.lines c.args.i (search rules) (search rules) (search rules) (search rules) (search rules)) c.add_block.ensures
+returns-in_default c = grows_as (own_block_lem c.args.g.now.nodes.records.stmts.now c.args.g.now.entries.rows.now c.args.g.now.nodes.falls.now c.args.g.now.nodes.links.now c.args.g.now.frames.now c.args.g.now.entries.count c.args.i (search rules) (search rules) (search rules) (search rules) (search rules)) (rw c.word-word.ensures at c.add_block.ensures)

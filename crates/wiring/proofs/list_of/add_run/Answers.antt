@@ -5,12 +5,12 @@ use Rattle.storing.specs.AddWithin.{grows_within}
 use Rattle.wiring.proofs.list_of.add_run.Goals as goal
 
 pub add_first-requires : goal.add_first-requires
-add_first-requires c = (c.requires.i_in_bounds.1, room_as (run-first c.args.stmts.now c.args.entries.now c.args.links.now c.args.lines c.args.i c.from-count.result c.from-count.ensures c.if-count-eq0.true) c.requires.room_to_add)
+add_first-requires c = room_as (run-first c.args.g.now.nodes.records.stmts.now c.args.g.now.entries.rows.now c.args.g.now.nodes.links.now c.args.g.now.entries.count c.args.i c.count-count.result c.count-count.ensures c.if-count-eq0.true) c.requires.room_to_add
 
 pub returns-then-count-eq0 : goal.returns-then-count-eq0
-returns-then-count-eq0 c = grows_as (run-first c.args.stmts.now c.args.entries.now c.args.links.now c.args.lines c.args.i c.from-count.result c.from-count.ensures c.if-count-eq0.true) c.add_first.ensures
+returns-then-count-eq0 c = grows_as (run-first c.args.g.now.nodes.records.stmts.now c.args.g.now.entries.rows.now c.args.g.now.nodes.links.now c.args.g.now.entries.count c.args.i c.count-count.result c.count-count.ensures c.if-count-eq0.true) c.add_first.ensures
 
 pub returns : goal.returns
 returns c =
-    let e = run_target c.args.stmts.now c.args.entries.now c.args.links.now c.args.lines c.args.i c.from-count.result c.from-count.ensures c.if-count-eq0.false in
+    let e = run_target c.args.g.now.nodes.records.stmts.now c.args.g.now.entries.rows.now c.args.g.now.nodes.links.now c.args.g.now.entries.count c.args.i c.count-count.result c.count-count.ensures c.if-count-eq0.false in
     grows_as e (grows_within c.add_targets.ensures (room_as e c.requires.room_to_add))

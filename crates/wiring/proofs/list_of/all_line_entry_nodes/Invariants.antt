@@ -9,4 +9,4 @@ use Rattle.passes.specs.EntryOrder.{Rises, LastAdded}
 use Rattle.wiring.proofs.list_of.all_line_entry_nodes.Given as goal
 
 abbrev pub invariant-loop-k : goal.invariant-loop-k
-invariant-loop-k l = (length l.part ≡ length l.initial.part) × Grows l.initial.part 0 l.part l.n (each decode (take l.k (entry_column 1 l.rows l.entries))) × LastAdded l.part l.n l.last × Rises l.last (drop l.k (entry_column 1 l.rows l.entries))
+invariant-loop-k l = (length l.part ≡ length l.initial.part) × Grows l.initial.part 0 l.part l.n (each decode (take l.k (entry_column 1 l.w.count l.w.rows.now))) × LastAdded l.part l.n l.last × Rises l.last (drop l.k (entry_column 1 l.w.count l.w.rows.now))

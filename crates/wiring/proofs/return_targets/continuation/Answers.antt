@@ -6,9 +6,9 @@ use Rattle.wiring.proofs.return_targets.continuation.Goals as goal
 pub returns-then-is_call : goal.returns-then-is_call
 returns-then-is_call c =
     let a = c.args in
-    continuation_call a.stmts.now a.falls.now a.i (sym c.is_call.ensures ∙ c.if-is_call.true)
+    c.fall.ensures ∙ continuation_call a.g.now.nodes.records.stmts.now a.g.now.nodes.falls.now a.i (rw c.word.ensures at (sym c.is_call.ensures ∙ c.if-is_call.true))
 
 pub returns : goal.returns
 returns c =
     let a = c.args in
-    continuation-none a.stmts.now a.falls.now a.i (sym c.is_call.ensures ∙ c.if-is_call.false)
+    continuation-none a.g.now.nodes.records.stmts.now a.g.now.nodes.falls.now a.i (rw c.word.ensures at (sym c.is_call.ensures ∙ c.if-is_call.false))

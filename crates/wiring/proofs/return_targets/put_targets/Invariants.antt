@@ -6,4 +6,4 @@ use Rattle.passes.specs.ReturnTargets.{TargetsAdded}
 use Rattle.wiring.proofs.return_targets.put_targets.Given as goal
 
 abbrev pub invariant-loop-i : goal.invariant-loop-i
-invariant-loop-i l = (l.k ≤ l.i) × TargetsAdded 4096 (each (continuation_entry l.stmts l.falls) (below l.i)) l.initial.returns 0 l.marks l.returns l.k
+invariant-loop-i l = (l.k ≤ l.i) × TargetsAdded 4096 (each (continuation_entry l.g.nodes.records.stmts.now l.g.nodes.falls.now) (below l.i)) l.initial.returns 0 l.marks l.returns l.k

@@ -5,13 +5,13 @@ use Rattle.storing.specs.Appending.{answered_appended}
 use Rattle.wiring.proofs.skip_lists.store_skip_list.Goals as goal
 
 pub overflow_add-total : goal.overflow_add-total
-overflow_add-total c = omega (arith, skip_total c.requires c.list_of-count.ensures, c.requires.node, c.requires.roles.few)
+overflow_add-total c = omega (arith, skip_total c.requires.ready c.list_of-count.ensures, c.requires.ready.node, c.requires.ready.roles.few)
 
 pub returns-then-total-gt-MAX_EDGES : goal.returns-then-total-gt-MAX_EDGES
-returns-then-total-gt-MAX_EDGES c = skip_over c.requires c.list_of-count.ensures c.if-total-gt-MAX_EDGES.true
+returns-then-total-gt-MAX_EDGES c = skip_over c.requires.ready c.list_of-count.ensures c.if-total-gt-MAX_EDGES.true
 
 pub skip_list-kept-requires : goal.skip_list-kept-requires
-skip_list-kept-requires c = skip_room c.requires c.list_of-count.ensures
+skip_list-kept-requires c = let s = skip_room c.requires.ready c.list_of-count.ensures in (c.requires.in_bounds, s.3, s.4)
 
 pub returns : goal.returns
-returns c = skip_store c.requires c.list_of-count.ensures c.skip_list-kept.ensures (answered_appended _ (list-kept c.skip_list-kept.ensures) (skip_fits c.requires c.list_of-count.ensures c.skip_list-kept.ensures c.if-total-gt-MAX_EDGES.false) c.append_list-at.ensures)
+returns c = skip_store c.requires.ready c.list_of-count.ensures c.skip_list-kept.ensures (answered_appended _ (list-kept c.skip_list-kept.ensures) (skip_fits c.requires.ready c.list_of-count.ensures c.skip_list-kept.ensures c.if-total-gt-MAX_EDGES.false) c.append_list-at.ensures)

@@ -9,11 +9,11 @@ use Rattle.wiring.proofs.skip_lists.store_skip_lists.Goals as goal
 pub loop-i-init : goal.loop-i-init
 loop-i-init c = (refl, refl, refl, omega arith, λ L p r. skips_none (wire L) c.args.lists.now c.args.scratch.now)
 
-pub store_skip_list-e-requires : goal.store_skip_list-e-requires
-store_skip_list-e-requires c =
+pub store_skip_list-e-requires-clause-ready : goal.store_skip_list-e-requires-clause-ready
+store_skip_list-e-requires-clause-ready c =
     record {
       listing = c.requires.listing;
-      nodes = c.args.n;
+      nodes = c.args.g.now.nodes.records.n;
       prepared = c.requires.prepared;
       roles = c.requires.roles;
       node = c.loop-i-test.true;
@@ -33,11 +33,11 @@ loop-i-preserved c =
       search rules,
       search rules,
       search rules,
-      omega (arith, l.invariant.3, (m q.listing c.args.n q.prepared q.roles h).few),
-      λ L p r. skips_more r (l.invariant.4 L p r) q.rows h (m L c.args.n p r h),
+      omega (arith, l.invariant.3, (m q.listing c.args.g.now.nodes.records.n q.prepared q.roles h).few),
+      λ L p r. skips_more r (l.invariant.4 L p r) q.rows h (m L c.args.g.now.nodes.records.n p r h),
     )
 
 pub returns : goal.returns
 returns c =
-    let e : c.loop-i.i ≡ c.args.n = omega arith in
+    let e : c.loop-i.i ≡ c.args.g.now.nodes.records.n = omega arith in
     λ L p r. skips_done e c.loop-i.invariant.0 c.loop-i.invariant.1 (c.loop-i.invariant.4 L p r)

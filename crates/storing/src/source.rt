@@ -1,0 +1,20 @@
+// What a graph is written from, and is only read while it is written.
+ghost use Rattle.std.specs.Prelude.{◌≡◌, true, ◌≤◌, length};
+
+use tables::nodes::Nodes;
+
+// n nodes with so many rows of entries. In scratch stands each node's own list; a RETURN goes with handlers to the first `targets` of
+// `returns`, without them to its set.
+// Kept: `handlers` beside `targets`, since the count of targets goes into the graph without handlers too; an enum would hold it twice.
+#[derive(Clone, Copy)]
+pub(crate) struct Source<'a> {
+    pub handlers: bool,
+    pub nodes: Nodes<'a>,
+    pub rows: usize,
+    pub scratch: &'a [u16],
+    pub returns: &'a [u16],
+    pub targets: usize,
+    pub ghost few_rows: { rows ≤ 1024 },
+    pub ghost few_targets: { targets ≤ 4096 },
+    pub ghost in_returns: { handlers ≡ true → targets ≤ length returns.now },
+}
