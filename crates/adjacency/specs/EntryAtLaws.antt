@@ -1,5 +1,7 @@
 -- Laws of the question for a line's entry, as code answers it. Assumes nothing.
-use Rattle.std.specs.Prelude.{ℕ, zero, suc, ◌+◌, ◌*◌, ◌<◌, ◌≤◌, ◌≡◌, List, [], ◌∷◌, length, get_or}
+use Rattle.std.specs.Prelude.{ℕ, zero, suc, ◌+◌, ◌-◌, ◌*◌, ◌<◌, ◌≤◌, ◌≡◌, List, [], ◌∷◌, length, get_or}
+use Rattle.std.specs.Prelude as std
+use Rattle.std.specs.Option.{SomeIff}
 use Rattle.std.proofs.Math.Path.{refl, sym, ap}
 use Rattle.std.proofs.Common.{◌∙◌, arith}
 use Rattle.std.proofs.Math.Option.{none, some}
@@ -9,7 +11,7 @@ use Rattle.graph.specs.Nodes.{entry_in}
 use Rattle.tables.specs.Columns.{entry_node}
 use Rattle.tables.specs.EntryRows.{entries_in}
 use Rattle.graph.specs.Questions.{answer, refused}
-use Rattle.adjacency.specs.EntryAt.{node_in, entry_at}
+use Rattle.adjacency.specs.EntryAt.{node_in, entry_at, node_of}
 
 -- ---- the search, from the front
 
@@ -47,6 +49,13 @@ none_found (suc n) (m ∷ d ∷ t) number zero h f = absurd (omega arith)
 none_found (suc n) (m ∷ d ∷ t) number (suc i) h f =
     rw (ne_eqb m number (f 0 (omega arith))) (none_found n t number i (omega arith) (behind m d t number i f))
 
+-- a row's entry is one more than its node, or 0
+pub entry_less : (e : ℕ) (r : std.Option ℕ) → SomeIff r (1 ≤ e) (e - 1) → node_of r ≡ entry_node e
+entry_less zero std.None h = refl
+entry_less zero (std.Some i) h = absurd (omega (arith, h.0))
+entry_less (suc e) std.None h = absurd (h (omega arith))
+entry_less (suc e) (std.Some i) h = let z : i ≡ e = omega (arith, h.1) in ap some z
+
 -- ---- as the code answers
 
 module _ (counts entries : List ℕ) (number rows : ℕ) (c : rows ≡ get_or counts 5 0) where
@@ -54,20 +63,20 @@ module _ (counts entries : List ℕ) (number rows : ℕ) (c : rows ≡ get_or co
   unfolding entry_at
   rows-outside h = rw (lt-leb (get_or counts 5 0 * 2) (length entries) (omega arith)) refl
 
-  module _ (b : rows * 2 ≤ length entries) (e : ℕ) (f : entry_node e ≡ entry_in (entries_in rows entries) number) where
-    entry_by : (k : ℕ) → e ≡ k → entry_at counts entries number ≡ node_in (get_or counts 1 0) (entry_node k)
+  module _ (b : rows * 2 ≤ length entries) (r : std.Option ℕ) (f : node_of r ≡ entry_in (entries_in rows entries) number) where
+    entry_by : (k : std.Option ℕ) → r ≡ k → entry_at counts entries number ≡ node_in (get_or counts 1 0) (node_of k)
     unfolding entry_at
     entry_by k z = rw (← z, le-leb (get_or counts 5 0 * 2) (length entries) (omega arith), ← c, ← f) refl
 
-    pub entered_nowhere : e ≡ 0 → answer none ≡ entry_at counts entries number
+    pub entered_nowhere : r ≡ std.None → answer none ≡ entry_at counts entries number
     unfolding node_in
-    entered_nowhere z = sym (entry_by 0 z)
+    entered_nowhere z = sym (entry_by std.None z)
 
-    module _ (i : ℕ) (z : e ≡ suc i) (nodes : ℕ) (n : nodes ≡ get_or counts 1 0) where
+    module _ (i : ℕ) (z : r ≡ std.Some i) (nodes : ℕ) (n : nodes ≡ get_or counts 1 0) where
       pub entry_outside : nodes ≤ i → refused 25 0 ≡ entry_at counts entries number
       unfolding node_in
-      entry_outside h = rw (entry_by (suc i) z, ← n, le-ltb i nodes h) refl
+      entry_outside h = rw (entry_by (std.Some i) z, ← n, le-ltb i nodes h) refl
 
       pub entered_node : i < nodes → answer (some i) ≡ entry_at counts entries number
       unfolding node_in
-      entered_node h = rw (entry_by (suc i) z, ← n, lt-ltb i nodes h) refl
+      entered_node h = rw (entry_by (std.Some i) z, ← n, lt-ltb i nodes h) refl

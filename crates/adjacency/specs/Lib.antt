@@ -1,4 +1,5 @@
 pub mod ListsAt
 pub mod ListsAtLaws
+pub mod Sides
 pub mod EntryAt
 pub mod EntryAtLaws

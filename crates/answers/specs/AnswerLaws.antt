@@ -6,7 +6,7 @@ use borrow.Author.Tests.{le-leb, lt-leb}
 use Rattle.listings.specs.Bytes.{bytes, pick}
 use Rattle.listings.specs.Listing.{Name}
 use Rattle.listings.specs.Records.{padded}
-use Rattle.listings.specs.Rows.{split, row_of, Parse, malformed, invalid, parsed, map_parse, with_parse, parse_number, parse_numbers, or_malformed, lookup, handler_facts, single}
+use Rattle.listings.specs.Rows.{split, row_of, Parse, malformed, invalid, parsed, map_parse, with_parse, parse_number, parse_numbers, single}
 use Rattle.listings.specs.Read.{taken, or_refused, check}
 use Rattle.listings.specs.Scan.{split-some}
 use Rattle.layout.specs.declared.refusals.Reason.{Reason}
@@ -15,7 +15,7 @@ use Rattle.layout.specs.declared.refusals.Refusal.{Refusal}
 use Rattle.layout.specs.Refusals.{number_of, refusal_at}
 use Rattle.tokens.specs.Numbers.{as_number}
 use Rattle.tokens.specs.declared.arguments.Checked.{Checked}
-use Rattle.tokens.specs.Arguments.{Verdict, checked, verdict, verdict_number, refusal_by, lowest, lowest_of, refusal_with, numbers_refusal}
+use Rattle.tokens.specs.Arguments.{checked, verdict, verdict_number, refusal_by, lowest, lowest_of, refusal_with, numbers_refusal}
 use Rattle.reader.specs.Operands.{number_entry, entry_by}
 use Rattle.graph.specs.Print.{printed_refusal}
 use Rattle.formatting.specs.Pages.{Wrote, wrote_is}
@@ -23,14 +23,11 @@ use Rattle.formatting.specs.declared.page.Page.{Page}
 use Rattle.graph.specs.Questions.{Reply, answer}
 use Rattle.frame_lists.specs.FrameAt.{frame_at}
 use Rattle.frame_slices.specs.FrameAnswer.{FrameAnswered, length_of, slice_after}
-use Rattle.statements.specs.StatementAt.{path_statement}
-use Rattle.tables.specs.Told.{told}
-use Rattle.answers.specs.Flowask.{Question, of_path, of_frame, by_path, by_frame, path_question, frame_question, form_question, row_question, path_length, short, question, list_row, reply_row, outcome_row, row_answer}
-use Rattle.answers.specs.AnswersAt.{path_answer, frame_answer, number_answer, number_answer_lem, number_question, answer_at, stated_row, stated_row_lem}
-use Rattle.answers.specs.QuestionWords.{form_at, FrameRead}
-use Rattle.answers.specs.declared.words.Form.{Form}
-use Rattle.answers.specs.declared.words.Form.TheVariants as form
-use Rattle.answers.specs.declared.words.FrameWords.{FrameWords}
+use Rattle.answers.specs.Flowask.{Question, of_path, of_frame, by_number, path_question, form_question, row_question, path_length, short, question, list_row, reply_row, outcome_row, row_answer}
+use Rattle.answers.specs.AnswersAt.{frame_answer}
+use Rattle.answers.specs.QuestionWords.{number_question}
+use Rattle.answers.specs.declared.words.ByNumber.{ByNumber}
+use Rattle.answers.specs.declared.words.ByNumber.TheVariants as of
 
 -- ---- the frame list in the room for it
 
@@ -126,7 +123,7 @@ module _ (f : Question → List ℕ) (k : ℕ) where
   refused_by invalid r e = ap (λ (m : ℕ). printed_refusal m k) (verdict_number {A = Question} invalid r e)
   refused_by (parsed q) r e = cc
 
-  asked_frame : (p : Parse Question) (h i : ℕ) (v : Name) (g : Bool) → p ≡ parsed (of_frame h i v g) → f (of_frame h i v g) ≡ outcome_row f k (or_refused p short)
+  pub asked_frame : (p : Parse Question) (h i : ℕ) (v : Name) (g : Bool) → p ≡ parsed (of_frame h i v g) → f (of_frame h i v g) ≡ outcome_row f k (or_refused p short)
   unfolding outcome_row or_refused short check path_length
   asked_frame p h i v g e = rw e
 
@@ -170,117 +167,45 @@ module _ (f : Question → List ℕ) (k : ℕ) where
       pub path_answered : x.count ≤ 65 → f (of_path (get_or (map (entry_by false) (split 32 s)) 0 0) (drop 1 (map (entry_by false) (split 32 s)))) ≡ outcome_row f k (or_refused (path_question (split 32 s)) short)
       path_answered m = sym (asked_path (path_question ws) (get_or ns 0 0) (drop 1 ns) parsed_is ∙ ap (λ (t : Bool). pick t (f (of_path (get_or ns 0 0) (drop 1 ns))) (printed_refusal 8 k)) (le-leb (length (drop 1 ns)) 64 (omega (arith, long))))
 
--- a frame question's answer; x, y: header and node as they are handed on
-pub frame_answered : (c t a f i u : List ℕ) (k : ℕ) (s : List ℕ) (w : FrameWords) (x y : ℕ) {p q : Page} → FrameRead s (Ok w) → x ≡ w.header → y ≡ w.node
-    → Wrote p q (frame_answer c t a f i u x y (take (w.end - w.start) (drop w.start s)) w.flag) → Wrote p q (outcome_row (answer_at c t a [] f i u []) k (or_refused (frame_question (split 32 s)) short))
-unfolding answer_at
-frame_answered c t a f i u k s w x y d p q z =
-    let v = take (w.end - w.start) (drop w.start s) in
-    wrote_is
-    (ap (λ (m : ℕ). frame_answer c t a f i u m y v w.flag) p
-    ∙ ap (λ (m : ℕ). frame_answer c t a f i u w.header m v w.flag) q
-    ∙ asked_frame (answer_at c t a [] f i u []) k (frame_question (split 32 s)) w.header w.node v w.flag d.2)
-    z
+-- the numbers in the room for them
+pub front_is : (ns r xs : List ℕ) (n : ℕ) → xs ≡ ns ++ r → n ≡ length ns → take n xs ≡ ns
+front_is ns r xs n e q = rw (e, q) (take_at ns r (length ns) refl)
 
--- ---- the numbers in the room for them
+-- ---- a question of one number
 
-pub path_room : (ns r t : List ℕ) (n : ℕ) → t ≡ ns ++ r → n ≡ length ns → 0 < n → (get_or t 0 0 ≡ get_or ns 0 0) × (take (n - 1) (drop 1 t) ≡ drop 1 ns)
-path_room [] r t n e q h = absurd (omega arith)
-path_room (x ∷ ns) r t n e q h =
-    let m : n - 1 ≡ length ns = omega arith in
-    (ap (λ (z : List ℕ). get_or z 0 0) e, ap (λ (z : List ℕ). take (n - 1) (drop 1 z)) e ∙ ap (λ (z : ℕ). take z (ns ++ r)) m ∙ take_at ns r (length ns) refl)
-
-pub path_put : (c t ns r xs : List ℕ) (n x : ℕ) (a : Result (ℕ × ℕ) Refusal) → xs ≡ ns ++ r → n ≡ length ns → 0 < n → x ≡ get_or xs 0 0 → told a ≡ path_statement c t x (take (n - 1) (drop 1 xs))
-    → stated_row a ≡ path_answer c t (get_or ns 0 0) (drop 1 ns)
-unfolding path_answer
-path_put c t ns r xs n x a e q h y z =
-    let d = path_room ns r xs n e q h in
-    stated_row_lem (path_statement c t x (take (n - 1) (drop 1 xs))) a z ∙ ap (λ (l : ℕ). path_answer c t l (take (n - 1) (drop 1 xs))) (y ∙ d.0) ∙ ap (path_answer c t (get_or ns 0 0)) d.1
-
--- ---- by the opening word: tables that a question does not read do not matter
-
-module _ (c t a e f i u p : List ℕ) (k : ℕ) (s : List ℕ) where
-  pub by_path_lem : outcome_row (answer_at c t [] [] [] [] [] []) k (or_refused (path_question (split 32 s)) short) ≡ outcome_row (answer_at c t a e f i u p) k (or_refused (form_question by_path (split 32 s)) short)
-  unfolding form_question answer_at outcome_row or_refused
-  by_path_lem = go (path_question (split 32 s)) refl
+module _ (f : Question → List ℕ) (k : ℕ) (s : List ℕ) (w : ByNumber) where
+  pub number_refused : (x : Result ℕ Reason) (r : Reason) → x ≡ as_number (single (split 32 s)) → x ≡ Err r
+      → printed_refusal (number_of r) k ≡ outcome_row f k (or_refused (form_question (by_number (number_question w)) (split 32 s)) short)
+  unfolding form_question map_parse
+  number_refused x r q h =
+      refused_by f k (map_parse (number_question w) (single (split 32 s))) r (go (single (split 32 s)) (sym q ∙ h))
     where
-      go : (r : Parse Question) → path_question (split 32 s) ≡ r → outcome_row (answer_at c t [] [] [] [] [] []) k (or_refused r short) ≡ outcome_row (answer_at c t a e f i u p) k (or_refused r short)
-      go malformed q = refl
-      go invalid q = refl
-      go (parsed x) q =
-          let d = ap parsed (path_is (split 32 s) x q) in
-          asked_path (answer_at c t [] [] [] [] [] []) k (parsed x) _ _ d ∙ sym (asked_path (answer_at c t a e f i u p) k (parsed x) _ _ d)
+      go : (g : Parse ℕ) → as_number g ≡ Err r → verdict (map_parse (number_question w) g) ≡ Err r
+      go malformed y = let z : reason.NotAForm ≡ r = cc in ap Err z
+      go invalid y = let z : reason.BadWord ≡ r = cc in ap Err z
+      go (parsed v) y = cc
 
-  frame_is : (ws : List (List ℕ)) (q : Question) → frame_question ws ≡ parsed q → (h n : ℕ) × (v : Name) × (g : Bool) × (q ≡ of_frame h n v g)
-  unfolding frame_question
-  frame_is [] q x = absurd (let z : ◌≡◌ {A = ℕ} 0 1 = cc in omega arith)
-  frame_is (h ∷ []) q x = absurd (let z : ◌≡◌ {A = ℕ} 0 1 = cc in omega arith)
-  frame_is (h ∷ j ∷ []) q x = absurd (let z : ◌≡◌ {A = ℕ} 0 1 = cc in omega arith)
-  frame_is (h ∷ j ∷ v ∷ []) q x = absurd (let z : ◌≡◌ {A = ℕ} 0 1 = cc in omega arith)
-  frame_is (h ∷ j ∷ v ∷ g ∷ []) q x =
-      let d = with_parsed (λ (d : ℕ × ℕ) (flag : Bool). of_frame d.0 d.1 v flag) (with_parse (λ y z. (y, z)) (parse_number h) (parse_number j)) (or_malformed (lookup handler_facts g)) q x in
-      (d.0.0, d.0.1, v, d.1, d.4)
-  frame_is (h ∷ j ∷ v ∷ g ∷ y ∷ ws) q x = absurd (let z : ◌≡◌ {A = ℕ} 0 1 = cc in omega arith)
+  no_path : (w : ByNumber) (n : ℕ) → path_length (number_question w n) ≡ 0
+  unfolding path_length
+  no_path of.Successors n = refl
+  no_path of.Predecessors n = refl
+  no_path of.Statement n = refl
+  no_path of.Entry n = refl
 
-  pub by_frame_lem : outcome_row (answer_at c t a [] f i u []) k (or_refused (frame_question (split 32 s)) short) ≡ outcome_row (answer_at c t a e f i u p) k (or_refused (form_question by_frame (split 32 s)) short)
-  unfolding form_question answer_at outcome_row or_refused
-  by_frame_lem = go (frame_question (split 32 s)) refl
+  taken_number : (r : Parse Question) (n : ℕ) → r ≡ parsed (number_question w n) → outcome_row f k (or_refused r short) ≡ f (number_question w n)
+  unfolding outcome_row or_refused short check
+  taken_number r n q = rw (q, no_path w n)
+
+  pub number_answered : (x : Result ℕ Reason) (n : ℕ) → x ≡ as_number (single (split 32 s)) → x ≡ Ok n
+      → f (number_question w n) ≡ outcome_row f k (or_refused (form_question (by_number (number_question w)) (split 32 s)) short)
+  unfolding form_question map_parse
+  number_answered x n q h =
+      sym (taken_number (map_parse (number_question w) (single (split 32 s))) n (go (single (split 32 s)) (sym q ∙ h)))
     where
-      go : (r : Parse Question) → frame_question (split 32 s) ≡ r → outcome_row (answer_at c t a [] f i u []) k (or_refused r short) ≡ outcome_row (answer_at c t a e f i u p) k (or_refused r short)
-      go malformed q = refl
-      go invalid q = refl
-      go (parsed x) q =
-          let d = frame_is (split 32 s) x q in
-          let m = ap parsed d.4 in
-          sym (asked_frame (answer_at c t a [] f i u []) k (parsed x) d.0 d.1 d.2 d.3 m) ∙ asked_frame (answer_at c t a e f i u p) k (parsed x) d.0 d.1 d.2 d.3 m
-
-  module _ (w : Form) (other : w ≡ form.Path → ⊥) (no_frame : w ≡ form.Frame → ⊥) where
-    by_number_lem : form_question (form_at w) (split 32 s) ≡ map_parse (number_question w) (single (split 32 s))
-    unfolding form_question
-    by_number_lem = go w other no_frame
-      where
-        go : (w : Form) → (w ≡ form.Path → ⊥) → (w ≡ form.Frame → ⊥) → form_question (form_at w) (split 32 s) ≡ map_parse (number_question w) (single (split 32 s))
-        go form.Successors x y = refl
-        go form.Predecessors x y = refl
-        go form.Statement x y = refl
-        go form.Entry x y = refl
-        go form.Path x y = absurd (x refl)
-        go form.Frame x y = absurd (y refl)
-
-    pub number_refused : (x : Result ℕ Reason) (r : Reason) → x ≡ as_number (single (split 32 s)) → x ≡ Err r
-        → printed_refusal (number_of r) k ≡ outcome_row (answer_at c t a e f i u p) k (or_refused (form_question (form_at w) (split 32 s)) short)
-    unfolding map_parse
-    number_refused x r q h =
-        refused_by (answer_at c t a e f i u p) k (form_question (form_at w) (split 32 s)) r (ap verdict by_number_lem ∙ go (single (split 32 s)) (sym q ∙ h))
-      where
-        go : (g : Parse ℕ) → as_number g ≡ Err r → verdict (map_parse (number_question w) g) ≡ Err r
-        go malformed y = let z : reason.NotAForm ≡ r = cc in ap Err z
-        go invalid y = let z : reason.BadWord ≡ r = cc in ap Err z
-        go (parsed v) y = cc
-
-    no_path : (w : Form) (n : ℕ) → path_length (number_question w n) ≡ 0
-    unfolding path_length
-    no_path form.Successors n = refl
-    no_path form.Predecessors n = refl
-    no_path form.Statement n = refl
-    no_path form.Entry n = refl
-    no_path form.Path n = refl
-    no_path form.Frame n = refl
-
-    taken_number : (r : Parse Question) (n : ℕ) → r ≡ parsed (number_question w n) → outcome_row (answer_at c t a e f i u p) k (or_refused r short) ≡ answer_at c t a e f i u p (number_question w n)
-    unfolding outcome_row or_refused short check
-    taken_number r n q = rw (q, no_path w n)
-
-    pub number_answered : (x : Result ℕ Reason) (n : ℕ) → x ≡ as_number (single (split 32 s)) → x ≡ Ok n
-        → number_answer c t e i u p w n ≡ outcome_row (answer_at c t a e f i u p) k (or_refused (form_question (form_at w) (split 32 s)) short)
-    unfolding map_parse
-    number_answered x n q h =
-        number_answer_lem c t a e f i u p w n ∙ sym (taken_number (form_question (form_at w) (split 32 s)) n (by_number_lem ∙ go (single (split 32 s)) (sym q ∙ h)))
-      where
-        go : (r : Parse ℕ) → as_number r ≡ Ok n → map_parse (number_question w) r ≡ parsed (number_question w n)
-        go malformed y = absurd (let z : ◌≡◌ {A = ℕ} 0 1 = cc in omega arith)
-        go invalid y = absurd (let z : ◌≡◌ {A = ℕ} 0 1 = cc in omega arith)
-        go (parsed m) y = let z : m ≡ n = cc in ap (λ (j : ℕ). parsed (number_question w j)) z
+      go : (r : Parse ℕ) → as_number r ≡ Ok n → map_parse (number_question w) r ≡ parsed (number_question w n)
+      go malformed y = absurd (let z : ◌≡◌ {A = ℕ} 0 1 = cc in omega arith)
+      go invalid y = absurd (let z : ◌≡◌ {A = ℕ} 0 1 = cc in omega arith)
+      go (parsed m) y = let z : m ≡ n = cc in ap (λ (j : ℕ). parsed (number_question w j)) z
 
 -- ---- a whole row
 

@@ -1,23 +1,25 @@
 -- The rows of answers, by what the tables say, whoever wrote them. Assumes nothing.
-use Rattle.std.specs.Prelude.{ℕ, List, [], ◌∷◌, Bool, true, false, ◌≡◌, refl, length, get_or, Result, Ok, Err}
+use Rattle.std.specs.Prelude.{ℕ, ◌+◌, ◌≤◌, List, [], ◌∷◌, Bool, true, false, ◌≡◌, refl, length, get_or, take, drop, Result, Ok, Err}
+use Rattle.std.proofs.Common.{sym, ap, ◌∙◌}
 use Rattle.std.specs.Prelude as std
-use Rattle.std.proofs.Math.Option.{Option}
 use Rattle.listings.specs.Bytes.{bytes}
 use Rattle.listings.specs.Listing.{Name}
 use Rattle.listings.specs.WordTable.{words}
 use Rattle.graph.specs.Lists.{list}
 use Rattle.graph.specs.Print.{printed_refusal}
 use Rattle.graph.specs.Questions.{Reply}
-use Rattle.adjacency.specs.ListsAt.{successors_at, predecessors_at, part_of, list_reply}
+use Rattle.adjacency.specs.ListsAt.{successors_at, predecessors_at, list_reply}
+use Rattle.adjacency.specs.ListsAtLaws.{asked-inside}
+use Rattle.tables.specs.Columns.{succ_start, succ_count, pred_start, pred_count}
 use Rattle.adjacency.specs.EntryAt.{entry_at, node_of}
 use Rattle.statements.specs.StatementAt.{path_statement, node_statement}
 use Rattle.frame_lists.specs.FrameAt.{frame_at}
 use Rattle.layout.specs.declared.refusals.Refusal.{Refusal}
 use Rattle.layout.specs.Refusals.{number_of}
 use Rattle.tables.specs.Told.{told, told_by}
-use Rattle.tables.specs.declared.graphs.Graph.{Graph}
-use Rattle.answers.specs.declared.words.Form.{Form}
-use Rattle.answers.specs.declared.words.Form.TheVariants as form
+use Rattle.formatting.specs.Pages.{Wrote, wrote_is}
+use Rattle.formatting.specs.declared.page.Page.{Page}
+use Rattle.answers.specs.declared.asked.QuestionTables.{QuestionTables}
 use Rattle.answers.specs.Flowask.{Question, of_successors, of_predecessors, of_statement, of_entry, of_path, of_frame, list_row, stmt_row, reply_row}
 
 -- ---- each question
@@ -52,74 +54,59 @@ answer_at c t a e f i u p (of_entry n) = entry_answer c e n
 answer_at c t a e f i u p (of_path j ns) = path_answer c t j ns
 answer_at c t a e f i u p (of_frame h n v flag) = frame_answer c t a f i u h n v flag
 
--- by a graph's tables
-abbrev pub answer_of : Graph → Question → List ℕ
+-- by a caller's tables
+abbrev pub answer_of : QuestionTables → Question → List ℕ
 answer_of g = answer_at g.counts.now g.stmts.now g.args.now g.entries.now g.falls.now g.lists.now g.succ.now g.pred.now
 
--- the question of one number, by the opening word, and its answer; a path's and a frame's are not asked so
-abbrev pub number_question : Form → ℕ → Question
-number_question form.Successors n = of_successors n
-number_question form.Predecessors n = of_predecessors n
-number_question form.Statement n = of_statement n
-number_question form.Entry n = of_entry n
-number_question form.Path n = of_entry n
-number_question form.Frame n = of_entry n
+-- ---- what a routine that answers leaves: the row l on the page, or the page as it was and the refusal that l prints
 
-abbrev pub number_answer : (counts stmts entries lists succ pred : List ℕ) → Form → ℕ → List ℕ
-number_answer c t e i u p form.Successors n = successors_answer c i u n
-number_answer c t e i u p form.Predecessors n = predecessors_answer c i p n
-number_answer c t e i u p form.Statement n = statement_answer c t n
-number_answer c t e i u p form.Entry n = entry_answer c e n
-number_answer c t e i u p form.Path n = entry_answer c e n
-number_answer c t e i u p form.Frame n = entry_answer c e n
+abbrev pub Answered : Page → Page → Result (Unit {0}) Refusal → List ℕ → Type 0
+Answered p q (Ok u) l = Wrote p q l
+Answered p q (Err r) l = (q ≡ p) × (printed_refusal (number_of r.reason) r.place ≡ l)
 
-pub number_answer_lem : (c t a e f i u p : List ℕ) (w : Form) (n : ℕ) → number_answer c t e i u p w n ≡ answer_at c t a e f i u p (number_question w n)
-unfolding answer_at
-number_answer_lem c t a e f i u p form.Successors n = refl
-number_answer_lem c t a e f i u p form.Predecessors n = refl
-number_answer_lem c t a e f i u p form.Statement n = refl
-number_answer_lem c t a e f i u p form.Entry n = refl
-number_answer_lem c t a e f i u p form.Path n = refl
-number_answer_lem c t a e f i u p form.Frame n = refl
+pub answered_is : (p q : Page) {k l : List ℕ} (r : Result (Unit {0}) Refusal) → k ≡ l → Answered p q r k → Answered p q r l
+answered_is p q r e a = rw e at a
 
--- the entries' are all the others
-pub number_else : (c t e i u p : List ℕ) (w : Form) (n : ℕ) → (w ≡ form.Successors → ⊥) → (w ≡ form.Predecessors → ⊥) → (w ≡ form.Statement → ⊥) → entry_answer c e n ≡ number_answer c t e i u p w n
-number_else c t e i u p form.Successors n x y z = absurd (x refl)
-number_else c t e i u p form.Predecessors n x y z = absurd (y refl)
-number_else c t e i u p form.Statement n x y z = absurd (z refl)
-number_else c t e i u p form.Entry n x y z = refl
-number_else c t e i u p form.Path n x y z = refl
-number_else c t e i u p form.Frame n x y z = refl
+-- the refusal printed after all
+pub refusal_printed : (p q : Page) {s : Page} {l : List ℕ} (r : Result (Unit {0}) Refusal) (x : Refusal) → r ≡ Err x → Answered p q r l → Wrote q s (printed_refusal (number_of x.reason) x.place) → Wrote p s l
+refusal_printed p q (Ok u) x e a w = cc
+refusal_printed p q (Err y) x e a w = let z : y ≡ x = cc in rw a.0 at (wrote_is (ap (λ (r : Refusal). printed_refusal (number_of r.reason) r.place) (sym z) ∙ a.1) w)
 
 -- ---- the rows of the code's answers
 
--- l: the part of the edge table
-abbrev pub asked_row : List ℕ → List ℕ → Result (ℕ × ℕ) Refusal → List ℕ
-asked_row w l (Ok d) = list_row w l
-asked_row w l (Err r) = printed_refusal (number_of r.reason) r.place
-
-abbrev pub stated_row : Result (ℕ × ℕ) Refusal → List ℕ
-stated_row (Ok d) = stmt_row d.0 (get_or words d.1 [])
-stated_row (Err r) = printed_refusal (number_of r.reason) r.place
-
-abbrev pub entered_row : Result (std.Option ℕ) Refusal → List ℕ
-entered_row (Ok (std.Some i)) = list_row (bytes "(entry") (i ∷ [])
-entered_row (Ok std.None) = list_row (bytes "(entry") []
-entered_row (Err r) = printed_refusal (number_of r.reason) r.place
+abbrev pub entry_row : std.Option ℕ → List ℕ
+entry_row (std.Some i) = list_row (bytes "(entry") (i ∷ [])
+entry_row std.None = list_row (bytes "(entry") []
 
 -- they are those of the replies
-pub asked_row_lem : (w table : List ℕ) (q : Reply (ℕ × ℕ)) (a : Result (ℕ × ℕ) Refusal) → told a ≡ q → asked_row w (part_of q table) a ≡ reply_row (list_row w) (list_reply q table)
-unfolding part_of reply_row list_reply
-asked_row_lem w table q (Ok d) e = rw (← e) refl
-asked_row_lem w table q (Err r) e = rw (← e) refl
+module _ (w table : List ℕ) (q : Reply (ℕ × ℕ)) where
+  pub list_is : (d : ℕ × ℕ) → told (Ok d) ≡ q → list_row w (take d.1 (drop d.0 table)) ≡ reply_row (list_row w) (list_reply q table)
+  unfolding reply_row list_reply
+  list_is d e = rw (← e) refl
 
-pub stated_row_lem : (q : Reply (ℕ × ℕ)) (a : Result (ℕ × ℕ) Refusal) → told a ≡ q → stated_row a ≡ reply_row numbered_row q
-unfolding reply_row numbered_row
-stated_row_lem q (Ok d) e = rw (← e) refl
-stated_row_lem q (Err r) e = rw (← e) refl
+  pub no_list : (r : Refusal) → told (Err r) ≡ q → printed_refusal (number_of r.reason) r.place ≡ reply_row (list_row w) (list_reply q table)
+  unfolding reply_row list_reply
+  no_list r e = rw (← e) refl
 
-pub entered_row_lem : (q : Reply (Option ℕ)) (a : Result (std.Option ℕ) Refusal) → told_by node_of a ≡ q → entered_row a ≡ reply_row (λ d. list_row (bytes "(entry") (list d)) q
-unfolding reply_row list
-entered_row_lem q (Ok std.None) e = rw (← e) refl
-entered_row_lem q (Ok (std.Some i)) e = rw (← e) refl
-entered_row_lem q (Err r) e = rw (← e) refl
+pub successors_inside : (c i : List ℕ) (size node a n : ℕ) → told (Ok (a, n)) ≡ successors_at c i size node → a + n ≤ size
+unfolding successors_at
+successors_inside c i size node a n e = asked-inside c i size node (succ_start i node) (succ_count i node) a n e
+
+pub predecessors_inside : (c i : List ℕ) (size node a n : ℕ) → told (Ok (a, n)) ≡ predecessors_at c i size node → a + n ≤ size
+unfolding predecessors_at
+predecessors_inside c i size node a n e = asked-inside c i size node (pred_start i node) (pred_count i node) a n e
+
+-- of what stands in another form on the page
+module _ {A B : Type 0} (h : A → B) (f : B → List ℕ) (q : Reply B) where
+  pub row_is : (a : A) → told_by h (Ok a) ≡ q → f (h a) ≡ reply_row f q
+  unfolding reply_row
+  row_is a e = rw (← e) refl
+
+  pub no_row : (r : Refusal) → told_by h (Err r) ≡ q → printed_refusal (number_of r.reason) r.place ≡ reply_row f q
+  unfolding reply_row
+  no_row r e = rw (← e) refl
+
+pub entry_row_is : (e : std.Option ℕ) → entry_row e ≡ list_row (bytes "(entry") (list (node_of e))
+unfolding list
+entry_row_is std.None = refl
+entry_row_is (std.Some i) = refl

@@ -2,6 +2,7 @@
 #![tactic(auto)]
 
 mod answers;
+pub mod asked;
 mod print;
 pub mod text;
 mod words;

@@ -1,12 +1,11 @@
 // The rows of answers, put on a page.
-ghost use Rattle.std.specs.Prelude.{[], get_or};
+ghost use Rattle.std.specs.Prelude.{◌+◌, ◌≤◌, [], length, get_or, take, drop};
 ghost use Rattle.listings.specs.WordTable.{words};
 ghost use Rattle.formatting.specs.Pages.{Wrote};
 ghost use Rattle.answers.specs.Flowask.{list_row, stmt_row};
-ghost use Rattle.answers.specs.AnswersAt.{asked_row, stated_row, entered_row};
+ghost use Rattle.answers.specs.AnswersAt.{entry_row};
 
 use formatting::page::Page;
-use layout::refusals::Refusal;
 
 // A word, each number after a space, and the end of the row.
 pub(crate) fn put_list_row(page: &mut Page<'_>, word: &[u8], list: &[u16])
@@ -17,23 +16,16 @@ pub(crate) fn put_list_row(page: &mut Page<'_>, word: &[u8], list: &[u16])
     page.put_bytes(b")\n");
 }
 
-// The part of an edge table that is the answer, or the refusal.
-pub(crate) fn put_asked(
-    page: &mut Page<'_>,
-    word: &[u8],
-    part: &[u16],
-    a: Result<(usize, usize), Refusal>,
-)
-    ensures { Wrote page.old page.new (asked_row word.now part.now a) }
+// So many entries of an edge table, from `start` on, as such a row.
+pub(crate) fn put_part(page: &mut Page<'_>, word: &[u8], table: &[u16], start: usize, len: usize)
+    requires { start + len ≤ length table.now }
+    ensures { Wrote page.old page.new (list_row word.now (take len (drop start table.now))) }
 {
-    match a {
-        Ok(_) => put_list_row(page, word, part),
-        Err(refusal) => page.put_refusal(refusal),
-    }
+    put_list_row(page, word, &table[start..start + len]);
 }
 
 // A statement: its node and its word.
-fn put_stmt(page: &mut Page<'_>, node: usize, word: usize)
+pub(crate) fn put_stmt(page: &mut Page<'_>, node: usize, word: usize)
     ensures { Wrote page.old page.new (stmt_row node (get_or words word [])) }
 {
     page.put_bytes(b"(statement");
@@ -43,19 +35,9 @@ fn put_stmt(page: &mut Page<'_>, node: usize, word: usize)
     page.put_bytes(b")\n");
 }
 
-// The answer to a question for a statement, as a row.
-pub(crate) fn put_stated(page: &mut Page<'_>, s: Result<(usize, usize), Refusal>)
-    ensures { Wrote page.old page.new (stated_row s) }
-{
-    match s {
-        Ok((node, word)) => put_stmt(page, node, word),
-        Err(refusal) => page.put_refusal(refusal),
-    }
-}
-
 // The row of an entry, a node or none.
-fn put_entry(page: &mut Page<'_>, entry: Option<usize>)
-    ensures { Wrote page.old page.new (entered_row (Ok entry)) }
+pub(crate) fn put_entry(page: &mut Page<'_>, entry: Option<usize>)
+    ensures { Wrote page.old page.new (entry_row entry) }
 {
     match entry {
         Some(id) => {
@@ -64,15 +46,5 @@ fn put_entry(page: &mut Page<'_>, entry: Option<usize>)
             page.put_bytes(b")\n");
         }
         None => page.put_bytes(b"(entry)\n"),
-    }
-}
-
-// The answer to a question for an entry, as a row.
-pub(crate) fn put_entered(page: &mut Page<'_>, e: Result<Option<usize>, Refusal>)
-    ensures { Wrote page.old page.new (entered_row e) }
-{
-    match e {
-        Ok(entry) => put_entry(page, entry),
-        Err(refusal) => page.put_refusal(refusal),
     }
 }

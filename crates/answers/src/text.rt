@@ -7,9 +7,9 @@ ghost use Rattle.answers.specs.Flowask.{answer_rows, parts};
 ghost use Rattle.answers.specs.AnswersAt.{answer_of};
 
 use crate::answers::answer_row;
+use crate::asked::QuestionTables;
 use formatting::page::Page;
 use layout::refusals::Reason;
-use tables::graphs::Graph;
 use tokens::scan::{equal, find};
 
 // "What stands before the first row that is exactly `(questions` is the listing": how many bytes that are, all of them where there is no such row.
@@ -33,7 +33,7 @@ pub fn listing_length(text: &[u8]) -> usize
 
 // Rows of questions, as far as the `)` that closes them.
 // Kept: `loop`, as `listing_length`: what stands behind a row, or that nothing does, decides.
-fn put_rows(page: &mut Page<'_>, text: &[u8], g: &Graph<'_>)
+fn put_rows(page: &mut Page<'_>, text: &[u8], g: &QuestionTables<'_>)
     ensures { Wrote page.old page.new (answer_rows (answer_of g.now) 0 (split 10 text.now)) }
 {
     let mut k: usize = 0;
@@ -58,7 +58,7 @@ fn put_rows(page: &mut Page<'_>, text: &[u8], g: &Graph<'_>)
 }
 
 // The same into a lent part; answers where the next byte would go.
-pub fn answer_rows(out: &mut [u8], text: &[u8], g: &Graph<'_>) -> usize
+pub fn answer_rows(out: &mut [u8], text: &[u8], g: &QuestionTables<'_>) -> usize
     ensures { Puts out.old 0 out.new result (answer_rows (answer_of g.now) 0 (split 10 text.now)) }
 {
     let mut page = Page::new(out);

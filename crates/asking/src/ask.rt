@@ -4,13 +4,14 @@ ghost use Rattle.answers.specs.AnswersAt.{answer_of};
 ghost use Rattle.answers.specs.TextLaws.{CutAt};
 ghost use Rattle.asking.specs.Asked.{QuestionsAnswered, TextAsked};
 
+use answers::asked::QuestionTables;
 use answers::text::{answer_rows, listing_length};
 use formatting::page::print_refusal;
-use tables::graphs::Graph;
 use wiring::build::build;
 
 // The questions behind the first n bytes, if there are any.
-fn answer_questions(out: &mut [u8], text: &[u8], n: usize, g: &Graph<'_>) -> usize
+// Kept: the whole text and n, since where the listing ends is known of the text alone.
+fn answer_questions(out: &mut [u8], text: &[u8], n: usize, g: &QuestionTables<'_>) -> usize
     requires { CutAt text.now n }
     ensures { QuestionsAnswered text.now (answer_of g.now) out.old out.new result }
 {
@@ -22,7 +23,8 @@ fn answer_questions(out: &mut [u8], text: &[u8], n: usize, g: &Graph<'_>) -> usi
     answer_rows(out, &text[from..], g)
 }
 
-// Builds the graph of a text's listing in the lent tables and answers its questions, or gives the listing's refusal; answers where the next byte would go (the length of `out` if it did not fit). Inlined, so that a program that makes the tables as zeros does not zero them twice.
+// Builds the graph of a text's listing in the lent tables and answers its questions, or gives the listing's refusal; answers where the next byte would go (the length of `out` if it did not fit).
+// Inlined, so that a program that makes the tables as zeros does not zero them twice.
 // Kept: the C interface lends the tables one by one.
 #[inline(always)]
 pub fn ask_text(
@@ -43,36 +45,24 @@ pub fn ask_text(
     ensures { TextAsked text.now (sizes_of lines.old stmts.old args.old entries.old falls.old links.old lists.old returns.old succ.old pred.old) counts.new lines.new stmts.new args.new entries.new falls.new links.new lists.new returns.new succ.new pred.new out.old out.new result }
 {
     let n = listing_length(text);
+    let listing = &text[..n];
     let built = build(
-        &text[..n],
-        counts,
-        lines,
-        stmts,
-        args,
-        entries,
-        falls,
-        links,
-        lists,
-        returns,
-        succ,
-        pred,
+        listing, counts, lines, stmts, args, entries, falls, links, lists, returns, succ, pred,
     );
     match built {
         Err(refusal) => print_refusal(out, refusal),
         Ok(()) => {
-            let graph = Graph {
+            let g = QuestionTables {
                 counts,
-                lines,
                 stmts,
                 args,
                 entries,
                 falls,
                 lists,
-                returns,
                 succ,
                 pred,
             };
-            answer_questions(out, text, n, &graph)
+            answer_questions(out, text, n, &g)
         }
     }
 }

@@ -3,10 +3,7 @@ ghost use Rattle.wiring.specs.BuiltAnswer.{built_told};
 ghost use Rattle.printing.specs.Limits.{InputWhole, ListedWhole};
 ghost use Rattle.reader.specs.Inputs.{is_program, bytes_of};
 
-use layout::limits::{
-    ARGS_LENGTH, ENTRIES_LENGTH, FALLS_LENGTH, LINKS_LENGTH, LISTS_LENGTH, MAX_EDGES, MAX_LINES,
-    MAX_STMTS, STMTS_LENGTH,
-};
+use super::lent::Tables;
 use printing::list::Printed;
 use reader::listing::Input;
 
@@ -14,30 +11,20 @@ use reader::listing::Input;
 pub fn list_input(input: Input<'_>, out: &mut [u8; 1048576]) -> Printed
     ensures { InputWhole (is_program input.entry) (bytes_of input.entry) out.old out.new (built_told result.built) result.len }
 {
-    let mut counts = [0u32; 6];
-    let mut lines = [0u16; MAX_LINES];
-    let mut stmts = [0u16; STMTS_LENGTH];
-    let mut args = [0u64; ARGS_LENGTH];
-    let mut entries = [0u16; ENTRIES_LENGTH];
-    let mut falls = [0u16; FALLS_LENGTH];
-    let mut links = [0u16; LINKS_LENGTH];
-    let mut lists = [0u16; LISTS_LENGTH];
-    let mut returns = [0u16; MAX_STMTS];
-    let mut succ = [0u16; MAX_EDGES];
-    let mut pred = [0u16; MAX_EDGES];
+    let mut t = Tables::zeroed();
     printing::list::list_input(
         input,
-        &mut counts,
-        &mut lines,
-        &mut stmts,
-        &mut args,
-        &mut entries,
-        &mut falls,
-        &mut links,
-        &mut lists,
-        &mut returns,
-        &mut succ,
-        &mut pred,
+        &mut t.counts,
+        &mut t.lines,
+        &mut t.stmts,
+        &mut t.args,
+        &mut t.entries,
+        &mut t.falls,
+        &mut t.links,
+        &mut t.lists,
+        &mut t.returns,
+        &mut t.succ,
+        &mut t.pred,
         out,
     )
 }

@@ -1,7 +1,7 @@
 -- A line behind others: what its numbers, its statements and its offences decide. Assumes nothing.
 use Rattle.std.specs.Prelude.{ℕ, suc, ◌+◌, ◌*◌, ◌-◌, ◌≤◌, ◌<◌, ◌≡◌, refl, List, [], ◌∷◌, ◌++◌, Bool, true, false, ◌&&◌, ◌||◌, eqb, ltb, leb, length, get_or, take, drop, Some, None, Result, Ok, Err}
 use Rattle.std.specs.Prelude as std
-use Rattle.std.proofs.Common.{arith, sym, ap, ◌∙◌, subst, add-one, drop-cons, drop-drop}
+use Rattle.std.proofs.Common.{arith, sym, ap, ◌∙◌, subst, drop-cons, drop-drop}
 use Rattle.std.proofs.Math.Option.{Option, none, some}
 use borrow.Author.Tests.{lt-ltb, le-ltb, le-leb, lt-leb, eq-eqb, eqb-true}
 use Rattle.listings.specs.Bytes.{pick}
@@ -16,8 +16,8 @@ use Rattle.basic.specs.Fuel.{body_more}
 use Rattle.basic.specs.Cursors.{join-length}
 use Rattle.basic.specs.declared.bodies.Body as judged_body
 use Rattle.basic.specs.declared.found.Lack.{Lack}
-use Rattle.basic.specs.declared.lines.Taken.{Taken}
-use Rattle.basic.specs.declared.lines.Counted.{Counted}
+use Rattle.basic.specs.declared.line.Taken.{Taken}
+use Rattle.basic.specs.declared.line.Counted.{Counted}
 use Rattle.layout.specs.Refusals.{number_of, refusal_at}
 use Rattle.layout.specs.declared.refusals.Reason.TheVariants as reason
 use Rattle.layout.specs.declared.refusals.Refusal.{Refusal}
@@ -63,13 +63,13 @@ module _ (s : Counted) (n : ℕ) (st : Stmts) where
               let g = a.stmts in
               (rw (above ls a.last ∙ up, lt-ltb (count ls) 1024 (omega arith), le-leb (total ls + size st) 4096 (omega arith), flat, h) refl, f)
 
-          pub told-taken : (next : ℕ) → short st ≡ true → WithTold s n st (Ok (record { counted = record { last = Some n; lines = s.lines + 1; stmts = s.stmts + size st }; next = next }))
+          pub told-taken : short st ≡ true → (t : Counted) → t.last ≡ Some n → t.lines ≡ s.lines + 1 → t.stmts ≡ s.stmts + size st → (next : ℕ) → WithTold s n st (Ok (record { counted = t; next = next }))
           unfolding with_line check last_number count total
-          told-taken next h ls a =
+          told-taken h t last lines stmts next ls a =
               let f = a.lines in
               let g = a.stmts in (
                 rw (above ls a.last ∙ up, lt-ltb (count ls) 1024 (omega arith), le-leb (total ls + size st) 4096 (omega arith), flat, h) refl,
-                record { last = refl; lines = omega arith; stmts = omega arith },
+                record { last = ap maybe last; lines = omega arith; stmts = omega arith },
               )
 
 -- ---- a line of the file
@@ -222,7 +222,7 @@ module _ (f : List ℕ) (p n : ℕ) (inside : p + 3 < length f) (link : word_at 
     told_with (Ok t) s w kept = λ ls a.
         let u = w good.0 (told ∙ ap summary good.1) ls a in
         let ms = line ls n good.0 in
-        let z = kept.1 in
+        let z = kept in
         (ms, u.1, λ k. rw z (line_taken f p inside link k ls good.0 clean good.1 ms (subst (λ (x : ℕ). with_line ls x good.0 ≡ taken ms) number u.0)))
 
 -- where the next line's link stands

@@ -11,9 +11,9 @@ use Rattle.program_files.specs.Program as definition
 use Rattle.program_files.specs.Program.{Placed, uncovered, counted, join_go, body_of, foreign, lacking, sooner, soonest, offences, with_line, lines_from}
 use Rattle.basic.specs.Bodies.{summary}
 use Rattle.basic.specs.declared.bodies.Body.{Body}
-use Rattle.basic.specs.declared.lines.Counted.{Counted}
+use Rattle.basic.specs.declared.line.Counted.{Counted}
 use Rattle.basic.specs.declared.found.Lack.{Lack}
-use Rattle.basic.specs.declared.lines.Taken.{Taken}
+use Rattle.basic.specs.declared.line.Taken.{Taken}
 use Rattle.layout.specs.Refusals.{number_of}
 use Rattle.layout.specs.declared.refusals.Refusal.{Refusal}
 
@@ -55,9 +55,9 @@ stmts_at f p = body_of (length (bytes_at f p)) ∅ (join_go (bytes_at f p))
 abbrev pub zero_at : List ℕ → ℕ → ℕ
 zero_at f p = index_of 0 (drop (p + 4) f)
 
--- the file ends before that zero
-abbrev pub IsCut : List ℕ → ℕ → Bool → Type 0
-IsCut f p c = c ≡ not (ltb (zero_at f p) (length (drop (p + 4) f)))
+-- whether the file ends before that zero
+abbrev pub IsCut : List ℕ → ℕ → std.Option Refusal → Type 0
+IsCut f p o = offence_in o ≡ soonest (pick (ltb (zero_at f p) (length (drop (p + 4) f))) [] ((length f, 33) ∷ []))
 
 -- with the first 64, if there is one
 abbrev pub with_foreign : std.Option ℕ → Option definition.Offence → Option definition.Offence
@@ -80,10 +80,10 @@ abbrev pub WithTold : Counted → ℕ → Stmts → Result Taken Refusal → Typ
 WithTold s n st (Err r) = (ls : Lines) → IsAfter ls s → (with_line ls n st ≡ refused (number_of r.reason)) × (r.place ≡ count ls)
 WithTold s n st (Ok t) = (ls : Lines) → IsAfter ls s → (with_line ls n st ≡ taken (line ls n st)) × IsAfter (line ls n st) t.counted
 
--- the statements stay few, and the next link stands at p
+-- the next link stands at p
 abbrev pub Kept : ℕ → Result Taken Refusal → Type 0
 Kept p (Err r) = Unit {0}
-Kept p (Ok t) = (t.counted.stmts ≤ 4096) × (t.next ≡ p)
+Kept p (Ok t) = t.next ≡ p
 
 -- reading from this line's link on is refused so, or goes on behind it
 abbrev pub LineTold : List ℕ → ℕ → Counted → Result Taken Refusal → Type 0

@@ -1,13 +1,17 @@
 -- The least offence of a line, part by part. Assumes nothing.
-use Rattle.std.specs.Prelude.{ℕ, suc, ◌+◌, ◌≤◌, ◌<◌, ◌≡◌, refl, List, [], ◌∷◌, ◌++◌, Bool, true, false, ◌&&◌, ◌||◌, eqb, ltb, leb, drop, Some, None, Result, Ok, Err}
-use Rattle.std.proofs.Common.{arith, sym, ap, ◌∙◌, inl, inr}
+use Rattle.std.specs.Prelude.{ℕ, suc, ◌+◌, ◌≤◌, ◌<◌, ◌≡◌, refl, List, [], ◌∷◌, ◌++◌, Bool, true, false, ◌&&◌, ◌||◌, eqb, ltb, leb, length, drop, Some, None, Result, Ok, Err}
+use Rattle.std.specs.Bool.{then_some}
+use Rattle.std.proofs.Common.{arith, sym, ap, ◌∙◌, inl, inr, length-drop}
 use Rattle.std.proofs.Math.Option.{Option, none, some}
 use borrow.Author.Tests.{lt-ltb, le-ltb, le-leb, lt-leb, eq-eqb, ne_eqb, ltb-true, eqb-true}
 use Rattle.listings.specs.Bytes.{pick}
+use Rattle.listings.specs.Scan.{index_le}
 use Rattle.listings.specs.Tests.{both_true, either_true}
 use Rattle.program_files.specs.Program as definition
 use Rattle.program_files.specs.Program.{Placed, Offence, Cover, uncovered, behind, counts, counted, sooner, soonest, foreign, lacking, body, bad, offences}
-use Rattle.basic.specs.Lines.{first_foreign, with_foreign, bytes_at}
+use Rattle.basic.specs.Lines.{IsCut, first_foreign, with_foreign, bytes_at, zero_at}
+use Rattle.layout.specs.Refusals.{refusal_at}
+use Rattle.layout.specs.declared.refusals.Reason.TheVariants as reason
 use Rattle.basic.specs.Bodies.{summary}
 use Rattle.basic.specs.declared.bodies.Body.{Body}
 use Rattle.basic.specs.declared.found.Lack.{Lack}
@@ -116,13 +120,28 @@ module _ (p n q m : ℕ) where
 
 -- ---- the parts of a line's offences
 
-pub part_cut : (e : ℕ) (t : Bool) → t ≡ false → sooner (e, 33) none ≡ soonest (pick t [] ((e, 33) ∷ []))
-unfolding soonest
+part_cut : (e : ℕ) (t : Bool) → t ≡ false → some (e, 33) ≡ soonest (pick t [] ((e, 33) ∷ []))
+unfolding soonest sooner
 part_cut e t h = rw h refl
 
-pub part_whole : (e : ℕ) (t : Bool) → t ≡ true → none ≡ soonest (pick t [] ((e, 33) ∷ []))
+part_whole : (e : ℕ) (t : Bool) → t ≡ true → none ≡ soonest (pick t [] ((e, 33) ∷ []))
 unfolding soonest
 part_whole e t h = rw h refl
+
+-- z: where the line's zero stands
+pub cut_at : (f : List ℕ) (p z : ℕ) → p + 3 < length f → z ≡ zero_at f p → IsCut f p (then_some (eqb (p + 4 + z) (length f)) (refusal_at reason.EndsEarly (length f)))
+cut_at f p z h e = go (eqb (p + 4 + z) (length f)) refl
+  where
+    go : (t : Bool) → eqb (p + 4 + z) (length f) ≡ t → IsCut f p (then_some t (refusal_at reason.EndsEarly (length f)))
+    go true g =
+        let a = length-drop (p + 4) f in
+        let b = eqb-true (p + 4 + z) (length f) g in
+        part_cut (length f) _ (le-ltb (zero_at f p) (length (drop (p + 4) f)) (omega arith))
+    go false g =
+        let a = length-drop (p + 4) f in
+        let b = index_le 0 (drop (p + 4) f) in
+        let c : p + 4 + z ≡ length f → ⊥ = λ i. absurd (let k = sym (eq-eqb (p + 4 + z) (length f) i) ∙ g in cc) in
+        part_whole (length f) _ (lt-ltb (zero_at f p) (length (drop (p + 4) f)) (omega arith))
 
 pub part_foreign : (f : List ℕ) (p : ℕ) (x : List Offence) → soonest (foreign (bytes_at f p) ++ x) ≡ with_foreign (first_foreign (bytes_at f p)) (soonest x)
 part_foreign f p x = foreign-first uncovered (p + 4) (drop (p + 4) f) x

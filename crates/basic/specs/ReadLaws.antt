@@ -11,8 +11,8 @@ use Rattle.basic.specs.Judge as judged
 use Rattle.basic.specs.Judge.{judged_of}
 use Rattle.basic.specs.LineLaws.{linked, unlinked}
 use Rattle.basic.specs.Lines.{maybe, word_at, zero_at, IsAfter, LineTold}
-use Rattle.basic.specs.declared.lines.Counted.{Counted}
-use Rattle.basic.specs.declared.lines.Taken.{Taken}
+use Rattle.basic.specs.declared.line.Counted.{Counted}
+use Rattle.basic.specs.declared.line.Taken.{Taken}
 use Rattle.layout.specs.Refusals.{number_of}
 use Rattle.layout.specs.declared.refusals.Refusal.{Refusal}
 

@@ -315,7 +315,7 @@ module _ (f : List ℕ) (b : ℕ) (at : Cursor) (s : Source) (line : zero_at (to
       first_rw f (action_rows f b at s) (ends_then s.ends (lines_behind f s.at)) r q g
 
   pub does_first : (c e : Cursor) (w n : ℕ) (t : Source) → found (code.Does w n) (tokens_at f c) ≡ map_found coded (action (fuel f at) b (tokens_at f at)) → tokens_at f e ≡ pass_over (tokens_at f c)
-      → IsDue f stage.Statements e (s.ends + 0) t → FirstOf f (action_rows f b at s) (record { row = row.Simple w n b at; next = t })
+      → IsDue f stage.Statements e (s.ends + 0) t → FirstOf f (action_rows f b at s) (record { row = row.Simple (record { word = w; count = n; byte = b; at = at }); next = t })
   unfolding rows_by args_in
   does_first c e w n t h g u =
       let k = fuel f at in

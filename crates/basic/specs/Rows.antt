@@ -18,6 +18,7 @@ use Rattle.basic.specs.declared.sources.Stage.TheVariants as stage
 use Rattle.basic.specs.declared.sources.Source.{Source}
 use Rattle.basic.specs.declared.sources.FileRow.{FileRow}
 use Rattle.basic.specs.declared.sources.FileRow.TheVariants as row
+use Rattle.basic.specs.declared.sources.Simple as code
 use Rattle.basic.specs.declared.sources.Sourced.{Sourced}
 
 -- n rows `)`, and what follows
@@ -84,19 +85,19 @@ contents_from f s = elim s.stage [
 ]
 
 -- a statement's row, by what the code has of it
-pub record SimpleIs (f : List ℕ) (d : Content) (w n b : ℕ) (c : Cursor) : Type 0 where
+pub record SimpleIs (f : List ℕ) (d : Content) (s : code.Simple) : Type 0 where
   pub simple : Simple
   pub content : d ≡ simple_row (parsed (simple, listed simple))
-  pub word : w ≡ word_index (simple_word simple)
-  pub count : n ≡ length (args_of simple)
+  pub word : s.word ≡ word_index (simple_word simple)
+  pub count : s.count ≡ length (args_of simple)
   pub detail : detail_of simple ≡ 0
-  pub args : args_in (action (fuel f c) b (tokens_at f c)) ≡ args_of simple
+  pub args : args_in (action (fuel f s.at) s.byte (tokens_at f s.at)) ≡ args_of simple
 
 -- what the row says
 abbrev pub RowIs : List ℕ → Content → FileRow → Type 0
 RowIs f d row.Module = d ≡ module_row false
 RowIs f d (row.Line n) = d ≡ line_row (parsed n)
-RowIs f d (row.Simple w n b c) = SimpleIs f d w n b c
+RowIs f d (row.Simple s) = SimpleIs f d s
 RowIs f d row.If = d ≡ cond_row if
 RowIs f d (row.To n) = d ≡ to_row (parsed n)
 RowIs f d row.Stmts = d ≡ stmts_row

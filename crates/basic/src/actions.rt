@@ -26,8 +26,9 @@ pub enum Action {
 }
 
 // The first of two tokens in a statement.
-// Kept: `loop`, since tokens are found from cursor to cursor and no iterator gives them. One function of a test for this loop, `pass_over`, `foreign_at` and
-// `statement_row_at` would be no plainer: they answer a token, the cursor before one, and a place among the bytes that GO and TO are not joined in.
+// Kept: `loop`; tried as `find` over `std::iter::successors` (at `foreign_at`): `find` asks that what it walks ends, and by std's laws `successors` never does. An
+// iterator of its own is no plainer: the line's end, whose place is asked, would have to come once, by a field more. Nor is one function of a test for this
+// loop, `pass_over`, `foreign_at` and `statement_row_at`: they answer a token, the cursor before one, and a place among the bytes that GO and TO are not joined in.
 fn seek_at(file: &[u8], c: Cursor, x: u8, y: u8) -> Result<Found<u8>, Lack>
     ensures { found_by (tokens_at file.now) result ≡ seek x y (tokens_at file.now c) }
 {

@@ -20,7 +20,7 @@ pub(crate) struct Body {
 }
 
 // The statements from c on.
-// Kept: `loop`, since a statement says where the next is looked for, and no iterator gives them.
+// Kept: `loop`; where the next statement is looked for is known when this one is found, which can fail, and a closure that gives the next has no `?`.
 pub(crate) fn judge_body(file: &[u8], c: Cursor) -> Result<Body, Lack>
     ensures told { result ≡ summary (body_of (fuel file.now c) ∅ (tokens_at file.now c)) }
     ensures few { AtMost (length file.now) result }

@@ -29,7 +29,7 @@ fn item_at(file: &[u8], c: Cursor, kind: Item) -> Result<Found<u64>, Lack>
 }
 
 // "a comma brings ON a further number and NEXT a further name": how many there are.
-// Kept: `loop`, since an item says where its comma is looked for, and no iterator gives them.
+// Kept: `loop`, as `bodies::judge_body`: an item says where its comma is looked for, and can be lacking.
 pub(crate) fn count_items(file: &[u8], c: Cursor, kind: Item) -> Result<Found<usize>, Lack>
     ensures { found_by (tokens_at file.now) result ≡ map_found length (items_from kind (tokens_at file.now c)) }
 {

@@ -3,7 +3,8 @@ ghost use Rattle.std.specs.Prelude.{◌≡◌};
 ghost use Rattle.program_files.specs.Program.{read_program};
 ghost use Rattle.basic.specs.Judge.{judged_of, told_of};
 
-use super::lines::{Counted, judge_line, word_at};
+use super::line::{Counted, LineAt};
+use super::lines::{judge_line, word_at};
 use layout::limits::MAX_BYTES;
 use layout::refusals::{Reason, Refusal};
 
@@ -15,7 +16,7 @@ pub struct Counts {
 }
 
 // "lines are judged in order". "33, the file ends early": the place is the file's length.
-// Kept: `loop`, since a line says where the next link stands, and no iterator gives them.
+// Kept: `loop`, as `bodies::judge_body`: a line says where the next link stands, and can be refused.
 pub fn judge_program(file: &[u8]) -> Result<Counts, Refusal>
     ensures { told_of result ≡ judged_of (read_program file.now) }
 {
@@ -24,11 +25,7 @@ pub fn judge_program(file: &[u8]) -> Result<Counts, Refusal>
         return Err(Reason::TextTooLong.at(0));
     }
     let mut at: usize = 2;
-    let mut s = Counted {
-        last: None,
-        lines: 0,
-        stmts: 0,
-    };
+    let mut s = Counted::start();
     loop {
         if len < at + 2 {
             return Err(Reason::EndsEarly.at(len));
@@ -42,7 +39,7 @@ pub fn judge_program(file: &[u8]) -> Result<Counts, Refusal>
         if len < at + 4 {
             return Err(Reason::EndsEarly.at(len));
         }
-        let line = judge_line(file, at, s)?;
+        let line = judge_line(&LineAt { file, at }, s)?;
         s = line.counted;
         at = line.next;
     }

@@ -9,6 +9,7 @@ pub mod cursors;
 pub mod found;
 mod items;
 pub mod judge;
+mod line;
 mod lines;
 mod names;
 mod numbers;

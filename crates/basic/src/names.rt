@@ -13,7 +13,7 @@ use tokens::names::{is_capital, is_letter, is_suffix};
 const KEPT: u64 = 4096;
 
 // The key of the name at c: of its first two characters and its kind.
-// Kept: `while`, since tokens are found from cursor to cursor and no iterator gives them.
+// Kept: `while`, as the `loop` of `actions::seek_at`.
 pub(crate) fn key_at(file: &[u8], c: Cursor) -> Result<Found<u64>, Lack>
     ensures { found_by (tokens_at file.now) result ≡ map_found name_key (name (tokens_at file.now c)) }
 {

@@ -25,7 +25,7 @@ fn with_digit(value: u64, b: u8) -> u64
 }
 
 // "a line number exceeds 63999": its place is its first byte.
-// Kept: `while`, since tokens are found from cursor to cursor and no iterator gives them.
+// Kept: `while`, as the `loop` of `actions::seek_at`.
 pub(crate) fn line_number(file: &[u8], c: Cursor) -> Result<Found<u64>, Lack>
     ensures { found_by (tokens_at file.now) result ≡ line_number (tokens_at file.now c) }
 {

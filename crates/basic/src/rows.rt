@@ -8,7 +8,7 @@ ghost use Rattle.basic.specs.Rests.{zero_at, Ordered};
 use super::actions::{Action, action_at, pass_over};
 use super::cursors::{Cursor, token_at};
 use super::lines::word_at;
-use super::sources::{FileRow, Source, Sourced, Stage};
+use super::sources::{FileRow, Simple, Source, Sourced, Stage};
 use tokens::scan::find;
 
 // Before the first row of a file.
@@ -23,6 +23,7 @@ pub fn first_row() -> Source
 }
 
 // The same place, where something else is due.
+// Kept: field by field, since Rattle has no `..s` for a struct with a ghost field.
 fn staged(s: Source, stage: Stage) -> Source
     ensures { result ≡ record s { stage = stage } }
 {
@@ -56,7 +57,7 @@ fn line_row_at(file: &[u8], at: usize) -> Sourced
         return module_end();
     }
     Sourced {
-        row: FileRow::Line(word_at(file, at + 2) as u16),
+        row: FileRow::Line(word_at(file, at + 2)),
         next: Source {
             stage: Stage::Statements,
             at: Cursor::uncovered(at + 4),
@@ -128,12 +129,12 @@ fn action_row(file: &[u8], b: u8, at: Cursor, s: Source) -> Sourced
     };
     match action.value {
         Action::Does { word, count } => Sourced {
-            row: FileRow::Simple {
+            row: FileRow::Simple(Simple {
                 word,
                 count,
                 byte: b,
                 at,
-            },
+            }),
             next: due(file, Stage::Statements, pass_over(file, action.next), s, 0),
         },
         Action::Jumps(number) => Sourced {

@@ -26,19 +26,22 @@ pub struct Source {
     ghost few: { ends ≤ 2 * at.at + 1 },
 }
 
-// A row: the module's, without handlers; a line's; a statement's, by the number of its opening word, with so many arguments, its first byte and where what follows
-// that stands; `(if`, `(to N)`, `(stmts`, `)`.
+// A statement that holds no others: the number of its opening word, how many arguments it has, its first byte, and where what follows that stands.
+#[derive(Clone, Copy)]
+pub struct Simple {
+    pub word: u16,
+    pub count: usize,
+    pub byte: u8,
+    pub at: Cursor,
+}
+
+// A row: the module's, without handlers; a line's; a statement's; `(if`, `(to N)`, `(stmts`, `)`.
 // Kept: `End` is the row `)`, and not that there is none.
 #[derive(Clone, Copy)]
 pub enum FileRow {
     Module,
     Line(u16),
-    Simple {
-        word: u16,
-        count: usize,
-        byte: u8,
-        at: Cursor,
-    },
+    Simple(Simple),
     If,
     To(u16),
     Stmts,

@@ -5,6 +5,7 @@ ghost use Rattle.c_answers.specs.DoneNumbers.{done_number, done_place};
 use layout::refusals::Refusal;
 
 // 0 and 0; or document 01's number, and the place.
+// Kept: beside `number_of_answer`, since C lends one place here, and two words to a question.
 pub fn number_of_done(done: Result<(), Refusal>, place: &mut [usize; 1]) -> u8
     ensures { (result ≡ done_number done) × (place.new ≡ done_place done) }
 {

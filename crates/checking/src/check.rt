@@ -1,5 +1,5 @@
 // A listing's graph, built and printed, beside the graph that was given.
-ghost use Rattle.std.specs.Prelude.{◌≡◌, ◌≤◌, length, take};
+ghost use Rattle.std.specs.Prelude.{◌≡◌};
 ghost use Rattle.comparing.specs.Judging.{start};
 ghost use Rattle.comparing.specs.Comparing.{same, fed};
 ghost use Rattle.comparing.specs.ComparingStates.{standing_of, verdict_of};
@@ -19,17 +19,10 @@ pub fn conclude(built: Result<(), Refusal>, s: Comparing, due: &[u8]) -> Result<
     rule(s, due)
 }
 
-// The graph given beside the one due, the first n bytes of a page.
-fn check_page(
-    built: Result<(), Refusal>,
-    page: &[u8],
-    n: usize,
-    graph: &[u8],
-) -> Result<(), Refusal>
-    requires { n ≤ length page.now }
-    ensures { verdict_of result ≡ concluded (built_told built) (fed (take n page.now) (same 0 start) graph.now) (take n page.now) }
+// The graph given beside the one due, as it stands on a page.
+fn check_page(built: Result<(), Refusal>, due: &[u8], graph: &[u8]) -> Result<(), Refusal>
+    ensures { verdict_of result ≡ concluded (built_told built) (fed due.now (same 0 start) graph.now) due.now }
 {
-    let due = &page[..n];
     let s = feed(begin(), due, graph);
     conclude(built, s, due)
 }
@@ -57,6 +50,5 @@ pub fn check_graph(
     let listed = list_graph(
         text, counts, lines, stmts, args, entries, falls, links, lists, returns, succ, pred, page,
     );
-    let built = listed.built;
-    check_page(built, page, listed.len, graph)
+    check_page(listed.built, &page[..listed.len], graph)
 }

@@ -1,8 +1,8 @@
 -- A piece fed by whole rows that are due, and else byte by byte. Assumes nothing.
 use Prim.Native.Nat.{ℕ, suc, ◌+◌, ◌-◌, ◌≤◌, ◌<◌}
-use Rattle.std.specs.Prelude.{◌≡◌, refl, List, [], ◌∷◌, ◌++◌, Bool, true, false, eqb, length, take, drop, get_or}
+use Rattle.std.specs.Prelude.{◌≡◌, refl, List, [], ◌∷◌, Bool, true, false, eqb, length, take, drop, get_or}
 use Rattle.std.proofs.Math.Path.{sym, ap}
-use Rattle.std.proofs.Common.{◌∙◌, subst, length-drop, drop-cons, take-add}
+use Rattle.std.proofs.Common.{◌∙◌, subst, length-drop, take_all, take-append-drop}
 use native.Mathlib.Omega.{arith}
 use Rattle.listings.specs.Bytes.{pick}
 use Rattle.comparing.specs.Judging.{Reading, start, opened, lost, beside, met}
@@ -20,11 +20,10 @@ pub record RowsDue (due : List ℕ) (at : ℕ) (piece : List ℕ) (m : ℕ) : Ty
   pub room : 0 < m → at + m ≤ length due
   pub rows : fed due (same at start) (take m piece) ≡ same (at + m) start
 
--- from byte i of a piece on it was fed up to byte k, at least one byte
-pub record FedTo (due : List ℕ) (s : Standing) (piece : List ℕ) (i : ℕ) (z : Standing) (k : ℕ) : Type 0 where
-  pub more : i < k
-  pub inside : k ≤ length piece
-  pub stands : z ≡ fed due s (take (k - i) (drop i piece))
+-- some of a piece was fed, and with what is left the rest comes to the same
+pub record FedTo (due : List ℕ) (s : Standing) (piece : List ℕ) (z : Standing) (left : List ℕ) : Type 0 where
+  pub fewer : length left < length piece
+  pub stands : fed due z left ≡ fed due s piece
 
 module _ (due : List ℕ) (at : ℕ) (piece : List ℕ) where
   none_is : same at start ≡ same (at + 0) start
@@ -60,13 +59,17 @@ module _ (due : List ℕ) (at : ℕ) (piece : List ℕ) where
 
 -- ---- one byte, whole rows, all that is left
 
-one_byte : (l : List ℕ) (i : ℕ) → i < length l → take (i + 1 - i) (drop i l) ≡ get_or l i 0 ∷ []
-one_byte l i h = let n : i + 1 - i ≡ 1 = omega arith in ap (λ (k : ℕ). take k (drop i l)) n ∙ ap (take 1) (drop-cons l i 0 h)
+-- what is left of a piece from byte k on
+abbrev behind : List ℕ → ℕ → List ℕ
+behind l k = take (length l - k) (drop k l)
 
-module _ (due : List ℕ) (s : Standing) (piece : List ℕ) (i : ℕ) (h : i < length piece) where
-  pub fed-one : (z : Standing) → z ≡ fed_byte due s (get_or piece i 0) → FedTo due s piece i z (i + 1)
-  unfolding fed
-  fed-one z e = record { more = omega arith; inside = omega arith; stands = e ∙ sym (ap (fed due s) (one_byte piece i h)) }
+behind_is : (l : List ℕ) (k : ℕ) → behind l k ≡ drop k l
+behind_is l k = take_all (length l - k) (drop k l) (omega (arith, length-drop k l))
+
+pub fed-one : (due : List ℕ) (s : Standing) (piece : List ℕ) → 0 < length piece → (z : Standing) → z ≡ fed_byte due s (get_or piece 0 0) → FedTo due s piece z (behind piece 1)
+unfolding fed
+fed-one due s [] h z e = absurd (omega arith)
+fed-one due s (b ∷ l) h z e = record { fewer = omega (arith, ap length (behind_is (b ∷ l) 1)); stands = rw (behind_is (b ∷ l) 1, e) }
 
 start_is : (r : Reading) → is_start r ≡ true → r ≡ start
 unfolding is_start
@@ -75,15 +78,12 @@ start_is opened e = absurd (let z : ◌≡◌ {A = ℕ} 0 1 = cc in omega arith)
 start_is lost e = absurd (let z : ◌≡◌ {A = ℕ} 0 1 = cc in omega arith)
 start_is (beside d) e = absurd (let z : ◌≡◌ {A = ℕ} 0 1 = cc in omega arith)
 
-pub fed-rows : (due : List ℕ) (at : ℕ) (r : Reading) (piece : List ℕ) (i m : ℕ) → i < length piece → is_start r ≡ true → 0 < m → RowsDue due at (drop i piece) m
-    → FedTo due (same at r) piece i (same (at + m) start) (i + m)
-fed-rows due at r piece i m h e p w =
-    let n : i + m - i ≡ m = omega arith in
-    record {
-      more = omega arith;
-      inside = omega (arith, w.inside, length-drop i piece);
-      stands = sym (ap (λ (k : ℕ). fed due (same at r) (take k (drop i piece))) n ∙ ap (λ (x : Reading). fed due (same at x) (take m (drop i piece))) (start_is r e) ∙ w.rows);
-    }
+pub fed-rows : (due : List ℕ) (at : ℕ) (r : Reading) (piece : List ℕ) (m : ℕ) → is_start r ≡ true → 0 < m → RowsDue due at piece m → FedTo due (same at r) piece (same (at + m) start) (behind piece m)
+fed-rows due at r piece m e p w = record {
+  fewer = omega (arith, ap length (behind_is piece m), length-drop m piece, w.inside);
+  stands = ap (fed due (same (at + m) start)) (behind_is piece m) ∙ ap (λ (y : Standing). fed due y (drop m piece)) (sym w.rows) ∙ sym (fed-append due (same at start) (take m piece) (drop m piece))
+      ∙ ap (fed due (same at start)) (take-append-drop m piece) ∙ ap (λ (x : Reading). fed due (same at x) piece) (sym (start_is r e));
+}
 
 pub fed_differs : (due : List ℕ) (at : ℕ) (r : Reading) (b : ℕ) → differing at r b ≡ fed_byte due (differs at r) b
 unfolding fed_byte
@@ -94,19 +94,16 @@ unfolding fed fed_byte
 ended_stays due n at [] = refl
 ended_stays due n at (b ∷ g) = ended_stays due n at g
 
-pub fed-ended : (due : List ℕ) (n at : ℕ) (piece : List ℕ) (i : ℕ) → i < length piece → FedTo due (ended n at) piece i (ended n at) (length piece)
-fed-ended due n at piece i h = record { more = h; inside = omega arith; stands = sym (ended_stays due n at _) }
+pub fed-ended : (due : List ℕ) (n at : ℕ) (piece : List ℕ) → 0 < length piece → FedTo due (ended n at) piece (ended n at) []
+unfolding fed
+fed-ended due n at piece h = record { fewer = h; stands = sym (ended_stays due n at piece) }
 
 -- the same of a standing that is said otherwise
-pub fed_as : {due : List ℕ} {s u : Standing} {piece : List ℕ} {i : ℕ} {z : Standing} {k : ℕ} → s ≡ u → FedTo due s piece i z k → FedTo due u piece i z k
-fed_as {due} {s} {u} {piece} {i} {z} {k} e f = subst (λ (x : Standing). FedTo due x piece i z k) e f
+pub fed_as : {due : List ℕ} {s u : Standing} {piece : List ℕ} {z : Standing} {left : List ℕ} → s ≡ u → FedTo due s piece z left → FedTo due u piece z left
+fed_as {due} {s} {u} {piece} {z} {left} e f = subst (λ (x : Standing). FedTo due x piece z left) e f
 
--- ---- turns
-
-take_further : (l : List ℕ) (i k : ℕ) → i ≤ k → take i l ++ take (k - i) (drop i l) ≡ take k l
-take_further l i k h = let n : i + (k - i) ≡ k = omega arith in sym (take-add i (k - i) l) ∙ ap (λ (j : ℕ). take j l) n
-
-pub fed_further : (due : List ℕ) (s : Standing) (piece : List ℕ) (i k : ℕ) (y z : Standing) → y ≡ fed due s (take i piece) → FedTo due y piece i z k → z ≡ fed due s (take k piece)
-fed_further due s piece i k y z e f =
-    f.stands ∙ ap (λ (x : Standing). fed due x (take (k - i) (drop i piece))) e ∙ sym (fed-append due s (take i piece) (take (k - i) (drop i piece)))
-    ∙ ap (fed due s) (take_further piece i k (omega (arith, f.more)))
+-- nothing is left
+pub fed_all : (due : List ℕ) (z : Standing) (left : List ℕ) → length left ≡ 0 → z ≡ fed due z left
+unfolding fed
+fed_all due z [] h = refl
+fed_all due z (b ∷ l) h = absurd (omega arith)

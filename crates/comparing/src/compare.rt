@@ -85,11 +85,11 @@ fn feed_same(at: usize, judge: Judge, due: &[u8], b: u8) -> Comparing
     differ(at, judge, b)
 }
 
-// How far a piece was fed, and what was found till then.
+// What was found so far, and what is left of a piece.
 #[derive(Drop)]
-struct Fed {
+struct Fed<'a> {
     state: Comparing,
-    next: usize,
+    left: &'a [u8],
 }
 
 // Where the last row ended, behind byte b, the last of i.
@@ -119,22 +119,20 @@ fn rows_due(at: usize, due: &[u8], piece: &[u8]) -> usize
     m
 }
 
-// From byte i on, where all was as due: rows that are due at once, else one byte.
-fn feed_rows(at: usize, judge: Judge, due: &[u8], piece: &[u8], i: usize) -> Fed
-    requires { i < length piece.now }
-    ensures { FedTo due.now (same at (reading_of judge)) piece.now i (standing_of result.state) result.next }
+// Where all was as due: rows that are due at once, else one byte.
+fn feed_rows<'a>(at: usize, judge: Judge, due: &[u8], piece: &'a [u8]) -> Fed<'a>
+    requires { 0 < length piece.now }
+    ensures { FedTo due.now (same at (reading_of judge)) piece.now (standing_of result.state) result.left.now }
 {
-    if !is_start(judge) {
-        return Fed {
-            state: feed_same(at, judge, due, piece[i]),
-            next: i + 1,
-        };
-    }
-    let m = rows_due(at, due, &piece[i..]);
+    let m = if is_start(judge) {
+        rows_due(at, due, piece)
+    } else {
+        0
+    };
     if m == 0 {
         return Fed {
-            state: feed_same(at, judge, due, piece[i]),
-            next: i + 1,
+            state: feed_same(at, judge, due, piece[0]),
+            left: &piece[1..],
         };
     }
     Fed {
@@ -142,38 +140,39 @@ fn feed_rows(at: usize, judge: Judge, due: &[u8], piece: &[u8], i: usize) -> Fed
             at: at + m,
             judge: Judge::Start,
         },
-        next: i + m,
+        left: &piece[m..],
     }
 }
 
-// From byte i on, at least one byte more; behind a row that was not due nothing counts.
-fn feed_more(s: Comparing, due: &[u8], piece: &[u8], i: usize) -> Fed
-    requires { i < length piece.now }
-    ensures { FedTo due.now (standing_of s) piece.now i (standing_of result.state) result.next }
+// At least one byte more; behind a row that was not due nothing counts.
+fn feed_more<'a>(s: Comparing, due: &[u8], piece: &'a [u8]) -> Fed<'a>
+    requires { 0 < length piece.now }
+    ensures { FedTo due.now (standing_of s) piece.now (standing_of result.state) result.left.now }
 {
     match s {
-        Comparing::Same { at, judge } => feed_rows(at, judge, due, piece, i),
+        Comparing::Same { at, judge } => feed_rows(at, judge, due, piece),
         Comparing::Differs { at, judge } => Fed {
-            state: differ(at, judge, piece[i]),
-            next: i + 1,
+            state: differ(at, judge, piece[0]),
+            left: &piece[1..],
         },
         Comparing::Ended { reason, at } => Fed {
             state: Comparing::Ended { reason, at },
-            next: piece.len(),
+            left: &[],
         },
     }
 }
 
 // One piece more of the graph given.
+// Kept: `while`, since a turn takes one byte or many rows: no iterator gives such steps.
 pub fn feed(s: Comparing, due: &[u8], piece: &[u8]) -> Comparing
     ensures { standing_of result ≡ fed due.now (standing_of s) piece.now }
 {
     let mut r = s;
-    let mut i: usize = 0;
-    while i < piece.len() {
-        let f = feed_more(r, due, piece, i);
+    let mut left = piece;
+    while !left.is_empty() {
+        let f = feed_more(r, due, left);
         r = f.state;
-        i = f.next;
+        left = f.left;
     }
     r
 }

@@ -7,12 +7,9 @@ ghost use Rattle.formatting.specs.Whole.{Whole};
 ghost use Rattle.answers.specs.Flowask.{ask_text, flowask};
 
 use asking::ask::ask_text;
+use at_limits::lent::Tables;
 use filling::read_full;
 use formatting::page::print_refusal;
-use layout::limits::{
-    ARGS_LENGTH, ENTRIES_LENGTH, FALLS_LENGTH, LINKS_LENGTH, LISTS_LENGTH, MAX_EDGES, MAX_LINES,
-    MAX_STMTS, STMTS_LENGTH,
-};
 use layout::refusals::Reason;
 use std::io::Write;
 
@@ -26,30 +23,20 @@ const MAX_ANSWERS: usize = 2097152;
 fn ask_at_limits(text: &[u8], out: &mut [u8]) -> usize
     ensures { Puts out.old 0 out.new result (ask_text limits text.now) }
 {
-    let mut counts = [0u32; 6];
-    let mut lines = [0u16; MAX_LINES];
-    let mut stmts = [0u16; STMTS_LENGTH];
-    let mut args = [0u64; ARGS_LENGTH];
-    let mut entries = [0u16; ENTRIES_LENGTH];
-    let mut falls = [0u16; FALLS_LENGTH];
-    let mut links = [0u16; LINKS_LENGTH];
-    let mut lists = [0u16; LISTS_LENGTH];
-    let mut returns = [0u16; MAX_STMTS];
-    let mut succ = [0u16; MAX_EDGES];
-    let mut pred = [0u16; MAX_EDGES];
+    let mut t = Tables::zeroed();
     ask_text(
         text,
-        &mut counts,
-        &mut lines,
-        &mut stmts,
-        &mut args,
-        &mut entries,
-        &mut falls,
-        &mut links,
-        &mut lists,
-        &mut returns,
-        &mut succ,
-        &mut pred,
+        &mut t.counts,
+        &mut t.lines,
+        &mut t.stmts,
+        &mut t.args,
+        &mut t.entries,
+        &mut t.falls,
+        &mut t.links,
+        &mut t.lists,
+        &mut t.returns,
+        &mut t.succ,
+        &mut t.pred,
         out,
     )
 }

@@ -9,7 +9,7 @@ ghost use Rattle.formatting.specs.Pages.{Wrote, pair_text};
 
 use crate::parts;
 use layout::refusals::Refusal;
-use tokens::words::{word_length, word_letter};
+use tokens::words::word;
 
 // A lent part, and where its next byte goes.
 #[derive(Drop)]
@@ -51,9 +51,7 @@ impl<'a> Page<'a> {
     pub fn put_word(&mut self, k: usize)
         ensures { Wrote self.old self.new (get_or words k []) }
     {
-        for j in 0..word_length(k) {
-            self.put_byte(word_letter(k, j));
-        }
+        self.put_bytes(word(k));
     }
 
     // A number.

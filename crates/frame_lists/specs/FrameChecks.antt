@@ -215,13 +215,13 @@ name_taken v k = go (is_name v) refl
     go true e h = (e, cc)
     go false e h = cc
 
-pub name_refused : (v : Name) (r : Reason) → Err r ≡ as_key (parse_name v) → (is_name v ≡ false) × (r ≡ reason.BadWord)
+pub name_refused : (v : Name) (x : Result ℕ Reason) → x ≡ as_key (parse_name v) → ((k : ℕ) → x ≡ Ok k → ⊥) → (is_name v ≡ false) × (x ≡ Err reason.BadWord)
 unfolding parse_name
-name_refused v r = go (is_name v) refl
+name_refused v x = go (is_name v) refl
   where
-    go : (t : Bool) → is_name v ≡ t → Err r ≡ as_key (pick t (parsed v) invalid) → (is_name v ≡ false) × (r ≡ reason.BadWord)
-    go true e h = cc
-    go false e h = (e, cc)
+    go : (t : Bool) → is_name v ≡ t → x ≡ as_key (pick t (parsed v) invalid) → ((k : ℕ) → x ≡ Ok k → ⊥) → (is_name v ≡ false) × (x ≡ Err reason.BadWord)
+    go true e h n = absurd (n (name_key (cut_name v)) h)
+    go false e h n = (e, h)
 
 pub answer_as : (q p : Reply (List ℕ)) (out t : List ℕ) (r : Result ℕ Refusal) → q ≡ p → FrameAnswered q out t r → FrameAnswered p out t r
 answer_as q p out t r e g = subst (λ (z : Reply (List ℕ)). FrameAnswered z out t r) e g
@@ -231,6 +231,6 @@ module _ (lines n : ℕ) (stmts args falls lists succ : List ℕ) (h i : ℕ) (v
   unfolding frame_at
   at_3 e = rw e refl
 
-  pub at_name : (k l m : ℕ) → is_name v ≡ true → l ≡ lines → m ≡ n → k ≡ name_key (cut_name v) → frame_in l m stmts args falls lists succ h i k flag room ≡ frame_at lines n stmts args falls lists succ h i v flag room
+  pub at_name : (k : ℕ) → is_name v ≡ true → k ≡ name_key (cut_name v) → frame_in lines n stmts args falls lists succ h i k flag room ≡ frame_at lines n stmts args falls lists succ h i v flag room
   unfolding frame_at
-  at_name k l m e g d f = rw (e, g, d, f) refl
+  at_name k e f = rw (e, f) refl

@@ -27,6 +27,15 @@ pub struct FrameTables<'a> {
     pub succ: &'a [u16],
 }
 
+// What is asked, with the name's key.
+#[derive(Clone, Copy)]
+struct FrameQuestion {
+    header: usize,
+    node: usize,
+    key: u64,
+    flag: bool,
+}
+
 // The words that end a frame of any name.
 #[tactic(auto, unfolding(crate::specs::FrameAt::forgets_word))]
 fn forgets(word: u16) -> bool
@@ -75,28 +84,21 @@ fn copy_part(t: &FrameTables<'_>, node: usize, out: &mut [u16]) -> Result<usize,
 }
 
 // By the node's opening word.
-fn write_frame(
-    t: &FrameTables<'_>,
-    header: usize,
-    node: usize,
-    key: u64,
-    flag: bool,
-    out: &mut [u16],
-) -> Result<usize, Refusal>
-    requires { FrameInside t.now.counts.now t.now.stmts.now t.now.args.now t.now.falls.now t.now.lists.now t.now.succ.now header node }
-    ensures { FrameAnswered (if_room (length out.old) (frame_read t.now.stmts.now t.now.args.now t.now.falls.now t.now.lists.now t.now.succ.now header node key flag)) out.old out.new result }
+fn write_frame(t: &FrameTables<'_>, q: FrameQuestion, out: &mut [u16]) -> Result<usize, Refusal>
+    requires { FrameInside t.now.counts.now t.now.stmts.now t.now.args.now t.now.falls.now t.now.lists.now t.now.succ.now q.header q.node }
+    ensures { FrameAnswered (if_room (length out.old) (frame_read t.now.stmts.now t.now.args.now t.now.falls.now t.now.lists.now t.now.succ.now q.header q.node q.key q.flag)) out.old out.new result }
 {
-    let word = t.stmts[node * STMT_ENTRIES];
-    if ends_frame(word, t.args[node * ARG_ENTRIES], key) {
+    let word = t.stmts[q.node * STMT_ENTRIES];
+    if ends_frame(word, t.args[q.node * ARG_ENTRIES], q.key) {
         return give_nothing(out);
     }
-    if keeps_shared(word, flag) {
-        return keep_part(t, header, node, out);
+    if keeps_shared(word, q.flag) {
+        return keep_part(t, q.header, q.node, out);
     }
     if is_call(word) {
-        return give_fall(t.falls[node * FALL_ENTRIES], out);
+        return give_fall(t.falls[q.node * FALL_ENTRIES], out);
     }
-    copy_part(t, node, out)
+    copy_part(t, q.node, out)
 }
 
 // By division, so that no product can wrap.
@@ -136,34 +138,26 @@ fn frame_outside(t: &FrameTables<'_>, n: usize, header: usize, node: usize) -> b
 }
 
 // Once the name is known to be one. All is decided before the first entry is written.
-fn frame_of(
-    t: &FrameTables<'_>,
-    lines: usize,
-    n: usize,
-    header: usize,
-    node: usize,
-    key: u64,
-    flag: bool,
-    out: &mut [u16],
-) -> Result<usize, Refusal>
-    requires { n ≡ get_or t.now.counts.now 1 0 }
-    ensures { FrameAnswered (frame_in lines n t.now.stmts.now t.now.args.now t.now.falls.now t.now.lists.now t.now.succ.now header node key flag (length out.old)) out.old out.new result }
+// Kept: `count_of`, since std has no conversion from `u32` to `usize` that cannot fail.
+fn frame_of(t: &FrameTables<'_>, q: FrameQuestion, out: &mut [u16]) -> Result<usize, Refusal>
+    ensures { FrameAnswered (frame_in (get_or t.now.counts.now 0 0) (get_or t.now.counts.now 1 0) t.now.stmts.now t.now.args.now t.now.falls.now t.now.lists.now t.now.succ.now q.header q.node q.key q.flag (length out.old)) out.old out.new result }
 {
-    if n <= header {
-        return Err(Reason::NoNode.at(header));
+    let n = count_of(t.counts[1]);
+    if n <= q.header {
+        return Err(Reason::NoNode.at(q.header));
     }
-    if n <= node {
-        return Err(Reason::NoNode.at(node));
+    if n <= q.node {
+        return Err(Reason::NoNode.at(q.node));
     }
-    if frame_outside(t, n, header, node) {
+    if frame_outside(t, n, q.header, q.node) {
         return Err(Reason::Outside.at(0));
     }
-    no_statement(lines, t.stmts, n, node)?;
-    write_frame(t, header, node, key, flag, out)
+    no_statement(count_of(t.counts[0]), t.stmts, n, q.node)?;
+    write_frame(t, q, out)
 }
 
 // The frame question (document 01), on any tables.
-// Kept: `count_of`, since std has no conversion from `u32` to `usize` that cannot fail.
+// Kept: header, node, name and flag one by one, as C's function hands them on.
 pub fn ask_frame(
     t: &FrameTables<'_>,
     header: usize,
@@ -174,11 +168,12 @@ pub fn ask_frame(
 ) -> Result<usize, Refusal>
     ensures { FrameAnswered (frame_at (get_or t.now.counts.now 0 0) (get_or t.now.counts.now 1 0) t.now.stmts.now t.now.args.now t.now.falls.now t.now.lists.now t.now.succ.now header node name.now flag (length out.old)) out.old out.new result }
 {
-    let key = match key_of(name) {
-        Ok(key) => key,
-        Err(reason) => return Err(reason.at(0)),
+    let key = key_of(name).map_err(|reason| reason.at(0))?;
+    let q = FrameQuestion {
+        header,
+        node,
+        key,
+        flag,
     };
-    let lines = count_of(t.counts[0]);
-    let n = count_of(t.counts[1]);
-    frame_of(t, lines, n, header, node, key, flag, out)
+    frame_of(t, q, out)
 }

@@ -19,3 +19,7 @@ keep_filter p (a ∷ l) = go (p a) (keep_filter p l)
 pub kept_count : (hs l : List ℕ) → count_by (λ s. has s hs) l ≡ length (kept hs l)
 unfolding kept
 kept_count hs l = sym (length-filter (λ s. has s hs) l) ∙ ap length (keep_filter (λ s. has s hs) l)
+
+pub kept_filter : (hs l : List ℕ) → filter (λ s. has s hs) l ≡ kept hs l
+unfolding kept
+kept_filter hs l = keep_filter (λ s. has s hs) l

@@ -20,12 +20,8 @@ fn store_kept(list: &[u16], header: &[u16], out: &mut [u16])
     requires { length (kept header.now list.now) ≤ length out.old }
     ensures { out.new ≡ kept header.now list.now ++ drop (length (kept header.now list.now)) out.old }
 {
-    let mut len: usize = 0;
-    for &s in list {
-        if holds(header, s) {
-            out[len] = s;
-            len += 1;
-        }
+    for (len, &s) in list.iter().filter(|s| holds(header, **s)).enumerate() {
+        out[len] = s;
     }
 }
 

@@ -1,3 +1,4 @@
 pub mod Layout
 pub mod Zeroed
 pub mod Refusals
+pub mod Fronts

@@ -1,3 +1,4 @@
+pub mod Pieces
 pub mod WordSlots
 pub mod WordKinds
 pub mod NumberText

@@ -51,13 +51,13 @@ room_each f xs p n w q r k h a =
 
 -- ---- the first of a row, if there is one
 
-module _ (row p : List ℕ) where
-  pub first-none : length row ≡ 0 → Grows p 0 p 0 (each decode (take 1 row))
+module _ (row p : List ℕ) (n : ℕ) where
+  pub first-none : length row ≡ 0 → Grows p n p n (each decode (take 1 row))
   unfolding each
   first-none e = go row e
     where
-      go : (l : List ℕ) → length l ≡ 0 → Grows p 0 p 0 (each decode (take 1 l))
-      go [] q = grows_none p 0
+      go : (l : List ℕ) → length l ≡ 0 → Grows p n p n (each decode (take 1 l))
+      go [] q = grows_none p n
       go (a ∷ l) q = absurd (omega arith)
 
   first-is : (length row ≡ 0 → ⊥) → each decode (take 1 row) ≡ decode (get_or row 0 0)
@@ -68,10 +68,10 @@ module _ (row p : List ℕ) where
       go [] q = absurd (q refl)
       go (a ∷ l) q = append-nil (decode a)
 
-  pub first_room : (length row ≡ 0 → ⊥) → RoomToAdd p 0 (each decode (take 1 row)) → RoomFor p 0 (get_or row 0 0)
-  first_room z w = room_one p 0 (get_or row 0 0) (rw (first-is z) at w)
+  pub first_room : (length row ≡ 0 → ⊥) → RoomToAdd p n (each decode (take 1 row)) → RoomFor p n (get_or row 0 0)
+  first_room z w = room_one p n (get_or row 0 0) (rw (first-is z) at w)
 
-  pub first_one : (q : List ℕ) (r : ℕ) → (length row ≡ 0 → ⊥) → Grows p 0 q r (decode (get_or row 0 0)) → Grows p 0 q r (each decode (take 1 row))
+  pub first_one : (q : List ℕ) (r : ℕ) → (length row ≡ 0 → ⊥) → Grows p n q r (decode (get_or row 0 0)) → Grows p n q r (each decode (take 1 row))
   first_one q r z a = rw (first-is z) a
 
 -- ---- the same list in other words

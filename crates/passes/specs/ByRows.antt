@@ -50,7 +50,7 @@ pub record ByRowsAnswered (stmts falls links : List ℕ) (n : ℕ) (rows rows' :
 -- ---- the rows of a listing's arguments
 
 -- the set of each RETURN stands in its own row of arguments
-pub record ReturnsByRows (stmts args entries falls links frames dispatched : List ℕ) (lines n d : ℕ) (args' : List ℕ) : Type 0 where
+pub record ReturnsByRows (stmts args entries falls links frames dispatched : List ℕ) (lines n : ℕ) (args' : List ℕ) : Type 0 where
   pub size : length args' ≡ length args
-  pub members : (L : Listing) → Prepared L stmts args entries falls links frames dispatched lines n d → Roles (wire L) stmts falls links n
+  pub members : (L : Listing) → Prepared L stmts args entries falls links frames dispatched lines n → Roles (wire L) stmts falls links n
       → (r : ℕ) → r < n → get_or stmts (r * 12) 0 ≡ return_word → members_of (set_of args' r) ≡ region_return_edges (wire L) r

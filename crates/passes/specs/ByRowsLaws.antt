@@ -99,15 +99,15 @@ module _ (stmts falls links : List ℕ) (n : ℕ) (xs ys zs : List ℕ) (fits : 
 
 -- ---- the rows of a listing's arguments, filled and then closed
 
-module _ (stmts args entries falls links frames dispatched : List ℕ) (lines n d room : ℕ) (r : FillReady stmts args entries falls links frames dispatched lines n d room) (xs ys : List ℕ)
-    (f : RowsFilled stmts args entries falls links frames dispatched lines n d xs) (b : Bool) (t : ByRowsAnswered stmts falls links n xs ys b) where
+module _ (stmts args entries falls links frames dispatched : List ℕ) (lines n room : ℕ) (r : FillReady stmts args entries falls links frames dispatched lines n room) (xs ys : List ℕ)
+    (f : RowsFilled stmts args entries falls links frames dispatched lines n xs) (b : Bool) (t : ByRowsAnswered stmts falls links n xs ys b) where
   fitting : n * 64 ≤ length xs
   fitting = omega (arith, r.prepared.args_fit, f.size)
 
   found_sets : SetsByRows stmts falls links n xs ys
   found_sets = t.found (t.answer ∙ read_calls stmts falls links n xs (roles_read (wire r.listing) stmts falls links n r.roles) fitting)
 
-  module _ (L : Listing) (P : Prepared L stmts args entries falls links frames dispatched lines n d) (R : Roles (wire L) stmts falls links n) where
+  module _ (L : Listing) (P : Prepared L stmts args entries falls links frames dispatched lines n) (R : Roles (wire L) stmts falls links n) where
     same : (v u : ℕ) → v < n → (get_or stmts (v * 12) 0 ≡ return_word) ⊎ (get_or stmts (v * 12) 0 ≡ return_word → ⊥) → Memᴰ u (row_steps stmts xs n v) ↔ Memᴰ u (skip_steps (wire L) v)
     same v u h (inl w) =
         rw (return_steps stmts xs n v h w, skip_none (wire L) stmts falls links n v R h w) (λ m. m, λ m. m)
@@ -121,5 +121,5 @@ module _ (stmts args entries falls links frames dispatched : List ℕ) (lines n 
         let e = back_exact (wire L) stmts falls links n R (row_steps stmts xs n) (λ v lt. rw P.nodes_are (skip_ids L v)) (λ v u lt. same v u lt (eq-or (get_or stmts (v * 12) 0) return_word)) i k in
         (λ m. (found_sets.members i (h, w) k).1 (e.0 m), λ m. e.1 ((found_sets.members i (h, w) k).0 m)))
 
-  pub by_rows_to : ReturnsByRows stmts args entries falls links frames dispatched lines n d ys
+  pub by_rows_to : ReturnsByRows stmts args entries falls links frames dispatched lines n ys
   by_rows_to = record { size = found_sets.size ∙ f.size; members = λ L P R i h w. by_rows_row L P R i h w }

@@ -1,6 +1,6 @@
 -- The dispatched FORs that have a body, in reading order, as the tables have them. Assumes nothing.
-use Rattle.std.specs.Prelude.{ℕ, zero, suc, ◌+◌, ◌*◌, ◌-◌, ◌≤◌, ◌<◌, ◌≡◌, refl, Bool, true, false, not, List, [], ◌∷◌, ◌++◌, eqb, length, set, take, drop}
-use Rattle.std.proofs.Common.{sym, ap, ◌∙◌, append-nil, add-one, take_all, take-suc-set, drop-set-lt, drop-drop}
+use Rattle.std.specs.Prelude.{ℕ, zero, suc, ◌+◌, ◌*◌, ◌≤◌, ◌≡◌, Bool, false, not, List, [], ◌∷◌, ◌++◌, eqb, length, take, drop}
+use Rattle.std.proofs.Common.{sym, ap, ◌∙◌, take_all}
 use Rattle.std.proofs.Math.Option.{Option, none, some}
 use native.Mathlib.Omega.{arith}
 use borrow.Author.Tests.{eq-eqb, ne_eqb, eqb-false}
@@ -17,6 +17,8 @@ use Rattle.graph.specs.NodeWords.{stmt_number}
 use Rattle.graph.specs.Targets.{on_for, on_simple, dispatch_target, dispatch_targets}
 use Rattle.passes.specs.ListedNodes.{StmtListed, Listed, FallsListed, ForKind, is_for, is_next, is_other, for_kind, for_number, next_number}
 use Rattle.passes.specs.Growing.{each_snoc}
+use Rattle.passes.specs.Sets.{one_if, Put}
+use Rattle.passes.specs.ListedWhere.{listed_where, where_few}
 use Rattle.passes.specs.LineEntries.{at_place}
 
 -- ts: the records; es: where nodes fall. A FOR, dispatched, that falls:
@@ -24,9 +26,8 @@ unfoldable pub is_dispatched : List ℕ → List ℕ → ℕ → Bool
 is_dispatched ts es k = pick (eqb (get_or ts (k * 12) 0) for_word) (pick (eqb (get_or ts (k * 12 + 11) 0) dispatched_tier) (not (eqb (get_or es (k * 3) 0) 0)) false) false
 
 -- those among the nodes below n
-unfoldable pub dispatched_ids : List ℕ → List ℕ → ℕ → List ℕ
-dispatched_ids ts es zero = []
-dispatched_ids ts es (suc k) = dispatched_ids ts es k ++ pick (is_dispatched ts es k) (k ∷ []) []
+abbrev pub dispatched_ids : List ℕ → List ℕ → ℕ → List ℕ
+dispatched_ids ts es = listed_where (is_dispatched ts es)
 
 -- they are the first r entries; what stands behind is as it was
 pub record DispatchedTo (ts es : List ℕ) (n : ℕ) (ds ds' : List ℕ) (r : ℕ) : Type 0 where
@@ -34,39 +35,8 @@ pub record DispatchedTo (ts es : List ℕ) (n : ℕ) (ds ds' : List ℕ) (r : �
   pub listed : take r ds' ≡ dispatched_ids ts es n
   pub rest : drop r ds' ≡ drop r ds
 
--- one node: from r entries to r'
-pub record DispatchedOne (ts es : List ℕ) (k : ℕ) (ds : List ℕ) (r : ℕ) (ds' : List ℕ) (r' : ℕ) : Type 0 where
-  pub grows : r ≤ r'
-  pub few : r' ≤ r + 1
-  pub listed : take r' ds' ≡ take r ds ++ pick (is_dispatched ts es k) (k ∷ []) []
-  pub rest : drop r' ds' ≡ drop r' ds
-
--- ---- the pass
-
-pub dispatched_start : (ts es ds : List ℕ) → DispatchedTo ts es 0 ds ds 0
-unfolding dispatched_ids
-dispatched_start ts es ds = record { few = omega arith; listed = refl; rest = refl }
-
-drop-later : (p q : List ℕ) (m r : ℕ) → m ≤ r → drop m p ≡ drop m q → drop r p ≡ drop r q
-drop-later p q m r h e =
-    let z : m + (r - m) ≡ r = omega arith in
-    ap (λ (x : ℕ). drop x p) (sym z) ∙ sym (drop-drop (r - m) m p) ∙ ap (drop (r - m)) e ∙ drop-drop (r - m) m q ∙ ap (λ (x : ℕ). drop x q) z
-
-pub dispatched_on : (ts es ds ds₁ ds₂ : List ℕ) (k r₁ r₂ : ℕ) → DispatchedTo ts es k ds ds₁ r₁ → DispatchedOne ts es k ds₁ r₁ ds₂ r₂ → DispatchedTo ts es (k + 1) ds ds₂ r₂
-unfolding dispatched_ids
-dispatched_on ts es ds ds₁ ds₂ k r₁ r₂ a b =
-    record {
-      few = omega (arith, a.few, b.few);
-      listed = rw add-one (b.listed ∙ ap (λ (x : List ℕ). x ++ pick (is_dispatched ts es k) (k ∷ []) []) a.listed);
-      rest = b.rest ∙ drop-later ds₁ ds r₁ r₂ b.grows a.rest;
-    }
-
-module _ (ts es : List ℕ) (k : ℕ) (ds : List ℕ) (r : ℕ) where
-  pub dispatched_no : is_dispatched ts es k ≡ false → DispatchedOne ts es k ds r ds r
-  dispatched_no e = record { grows = omega arith; few = omega arith; listed = rw e (sym (append-nil (take r ds))); rest = refl }
-
-  pub dispatched_yes : (v : ℕ) → is_dispatched ts es k ≡ true → v ≡ k → r < length ds → DispatchedOne ts es k ds r (set ds r v) (r + 1)
-  dispatched_yes v e q h = record { grows = omega arith; few = omega arith; listed = rw (e, add-one, ← q) (take-suc-set ds r v h); rest = drop-set-lt (r + 1) ds r v (omega arith) }
+pub dispatched_put : (ts es : List ℕ) (n : ℕ) (ds ds' : List ℕ) (r : ℕ) → Put ds 0 ds' r (dispatched_ids ts es n) → DispatchedTo ts es n ds ds' r
+dispatched_put ts es n ds ds' r a = record { few = omega (arith, a.count, where_few (is_dispatched ts es) n); listed = a.list; rest = a.rest }
 
 -- ---- the test
 
@@ -99,7 +69,7 @@ target s e = on_simple (on_for (λ v t. dispatch_target v t e) []) [] s
 
 module _ (ts ks es : List ℕ) (k : ℕ) where
   for_bodies : (v : Name) (t : Tier) (e : Option ℕ) → NameOk v → get_or ks (k * 64) 0 ≡ name_key v → get_or ts (k * 12) 0 ≡ 13 → get_or ts (k * 12 + 11) 0 ≡ tier_number t → get_or es (k * 3) 0 ≡ node_number e
-      → Bodies ks es (pick (is_dispatched ts es k) (k ∷ []) []) (dispatch_target v t e)
+      → Bodies ks es (one_if (is_dispatched ts es k) k) (dispatch_target v t e)
   unfolding dispatch_target tier_number list
   for_bodies v static e h n w d f = rw (not_tier ts es k w (λ q. omega arith)) bodies[]
   for_bodies v framed e h n w d f = rw (not_tier ts es k w (λ q. omega arith)) bodies[]
@@ -107,7 +77,7 @@ module _ (ts ks es : List ℕ) (k : ℕ) where
   for_bodies v dispatched (some b) h n w d f = rw (by_fall ts es k w d, f, ne_eqb (suc b) 0 (λ q. omega arith)) (bodies∷ h n f bodies[])
 
   pub node_bodies : (s : NodeStmt) (e : Option ℕ) → get_or ts (k * 12) 0 ≡ stmt_number s → StmtListed ts ks k s → get_or es (k * 3) 0 ≡ node_number e → ForKind s
-      → Bodies ks es (pick (is_dispatched ts es k) (k ∷ []) []) (target s e)
+      → Bodies ks es (one_if (is_dispatched ts es k) k) (target s e)
   unfolding on_simple on_for args_of detail_of SimpleOk
   node_bodies s e w h f (is_for v t) =
       let z : k * 64 ≡ k * 64 + 0 = omega arith in
@@ -121,7 +91,7 @@ take_node (x ∷ l) zero a e = let q : x ≡ a = cc in rw q
 take_node (x ∷ l) (suc k) a e = ap (λ y. x ∷ y) (take_node l k a e)
 
 bodies_upto : (ts ks es : List ℕ) (ns : List Node) → Listed ts ks ns → FallsListed es ns → (k : ℕ) → k ≤ length ns → Bodies ks es (dispatched_ids ts es k) (dispatch_targets (take k ns))
-unfolding dispatched_ids dispatch_targets each
+unfolding listed_where dispatch_targets each
 bodies_upto ts ks es ns h f zero lt = bodies[]
 bodies_upto ts ks es ns h f (suc k) lt =
     let d = at_place ns k (omega arith) in

@@ -28,9 +28,9 @@ pub table_row : {es : Entries} {entries : List ℕ} {k : ℕ} → EntryTable es 
     → (get_or entries (i * 2 + 0) 0 ≡ d.0) × (get_or entries (i * 2 + 1) 0 ≡ node_number d.1)
 table_row {es} t i d e = rw t.listed (row_of es.rows t.rest i d e)
 
-module _ (t p : List ℕ) (rows : ℕ) where
-  pub column_none : rows ≡ 0 → Grows p 0 p 0 (each decode (take 1 (entry_column 1 rows t)))
-  column_none z = first-none (entry_column 1 rows t) p (column_length 1 rows t ∙ z)
+module _ (t p : List ℕ) (n rows : ℕ) where
+  pub column_none : rows ≡ 0 → Grows p n p n (each decode (take 1 (entry_column 1 rows t)))
+  column_none z = first-none (entry_column 1 rows t) p n (column_length 1 rows t ∙ z)
 
   module _ (z : rows ≡ 0 → ⊥) where
     not_empty : length (entry_column 1 rows t) ≡ 0 → ⊥
@@ -39,8 +39,8 @@ module _ (t p : List ℕ) (rows : ℕ) where
     first_at : get_or (entry_column 1 rows t) 0 0 ≡ get_or t 1 0
     first_at = column_at 1 rows t 0 (omega arith)
 
-    pub column_room : RoomToAdd p 0 (each decode (take 1 (entry_column 1 rows t))) → RoomFor p 0 (get_or t 1 0)
-    column_room w = rw first_at at (first_room (entry_column 1 rows t) p not_empty w)
+    pub column_room : RoomToAdd p n (each decode (take 1 (entry_column 1 rows t))) → RoomFor p n (get_or t 1 0)
+    column_room w = rw first_at at (first_room (entry_column 1 rows t) p n not_empty w)
 
-    pub column_one : (q : List ℕ) (r : ℕ) → Grows p 0 q r (decode (get_or t 1 0)) → Grows p 0 q r (each decode (take 1 (entry_column 1 rows t)))
-    column_one q r a = first_one (entry_column 1 rows t) p q r not_empty (rw first_at a)
+    pub column_one : (q : List ℕ) (r : ℕ) → Grows p n q r (decode (get_or t 1 0)) → Grows p n q r (each decode (take 1 (entry_column 1 rows t)))
+    column_one q r a = first_one (entry_column 1 rows t) p n q r not_empty (rw first_at a)

@@ -81,26 +81,26 @@ rises_end : {a b : ℕ} {l : List ℕ} → Rises a (b ∷ l) → b ≡ 0 → eac
 rises_end (rises∷ h z r) s = absurd (z s)
 rises_end (zeros r) s = no_more r
 
-pub last_start : (part : List ℕ) → LastAdded part 0 0
-last_start part = record { below = all[]; there = λ z. absurd (z refl) }
+pub last_start : (part : List ℕ) (n : ℕ) → n ≡ 0 → LastAdded part n 0
+last_start part n e = rw e record { below = all[]; there = λ z. absurd (z refl) }
 
 -- e: entry k of the row
-module _ (row p q : List ℕ) (r k last : ℕ) (h : k < length row) (a : Grows p 0 q r (each decode (take k row))) (t : Rises last (drop k row)) (e : ℕ) (ae : get_or row k 0 ≡ e) where
+module _ (row p q : List ℕ) (n r k last : ℕ) (h : k < length row) (a : Grows p n q r (each decode (take k row))) (t : Rises last (drop k row)) (e : ℕ) (ae : get_or row k 0 ≡ e) where
   here : Rises last (e ∷ drop (suc k) row)
   here = rw ae at (rw (drop-cons row k 0 h) at t)
 
-  pub entry_room : RoomToAdd p 0 (each decode row) → LastAdded q r last → (e ≡ 0 → ⊥) → EntryRoom q r e last
-  entry_room w l s = record { added = l; room = room_one q r e (rw ae at (room_each decode row p 0 w q r k h a)); some = s; rises = (rises_on here s).0 }
+  pub entry_room : RoomToAdd p n (each decode row) → LastAdded q r last → (e ≡ 0 → ⊥) → EntryRoom q r e last
+  entry_room w l s = record { added = l; room = room_one q r e (rw ae at (room_each decode row p n w q r k h a)); some = s; rises = (rises_on here s).0 }
 
   pub rises_next : (e ≡ 0 → ⊥) → Rises e (drop (k + 1) row)
   rises_next s = rw add-one (rises_on here s).1
 
   -- it was added
-  pub entry_on : (v : List ℕ) (m : ℕ) → Grows q r v m (decode e) → Grows p 0 v m (each decode (take (k + 1) row))
-  entry_on v m g = each_on decode row p 0 q v r m k h a (rw ae g)
+  pub entry_on : (v : List ℕ) (m : ℕ) → Grows q r v m (decode e) → Grows p n v m (each decode (take (k + 1) row))
+  entry_on v m g = each_on decode row p n q v r m k h a (rw ae g)
 
   -- no entry follows
-  pub entries_end : e ≡ 0 → Grows p 0 q r (each decode row)
+  pub entries_end : e ≡ 0 → Grows p n q r (each decode row)
   entries_end s =
       let z : each decode row ≡ each decode (take k row)
       = ap (each decode) (sym (take-append-drop k row)) ∙ each_append decode (take k row) (drop k row) ∙ ap (λ (l : List ℕ). each decode (take k row) ++ each decode l) (drop-cons row k 0 h)

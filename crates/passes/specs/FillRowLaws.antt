@@ -73,10 +73,10 @@ clash e = let z : ◌≡◌ {A = ℕ} 0 1 = cc in absurd (omega arith)
 
 -- ---- one row
 
-module _ (stmts args entries falls links frames dispatched : List ℕ) (lines d i : ℕ) where
+module _ (stmts args entries falls links frames dispatched : List ℕ) (lines i : ℕ) where
   -- what was listed fits a row
-  pub skip_fits : (part part' : List ℕ) (count : ℕ) → SkipReady stmts args entries falls links frames dispatched lines d i (length part)
-      → SkipMade stmts args entries falls links frames dispatched lines d i part part' count → (count ≤ length part') × Ids 4096 (take count part')
+  pub skip_fits : (part part' : List ℕ) (count : ℕ) → SkipReady stmts args entries falls links frames dispatched lines i (length part)
+      → SkipMade stmts args entries falls links frames dispatched lines i part part' count → (count ≤ length part') × Ids 4096 (take count part')
   skip_fits part part' count s made =
       let r = s.ready in
       let p = r.prepared in
@@ -86,12 +86,12 @@ module _ (stmts args entries falls links frames dispatched : List ℕ) (lines d 
       (omega (arith, m.within, m.size), rw m.list (all_map (λ a h. omega arith) (skip_ids r.listing i)))
 
   module _ (nexts : Bool) where
-    pub row_left : passes stmts nexts i ≡ false → RowFilled stmts args entries falls links frames dispatched lines d i nexts args
+    pub row_left : passes stmts nexts i ≡ false → RowFilled stmts args entries falls links frames dispatched lines i nexts args
     row_left e = record { size = refl; row = λ t. clash (sym e ∙ t); others = λ k q. refl }
 
     pub row_filled : (part part' row : List ℕ) (count p : ℕ) → passes stmts nexts i ≡ true → p ≡ 64 → i * 64 + 64 ≤ length args
-        → SkipMade stmts args entries falls links frames dispatched lines d i part part' count → RowIs (take count part') row
-        → RowFilled stmts args entries falls links frames dispatched lines d i nexts (take (i * 64) args ++ (row ++ drop p (drop (i * 64) args)))
+        → SkipMade stmts args entries falls links frames dispatched lines i part part' count → RowIs (take count part') row
+        → RowFilled stmts args entries falls links frames dispatched lines i nexts (take (i * 64) args ++ (row ++ drop p (drop (i * 64) args)))
     row_filled part part' row count p t ep fits made s =
         let u = row_put i p row args ep s.size fits in
         let q = u.here in
@@ -105,12 +105,12 @@ module _ (stmts args entries falls links frames dispatched : List ℕ) (lines d 
 
 -- ---- one pass
 
-module _ (stmts args entries falls links frames dispatched : List ℕ) (lines n d : ℕ) (nexts : Bool) where
-  pub pass_none : PassFilled stmts args entries falls links frames dispatched lines n d nexts 0 args
+module _ (stmts args entries falls links frames dispatched : List ℕ) (lines n : ℕ) (nexts : Bool) where
+  pub pass_none : PassFilled stmts args entries falls links frames dispatched lines n nexts 0 args
   pass_none = record { size = refl; rows = λ L ks P R l q i h. absurd (omega arith); others = λ e q. refl }
 
   -- the arguments that the list of a NEXT reads are still there
-  pass_keys : (k : ℕ) (args₁ ks : List ℕ) → PassFilled stmts args entries falls links frames dispatched lines n d nexts k args₁ → (nexts ≡ true → args ≡ ks)
+  pass_keys : (k : ℕ) (args₁ ks : List ℕ) → PassFilled stmts args entries falls links frames dispatched lines n nexts k args₁ → (nexts ≡ true → args ≡ ks)
       → passes stmts nexts k ≡ true → Keys stmts ks args₁ k
   unfolding passes
   pass_keys k args₁ ks s same t = go nexts refl
@@ -129,8 +129,8 @@ module _ (stmts args entries falls links frames dispatched : List ℕ) (lines n 
               omega (arith, pass_next (get_or stmts (a * 12) 0) g)
       go false e w = absurd (pass_other (get_or stmts (k * 12) 0) (rw e at t) w)
 
-  pub pass_ready : (k room : ℕ) (args₁ : List ℕ) → k < n → PassReady stmts args entries falls links frames dispatched lines n d nexts room
-      → PassFilled stmts args entries falls links frames dispatched lines n d nexts k args₁ → RowReady stmts args₁ entries falls links frames dispatched lines d k nexts room
+  pub pass_ready : (k room : ℕ) (args₁ : List ℕ) → k < n → PassReady stmts args entries falls links frames dispatched lines n nexts room
+      → PassFilled stmts args entries falls links frames dispatched lines n nexts k args₁ → RowReady stmts args₁ entries falls links frames dispatched lines k nexts room
   pass_ready k room args₁ h r s =
       let p = r.prepared in
       record {
@@ -153,8 +153,8 @@ module _ (stmts args entries falls links frames dispatched : List ℕ) (lines n 
             };
       }
 
-  pub pass_more : (k : ℕ) (args₁ args₂ : List ℕ) → k < n → PassFilled stmts args entries falls links frames dispatched lines n d nexts k args₁
-      → RowFilled stmts args₁ entries falls links frames dispatched lines d k nexts args₂ → PassFilled stmts args entries falls links frames dispatched lines n d nexts (k + 1) args₂
+  pub pass_more : (k : ℕ) (args₁ args₂ : List ℕ) → k < n → PassFilled stmts args entries falls links frames dispatched lines n nexts k args₁
+      → RowFilled stmts args₁ entries falls links frames dispatched lines k nexts args₂ → PassFilled stmts args entries falls links frames dispatched lines n nexts (k + 1) args₂
   pass_more k args₁ args₂ h s t =
       record {
         size = t.size ∙ s.size;
@@ -162,7 +162,7 @@ module _ (stmts args entries falls links frames dispatched : List ℕ) (lines n 
         others = λ e ne. t.others e (λ f g. ne (omega arith) (subst (λ (x : ℕ). passes stmts nexts x ≡ true) (sym f) g)) ∙ s.others e (λ lt g. ne (omega arith) g);
       }
     where
-      go : (L : Listing) (ks : List ℕ) → Prepared L stmts ks entries falls links frames dispatched lines n d → Roles (wire L) stmts falls links n → length args ≡ length ks
+      go : (L : Listing) (ks : List ℕ) → Prepared L stmts ks entries falls links frames dispatched lines n → Roles (wire L) stmts falls links n → length args ≡ length ks
           → (nexts ≡ true → args ≡ ks) → (i : ℕ) → i < k + 1 → i < n → passes stmts nexts i ≡ true → (i ≡ k) ⊎ (i ≡ k → ⊥) → Steps L args₂ i
       go L ks P R l q i lt li p (inl e) =
           let p' = subst (λ (x : ℕ). passes stmts nexts x ≡ true) e p in
@@ -173,20 +173,20 @@ module _ (stmts args entries falls links frames dispatched : List ℕ) (lines n 
 
 -- ---- both passes
 
-module _ (stmts args entries falls links frames dispatched : List ℕ) (lines n d : ℕ) where
-  pub first_ready : (room : ℕ) → FillReady stmts args entries falls links frames dispatched lines n d room
-      → PassReady stmts args entries falls links frames dispatched lines n d true room
+module _ (stmts args entries falls links frames dispatched : List ℕ) (lines n : ℕ) where
+  pub first_ready : (room : ℕ) → FillReady stmts args entries falls links frames dispatched lines n room
+      → PassReady stmts args entries falls links frames dispatched lines n true room
   first_ready room r =
       record { listing = r.listing; keys₀ = args; prepared = r.prepared; roles = r.roles; size = refl; names = λ e. refl; room_for = r.room_for }
 
-  module _ (args₁ : List ℕ) (s : PassFilled stmts args entries falls links frames dispatched lines n d true n args₁) where
-    pub second_ready : (room : ℕ) → FillReady stmts args entries falls links frames dispatched lines n d room
-        → PassReady stmts args₁ entries falls links frames dispatched lines n d false room
+  module _ (args₁ : List ℕ) (s : PassFilled stmts args entries falls links frames dispatched lines n true n args₁) where
+    pub second_ready : (room : ℕ) → FillReady stmts args entries falls links frames dispatched lines n room
+        → PassReady stmts args₁ entries falls links frames dispatched lines n false room
     second_ready room r =
         record { listing = r.listing; keys₀ = args; prepared = r.prepared; roles = r.roles; size = s.size; names = λ e. clash e; room_for = r.room_for }
 
-    pub rows_filled : (args₂ : List ℕ) → PassFilled stmts args₁ entries falls links frames dispatched lines n d false n args₂
-        → RowsFilled stmts args entries falls links frames dispatched lines n d args₂
+    pub rows_filled : (args₂ : List ℕ) → PassFilled stmts args₁ entries falls links frames dispatched lines n false n args₂
+        → RowsFilled stmts args entries falls links frames dispatched lines n args₂
     unfolding passes
     rows_filled args₂ t =
         record {
@@ -197,7 +197,7 @@ module _ (stmts args entries falls links frames dispatched : List ℕ) (lines n 
               };
         }
       where
-        go : (L : Listing) → Prepared L stmts args entries falls links frames dispatched lines n d → Roles (wire L) stmts falls links n → (i : ℕ) → i < n
+        go : (L : Listing) → Prepared L stmts args entries falls links frames dispatched lines n → Roles (wire L) stmts falls links n → (i : ℕ) → i < n
             → (passes stmts true i ≡ true) ⊎ (passes stmts false i ≡ true) → Steps L args₂ i
         go L P R i h (inl p) =
             let same : set_of args₂ i ≡ set_of args₁ i = row_same args₁ args₂ i (omega (arith, P.args_fit, s.size)) t.size (λ e f. t.others e (λ lt z. pass_one (get_or stmts (i * 12) 0) p (subst (λ (x : ℕ). passes stmts false x ≡ true) f z))) in

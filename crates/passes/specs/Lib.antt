@@ -3,6 +3,7 @@ pub mod Walk
 pub mod WalkLaws
 pub mod Sets
 pub mod SetLaws
+pub mod ListedWhere
 pub mod ReturnSets
 pub mod ReturnSetLaws
 pub mod Clearing

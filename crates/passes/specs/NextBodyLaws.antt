@@ -1,5 +1,5 @@
 -- What a NEXT's list gets of FORs is what the definition says: the bodies of those that it pops, and an orphan's targets. Assumes nothing.
-use Rattle.std.specs.Prelude.{ℕ, zero, suc, ◌+◌, ◌*◌, ◌≤◌, ◌<◌, ◌≡◌, Bool, true, false, length, get_or}
+use Rattle.std.specs.Prelude.{ℕ, zero, suc, ◌+◌, ◌*◌, ◌≤◌, ◌<◌, ◌≡◌, length, get_or}
 use Rattle.std.proofs.Math.Path.{refl, sym, ap}
 use Rattle.std.proofs.Common.{◌∙◌, arith}
 use mathlib.Core.List.{List, [], ◌∷◌, map}
@@ -7,7 +7,7 @@ use Rattle.std.proofs.Math.Option.{none, some}
 use borrow.Author.Tests.{eq-eqb, ne_eqb, eqb-false}
 use Rattle.std.proofs.Math.ListN.{get_elem?}
 use Rattle.listings.specs.Bytes.{same, pick}
-use Rattle.listings.specs.Every.{all[], all∷, all_append}
+use Rattle.listings.specs.Every.{all[], all∷}
 use Rattle.listings.specs.Listing.{Name, Mark, orphan, Slot, next}
 use Rattle.listings.specs.ListingText.{NameOk, SlotsOk, SimpleOk}
 use Rattle.listings.specs.Records.{name_key, slot_key, args_of, detail_of, mark_number}
@@ -23,6 +23,7 @@ use Rattle.graph_laws.specs.PerNode.{Openers, no_openers, after, Fact, fact_of, 
 use Rattle.passes.specs.ListedNodes.{StmtListed, Listed, FallsListed, keys_at, keys_are, ForKind, is_for, is_next, is_other, for_kind, for_number, next_number, key_some, key_same}
 use Rattle.passes.specs.ForLinks.{linked_rows, popped_by}
 use Rattle.passes.specs.ForLinkLaws.{next_links, popped-before}
+use Rattle.passes.specs.ListedWhere.{where_all}
 use Rattle.passes.specs.Dispatched.{is_dispatched, dispatched_ids, Bodies, bodies[], bodies∷, bodies_are}
 use Rattle.passes.specs.NextBodies.{body_at, selects_key, selected_body, slot_bodies, orphan_bodies}
 use Rattle.passes.specs.LineEntries.{at_place}
@@ -59,13 +60,7 @@ module _ (ts ks es : List ℕ) (ns : List Node) (h : Listed ts ks ns) (t : List 
 -- ---- an orphan's targets
 
 pub dispatched_below : (ts es : List ℕ) (n : ℕ) → Ids n (dispatched_ids ts es n)
-unfolding dispatched_ids
-dispatched_below ts es zero = all[]
-dispatched_below ts es (suc k) = all_append (all_map (λ a g. omega arith) (dispatched_below ts es k)) (go (is_dispatched ts es k))
-  where
-    go : (x : Bool) → Ids (suc k) (pick x (k ∷ []) [])
-    go true = all∷ {a = k} (omega arith) all[]
-    go false = all[]
+dispatched_below ts es n = where_all (is_dispatched ts es) (λ (o : ℕ). o < n) n (λ c lt e. lt)
 
 module _ (ks es : List ℕ) where
   any_selected : {os : List ℕ} {ds : List (Name × ℕ)} → Bodies ks es os ds → slot_bodies ks es os 0 ≡ map (λ (d : Name × ℕ). d.1) ds

@@ -51,8 +51,9 @@ own_edges ts en fs ls fr lines i =
 
 -- ---- room
 
--- the row of node i is in each table, and what its statement adds fits the part
-pub record OwnRoom (ts en fs ls fr : List ℕ) (lines i : ℕ) (part : List ℕ) : Type 0 where
+-- the row of node i is in each table, the list is empty, and what the statement adds fits the part
+pub record OwnRoom (ts en fs ls fr : List ℕ) (lines i : ℕ) (part : List ℕ) (n : ℕ) : Type 0 where
+  pub fresh : n ≡ 0
   pub stmts : i * 12 + 12 ≤ length ts
   pub entries : lines * 2 ≤ length en
   pub falls : i * 3 + 3 ≤ length fs
@@ -60,18 +61,18 @@ pub record OwnRoom (ts en fs ls fr : List ℕ) (lines i : ℕ) (part : List ℕ)
   pub frames : i * 3 + 3 ≤ length fr
   pub opener : get_or fr (i * 3) 0 * 3 ≤ length fs
   pub few : 7 ≤ get_or ts (i * 12) 0 → get_or ts (i * 12 + 10) 0 ≤ 64
-  pub popped : get_or ts (i * 12) 0 ≡ next_word → PoppedRoom fs ls i (get_or ts (i * 12 + 10) 0) part 0
+  pub popped : get_or ts (i * 12) 0 ≡ next_word → PoppedRoom fs ls i (get_or ts (i * 12 + 10) 0) part n
   pub rises : Rises 0 (entry_column 1 lines en)
-  pub room : RoomToAdd part 0 (own_edges ts en fs ls fr lines i)
+  pub room : RoomToAdd part n (own_edges ts en fs ls fr lines i)
 
 -- ---- the whole list
 
 -- the tables are prepared for some listing, and the part has room for its nodes
-pub record ListReady (stmts args entries falls links frames dispatched : List ℕ) (lines d i m : ℕ) : Type 0 where
+pub record ListReady (stmts args entries falls links frames dispatched : List ℕ) (lines i m : ℕ) : Type 0 where
   pub listing : Listing
   pub keys₀ : List ℕ
   pub nodes : ℕ
-  pub prepared : Prepared listing stmts keys₀ entries falls links frames dispatched lines nodes d
+  pub prepared : Prepared listing stmts keys₀ entries falls links frames dispatched lines nodes
   pub kept : Keys stmts keys₀ args i
   pub size : length args ≡ length keys₀
   pub node : i < nodes
@@ -85,7 +86,7 @@ pub record ListIs (l part part' : List ℕ) (r : ℕ) : Type 0 where
   pub within : r ≤ length part
 
 -- of every listing that the tables are prepared for
-abbrev pub ListMade : (stmts args entries falls links frames dispatched : List ℕ) (lines d i : ℕ) (part part' : List ℕ) (r : ℕ) → Type 0
-ListMade stmts args entries falls links frames dispatched lines d i part part' r =
-    (L : Listing) (ks : List ℕ) (n : ℕ) → Prepared L stmts ks entries falls links frames dispatched lines n d → Keys stmts ks args i → length args ≡ length ks → i < n
+abbrev pub ListMade : (stmts args entries falls links frames dispatched : List ℕ) (lines i : ℕ) (part part' : List ℕ) (r : ℕ) → Type 0
+ListMade stmts args entries falls links frames dispatched lines i part part' r =
+    (L : Listing) (ks : List ℕ) (n : ℕ) → Prepared L stmts ks entries falls links frames dispatched lines n → Keys stmts ks args i → length args ≡ length ks → i < n
     → ListIs (base (wire L) i) part part' r

@@ -93,7 +93,7 @@ met_within i nothing h = omega arith
 met_within i (closing o) h = h
 met_within i (joining o) h = h
 
-module _ {L : Listing} {stmts ks entries falls links frames dispatched : List ℕ} {lines n d : ℕ} (P : Prepared L stmts ks entries falls links frames dispatched lines n d) where
+module _ {L : Listing} {stmts ks entries falls links frames dispatched : List ℕ} {lines n : ℕ} (P : Prepared L stmts ks entries falls links frames dispatched lines n) where
   pub falling : FallsListed falls (wire L).nodes
   falling = falls-listed (wire L).entries (wire L).nodes (length falls) falls P.falling
 

@@ -1,17 +1,16 @@
 -- An orphan NEXT's targets from the prepared tables, where rows of arguments that it does not read may have changed. Assumes nothing.
-use Rattle.std.specs.Prelude.{ℕ, zero, suc, ◌+◌, ◌*◌, ◌-◌, ◌≤◌, ◌<◌, ◌≡◌, Bool, true, false, eqb, get_or, take, drop, replicate}
+use Rattle.std.specs.Prelude.{ℕ, zero, suc, ◌+◌, ◌*◌, ◌≤◌, ◌<◌, ◌≡◌, Bool, true, false, eqb, get_or, drop}
 use Rattle.std.proofs.Math.Path.{refl, sym, ap}
 use Rattle.std.proofs.Common.{◌∙◌, arith, length-take, length-drop, drop_of_length-le, ext_get_or, get_or-take, get_or-drop}
 use mathlib.Core.List.{List, [], ◌∷◌, ◌++◌, map, append_assoc, append-nil}
 use Rattle.std.proofs.Math.Option.{Option, none, some}
 use Rattle.std.proofs.Math.Decide.{ℕ_discrete}
 use borrow.Author.Tests.{eqb-true, eqb-false, ne_eqb}
-use Rattle.std.proofs.Math.ListN.{length, get_elem?, length-append}
-use Rattle.std.proofs.Math.Seq.{take_at}
+use Rattle.std.proofs.Math.ListN.{length, get_elem?}
 use Rattle.listings.specs.Bytes.{pick}
-use Rattle.listings.specs.Every.{All, all[], all∷, all_append}
+use Rattle.listings.specs.Every.{All, all[], all∷}
 use Rattle.listings.specs.Listing.{Name, Tier, static, framed, dispatched, Listing}
-use Rattle.listings.specs.Records.{detail_of, tier_number, padded}
+use Rattle.listings.specs.Records.{detail_of, tier_number}
 use Rattle.graph.specs.Lists.{each, list}
 use Rattle.graph_laws.specs.Adding.{node_number}
 use Rattle.graph_laws.specs.Members.{all_map}
@@ -20,6 +19,8 @@ use Rattle.graph.specs.NodeWords.{stmt_number}
 use Rattle.graph.specs.Targets.{on_for, on_simple, dispatch_target, dispatch_targets, orphan_edges}
 use Rattle.graph.specs.Graph.{wire}
 use Rattle.passes.specs.ListedNodes.{StmtListed, Listed, FallsListed, SlotsCounted, keys_at, listed-counted, ForKind, is_for, is_next, is_other, for_kind, for_number, next_number}
+use Rattle.passes.specs.Sets.{one_if}
+use Rattle.passes.specs.ListedWhere.{listed_where, where_all}
 use Rattle.passes.specs.Dispatched.{is_dispatched, dispatched_ids, not_for, not_tier, by_fall}
 use Rattle.passes.specs.NextBodies.{selected_body, slot_bodies, orphan_bodies}
 use Rattle.passes.specs.NextBodyLaws.{orphan_bodies_lem}
@@ -31,7 +32,7 @@ use Rattle.passes.specs.LineEntries.{at_place}
 
 module _ (ts ks es : List ℕ) (k : ℕ) where
   for_dispatched : (v : Name) (t : Tier) (e : Option ℕ) → get_or ts (k * 12) 0 ≡ 13 → get_or ts (k * 12 + 11) 0 ≡ tier_number t → get_or es (k * 3) 0 ≡ node_number e
-      → pick (is_dispatched ts es k) (k ∷ []) [] ≡ map (λ d. k) (dispatch_target v t e)
+      → one_if (is_dispatched ts es k) k ≡ map (λ d. k) (dispatch_target v t e)
   unfolding dispatch_target tier_number list
   for_dispatched v static e w d f = rw (not_tier ts es k w (λ q. omega arith))
   for_dispatched v framed e w d f = rw (not_tier ts es k w (λ q. omega arith))
@@ -39,7 +40,7 @@ module _ (ts ks es : List ℕ) (k : ℕ) where
   for_dispatched v dispatched (some b) w d f = rw (by_fall ts es k w d, f, ne_eqb (suc b) 0 (λ q. omega arith))
 
   node_dispatched : (s : NodeStmt) (e : Option ℕ) → get_or ts (k * 12) 0 ≡ stmt_number s → StmtListed ts ks k s → get_or es (k * 3) 0 ≡ node_number e → ForKind s
-      → pick (is_dispatched ts es k) (k ∷ []) [] ≡ map (λ d. k) (on_simple (on_for (λ v t. dispatch_target v t e) []) [] s)
+      → one_if (is_dispatched ts es k) k ≡ map (λ d. k) (on_simple (on_for (λ v t. dispatch_target v t e) []) [] s)
   unfolding on_simple on_for detail_of
   node_dispatched s e w h f (is_for v t) = for_dispatched v t e (w ∙ for_number v t) h.detail f
   node_dispatched s e w h f (is_next m ss) = rw (not_for ts es k (λ q. omega (arith, w, q, next_number m ss)))
@@ -47,13 +48,13 @@ module _ (ts ks es : List ℕ) (k : ℕ) where
 
 -- those of the nodes below k, then those from k on
 ids_from : (ts ks es : List ℕ) (ns : List Node) → Listed ts ks ns → FallsListed es ns → (k : ℕ) → k ≤ length ns → dispatched_ids ts es k ++ dispatched_from k (drop k ns) ≡ dispatched_from 0 ns
-unfolding dispatched_ids dispatched_from
+unfolding listed_where dispatched_from
 ids_from ts ks es ns h f zero lt = refl
 ids_from ts ks es ns h f (suc k) lt =
     let d = at_place ns k (omega arith) in
     let n = d.0 in
     let r = h k n d.1 in
-    append_assoc (dispatched_ids ts es k) (pick (is_dispatched ts es k) (k ∷ []) []) (dispatched_from (suc k) (drop (suc k) ns))
+    append_assoc (dispatched_ids ts es k) (one_if (is_dispatched ts es k) k) (dispatched_from (suc k) (drop (suc k) ns))
     ∙ ap (λ (l : List ℕ). dispatched_ids ts es k ++ (l ++ dispatched_from (suc k) (drop (suc k) ns))) (node_dispatched ts ks es k n.stmt n.fall r.word r.stmt (f k n d.1) (for_kind n.stmt))
     ∙ sym (ap (λ (l : List Node). dispatched_ids ts es k ++ dispatched_from k l) d.2) ∙ ids_from ts ks es ns h f k (omega arith)
 
@@ -64,15 +65,16 @@ ids_are ts ks es ns h f =
     ∙ ids_from ts ks es ns h f (length ns) (omega arith)
 
 -- they are FORs
-ids_fors : (ts es : List ℕ) (n : ℕ) → All (λ (o : ℕ). get_or ts (o * 12) 0 ≡ 13) (dispatched_ids ts es n)
-unfolding dispatched_ids is_dispatched
-ids_fors ts es zero = all[]
-ids_fors ts es (suc k) = all_append (ids_fors ts es k) (go (eqb (get_or ts (k * 12) 0) 13) _ refl)
+for_of : (ts es : List ℕ) (k : ℕ) → is_dispatched ts es k ≡ true → get_or ts (k * 12) 0 ≡ 13
+unfolding is_dispatched
+for_of ts es k = go (eqb (get_or ts (k * 12) 0) 13) _ refl
   where
-    go : (x y : Bool) → eqb (get_or ts (k * 12) 0) 13 ≡ x → All (λ (o : ℕ). get_or ts (o * 12) 0 ≡ 13) (pick (pick x y false) (k ∷ []) [])
-    go true true e = all∷ (eqb-true (get_or ts (k * 12) 0) 13 e) all[]
-    go true false e = all[]
-    go false y e = all[]
+    go : (x y : Bool) → eqb (get_or ts (k * 12) 0) 13 ≡ x → pick x y false ≡ true → get_or ts (k * 12) 0 ≡ 13
+    go true y e t = eqb-true (get_or ts (k * 12) 0) 13 e
+    go false y e t = absurd (let z : ◌≡◌ {A = ℕ} 0 1 = cc in omega arith)
+
+ids_fors : (ts es : List ℕ) (n : ℕ) → All (λ (o : ℕ). get_or ts (o * 12) 0 ≡ 13) (dispatched_ids ts es n)
+ids_fors ts es n = where_all (is_dispatched ts es) (λ (o : ℕ). get_or ts (o * 12) 0 ≡ 13) n (λ c lt e. for_of ts es c e)
 
 -- ---- arguments that have changed elsewhere
 
@@ -110,25 +112,17 @@ orphan_kept ts ks args es n i c s h =
 
 -- ---- of a prepared listing
 
-module _ {L : Listing} {stmts ks entries falls links frames ds : List ℕ} {lines n d : ℕ} (P : Prepared L stmts ks entries falls links frames ds lines n d) where
-  pub dispatched_are : take d ds ≡ dispatched_ids stmts falls n
-  unfolding padded
+module _ {L : Listing} {stmts ks entries falls links frames ds : List ℕ} {lines n : ℕ} (P : Prepared L stmts ks entries falls links frames ds lines n) where
+  pub dispatched_are : ds ≡ dispatched_ids stmts falls n
   dispatched_are =
-      let l = dispatched_from 0 (wire L).nodes in
-      ap (take d) P.dispatching ∙ take_at l _ d (sym P.dispatches) ∙ sym (ids_are stmts ks falls (wire L).nodes P.listed (falling P)) ∙ ap (dispatched_ids stmts falls) (sym P.nodes_are)
-
-  pub dispatched_fits : d ≤ length ds
-  unfolding padded
-  dispatched_fits =
-      let l = dispatched_from 0 (wire L).nodes in
-      omega (arith, ap length P.dispatching, length-append l (replicate (length ds - length l) 0), P.dispatches)
+      P.dispatching ∙ sym (ids_are stmts ks falls (wire L).nodes P.listed (falling P)) ∙ ap (dispatched_ids stmts falls) (sym P.nodes_are)
 
   pub slots-counted : (i : ℕ) → i < n → SlotsCounted stmts i
   slots-counted i h = listed-counted stmts ks (wire L).nodes P.listed i (omega (arith, P.nodes_are))
 
   -- what the code adds for node i's slots, by the definition
   pub orphan_are : (args : List ℕ) (i : ℕ) (x : Node) → i < n → get_elem? (wire L).nodes i ≡ some x → Keys stmts ks args i → length args ≡ length ks
-      → orphan_bodies stmts args falls (take d ds) i ≡ orphan_edges (dispatch_targets (wire L).nodes) x.stmt
+      → orphan_bodies stmts args falls ds i ≡ orphan_edges (dispatch_targets (wire L).nodes) x.stmt
   orphan_are args i x h e k s =
       ap (λ (l : List ℕ). orphan_bodies stmts args falls l i) dispatched_are ∙ orphan_kept stmts ks args falls n i (slots-counted i h) s k
       ∙ ap (λ (m : ℕ). orphan_bodies stmts ks falls (dispatched_ids stmts falls m) i) P.nodes_are

@@ -23,7 +23,7 @@ use Rattle.passes.specs.NodeList.{own_edges}
 use Rattle.passes.specs.OwnLaws.{own_cond, own_simple_here}
 use Rattle.passes.specs.NodeTables.{falling, first-is, all_are, targets_are, popped-bodies, body_of}
 
-module _ {L : Listing} {stmts ks entries falls links frames dispatched : List ℕ} {lines n d : ℕ} (P : Prepared L stmts ks entries falls links frames dispatched lines n d)
+module _ {L : Listing} {stmts ks entries falls links frames dispatched : List ℕ} {lines n : ℕ} (P : Prepared L stmts ks entries falls links frames dispatched lines n)
     (i : ℕ) (lt : i < n) (x : Node) (f : Fact) (ex : get_elem? (wire L).nodes i ≡ some x) (ef : get_elem? (facts 0 (wire L).nodes no_openers) i ≡ some f) where
   stmt_is : f.stmt ≡ x.stmt
   stmt_is = stmt_at_lem loop_stack (wire L).nodes i x f ex ef

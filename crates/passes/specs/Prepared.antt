@@ -47,8 +47,8 @@ pub record LinksPrepared (L : Listing) (stmts args entries falls links : List �
   pub falls_fit : n * 3 ≤ length falls
   pub links_fit : n * 64 ≤ length links
 
--- and the frames and dispatched FORs of these; d of them are dispatched and have a body
-pub record Prepared (L : Listing) (stmts args entries falls links frames dispatched : List ℕ) (lines n d : ℕ) : Type 0 where
+-- and the frames of these, and those that are dispatched FORs and have a body
+pub record Prepared (L : Listing) (stmts args entries falls links frames dispatched : List ℕ) (lines n : ℕ) : Type 0 where
   pub in_form : LinesOk L.lines
   pub lines_are : lines ≡ count L.lines
   pub nodes_are : n ≡ length (wire L).nodes
@@ -58,8 +58,7 @@ pub record Prepared (L : Listing) (stmts args entries falls links frames dispatc
   pub falling : falls ≡ padded (length falls) (fall_rows (wire L).entries (wire L).nodes)
   pub linking : links ≡ link_table (length links) (wire L)
   pub framed : frames ≡ frame_table (length frames) (facts 0 (wire L).nodes no_openers)
-  pub dispatching : dispatched ≡ padded (length dispatched) (dispatched_from 0 (wire L).nodes)
-  pub dispatches : d ≡ length (dispatched_from 0 (wire L).nodes)
+  pub dispatching : dispatched ≡ dispatched_from 0 (wire L).nodes
   pub stmts_fit : n * 12 ≤ length stmts
   pub args_fit : n * 64 ≤ length args
   pub few_lines : lines ≤ 1024
@@ -67,7 +66,6 @@ pub record Prepared (L : Listing) (stmts args entries falls links frames dispatc
   pub falls_fit : n * 3 ≤ length falls
   pub links_fit : n * 64 ≤ length links
   pub frames_fit : n * 3 ≤ length frames
-  pub dispatched_fit : n ≤ length dispatched
 
 -- Rows of arguments that no list needs may have changed from ks to args: for the NEXT i its own row and the names of FORs are kept.
 pub record KeysKept (stmts ks args : List ℕ) (i : ℕ) : Type 0 where

@@ -128,7 +128,7 @@ no_args stmts args i s q (is_other a r p) e h w j b = absurd (eqb-false (stmt_nu
 
 -- ---- a row of links
 
-module _ {L : Listing} {stmts args entries falls links frames dispatched : List ℕ} {lines n d : ℕ} (p : Prepared L stmts args entries falls links frames dispatched lines n d) (i : ℕ) (node : Node) (at : get_elem? (wire L).nodes i ≡ some node) (lt : i < n) where
+module _ {L : Listing} {stmts args entries falls links frames dispatched : List ℕ} {lines n : ℕ} (p : Prepared L stmts args entries falls links frames dispatched lines n) (i : ℕ) (node : Node) (at : get_elem? (wire L).nodes i ≡ some node) (lt : i < n) where
   fact : (f : Fact) × (get_elem? (facts 0 (wire L).nodes no_openers) i ≡ some f)
   fact = some_at (facts 0 (wire L).nodes no_openers) i (omega (arith, length-facts 0 (wire L).nodes no_openers, p.nodes_are))
 
@@ -267,7 +267,7 @@ module _ (es : Entries) (stmts falls links : List ℕ) (n i : ℕ) (e : Option �
 
 -- ---- all nodes
 
-module _ {L : Listing} {stmts args entries falls links frames dispatched : List ℕ} {lines n d : ℕ} (p : Prepared L stmts args entries falls links frames dispatched lines n d) where
+module _ {L : Listing} {stmts args entries falls links frames dispatched : List ℕ} {lines n : ℕ} (p : Prepared L stmts args entries falls links frames dispatched lines n) where
   role_at : (i : ℕ) → i < n → NodeRole (wire L).entries stmts falls links n i (role (wire L) i) (fall_from (wire L) i) (base (wire L) i)
   unfolding role role_of fall_from fall_of facts_of
   role_at i lt =

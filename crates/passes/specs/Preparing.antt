@@ -1,34 +1,30 @@
 -- The passes before the lists, one after the other: from the reader's tables to what Prepared says. Assumes nothing.
-use Prim.Native.Nat.{ℕ, zero, suc, ◌+◌, ◌*◌, ◌-◌, ◌≤◌}
-use Rattle.std.proofs.Common.{add-zero, sym, ◌∙◌, arith, take-append-drop, take_all}
-use Rattle.std.specs.Prelude.{◌≡◌, Bool, true, false, not, get_or, take, drop}
+use Prim.Native.Nat.{ℕ, ◌*◌, ◌≤◌}
+use Rattle.std.proofs.Common.{sym, ◌∙◌, arith}
+use Rattle.std.specs.Prelude.{◌≡◌, Bool, true, false, not, get_or}
 use Rattle.std.proofs.Math.Path.{refl, ap}
-use mathlib.Core.List.{List, [], ◌∷◌, ◌++◌, map, append_assoc, append-nil}
-use Rattle.std.proofs.Math.Option.{Option}
+use mathlib.Core.List.{List, []}
 use Rattle.std.proofs.Math.ListN.{length, replicate}
 use Rattle.std.proofs.lemmas.List.{length-replicate}
-use Rattle.std.proofs.Math.Seq.{length-take-le}
 use Rattle.std.proofs.lemmas.Bool.{not-true}
-use Rattle.listings.specs.Bytes.{pick}
-use Rattle.listings.specs.Listing.{Name, Listing}
+use Rattle.listings.specs.Listing.{Listing}
 use Rattle.listings.specs.Records.{padded}
-use Rattle.reader.specs.Tables.{drop_zeros}
 use Rattle.listings.specs.WordTable.{zeros}
 use Rattle.graph.specs.Nodes as definition
 use Rattle.graph.specs.Nodes.{NodeStmt, Node}
-use Rattle.graph.specs.Targets.{on_for, on_simple, dispatch_target}
 use Rattle.graph.specs.Graph.{wire}
-use Rattle.passes.specs.ListedNodes.{Listed, FallsListed, AllCounted, for_kind, listed-counted}
+use Rattle.passes.specs.ListedNodes.{AllCounted, listed-counted}
 use Rattle.passes.specs.FramePass.{AllZero}
 use Rattle.passes.specs.Frames.{Framed}
-use Rattle.passes.specs.LineEntries.{entry_rows, EntriesComputed, at_place}
+use Rattle.passes.specs.LineEntries.{entry_rows, EntriesComputed}
 use Rattle.passes.specs.LineSearch.{EntryTable, entry_table}
 use Rattle.passes.specs.Falls.{fall_rows, LinesConnected}
 use Rattle.passes.specs.TableReads.{falls-listed}
 use Rattle.passes.specs.Jumps.{linked, JumpsLinked}
 use Rattle.passes.specs.ForLinks.{linked_rows, ForsLinked}
-use Rattle.passes.specs.Dispatched.{is_dispatched, dispatched_ids, DispatchedTo, Bodies, bodies[], bodies∷, node_bodies, take_node}
-use Rattle.passes.specs.Prepared.{link_table, dispatched_from, LinksPrepared, Prepared}
+use Rattle.passes.specs.Dispatched.{dispatched_ids}
+use Rattle.passes.specs.OrphanKeys.{ids_are}
+use Rattle.passes.specs.Prepared.{link_table, LinksPrepared, Prepared}
 use Rattle.passes.specs.HoldsListing.{HoldsListing, holds_few, holds-length, holds_lines, holds_stmts, holds_args, holds-listed}
 
 -- ---- the contract
@@ -49,56 +45,11 @@ pub record PreparedTo (lines stmts args entries falls links : List ℕ) (c n : �
   pub answered : r ≡ true
   pub prepared : (L : Listing) → HoldsListing L lines stmts args c n → LinksPrepared L stmts args entries falls links c n
 
--- in the build's own arrays: the frames of n nodes; the d dispatched FORs that have a body, where zeros were before
-pub record FramesMade (stmts falls frames dispatched : List ℕ) (n d : ℕ) : Type 0 where
+-- in the build's own arrays: the frames of n nodes, and the dispatched FORs that have a body
+pub record FramesMade (stmts falls frames dispatched : List ℕ) (n : ℕ) : Type 0 where
   pub framed : Framed stmts n frames
   pub frames_fit : n * 3 ≤ length frames
-  pub before : List ℕ
-  pub zero-before : before ≡ replicate (length before) 0
-  pub listed : DispatchedTo stmts falls n before dispatched d
-  pub dispatched_size : length dispatched ≡ length before
-  pub dispatched_fit : n ≤ length dispatched
-
--- ---- the dispatched FORs, by the tables and by the definition
-
--- node i, if it is one
-abbrev if_dispatched : ℕ → NodeStmt → Option ℕ → List ℕ
-if_dispatched i s e = map (λ d. i) (on_simple (on_for (λ v t. dispatch_target v t e) []) [] s)
-
-from_last : (i : ℕ) (ns : List Node) (n : Node) → dispatched_from i (ns ++ (n ∷ [])) ≡ dispatched_from i ns ++ if_dispatched (i + length ns) n.stmt n.fall
-unfolding dispatched_from
-from_last i [] n = rw add-zero (append-nil (if_dispatched i n.stmt n.fall))
-from_last i (m ∷ ns) n =
-    let z : suc i + length ns ≡ i + suc (length ns) = omega arith in
-    rw (from_last (suc i) ns n, z, append_assoc)
-
-module _ (ts ks es : List ℕ) where
-  -- as many as it has bodies
-  ids_of : (k : ℕ) (b : Bool) {ds : List (Name × ℕ)} → Bodies ks es (pick b (k ∷ []) []) ds → pick b (k ∷ []) [] ≡ map (λ d. k) ds
-  ids_of k true (bodies∷ h q f bodies[]) = refl
-  ids_of k false bodies[] = refl
-
-  ids_upto : (ns : List Node) → Listed ts ks ns → FallsListed es ns → (k : ℕ) → k ≤ length ns → dispatched_ids ts es k ≡ dispatched_from 0 (take k ns)
-  unfolding dispatched_ids dispatched_from
-  ids_upto ns h f zero g = refl
-  ids_upto ns h f (suc k) g =
-      let d = at_place ns k (omega arith) in
-      let n = d.0 in
-      let r = h k n d.1 in
-      let z : 0 + length (take k ns) ≡ k = omega (arith, length-take-le k ns (omega arith)) in
-      let b = node_bodies ts ks es k n.stmt n.fall r.word r.stmt (f k n d.1) (for_kind n.stmt) in
-      rw (take_node ns k n d.1, from_last, z, ids_upto ns h f k (omega arith), ids_of k (is_dispatched ts es k) b)
-
-  ids_are : (ns : List Node) (n : ℕ) → n ≡ length ns → Listed ts ks ns → FallsListed es ns → dispatched_ids ts es n ≡ dispatched_from 0 ns
-  ids_are ns n e h f = ids_upto ns h f n (omega arith) ∙ ap (dispatched_from 0) (take_all n ns (omega arith))
-
--- the first r entries, and zeros past them
-front_padded : (t u l : List ℕ) (r : ℕ) → t ≡ replicate (length t) 0 → length u ≡ length t → r ≤ length u → take r u ≡ l → drop r u ≡ drop r t → (r ≡ length l) × (u ≡ padded (length u) l)
-unfolding padded
-front_padded t u l r z e h a b =
-    let k : r ≡ length l = sym (length-take-le r u h) ∙ ap length a in
-    let d : drop r t ≡ replicate (length u - length l) 0 = ap (drop r) z ∙ drop_zeros (length t) r ∙ rw (k, e) in
-    (k, sym (take-append-drop r u) ∙ ap (λ (x : List ℕ). x ++ drop r u) a ∙ ap (λ (x : List ℕ). l ++ x) (b ∙ d))
+  pub listed : dispatched ≡ dispatched_ids stmts falls n
 
 -- ---- each pass, of a listing that the tables hold
 
@@ -181,27 +132,10 @@ zeros_size k t e = ap length e ∙ length-replicate k 0
 pub zeros_sized : (k : ℕ) (t : List ℕ) → t ≡ replicate k 0 → t ≡ replicate (length t) 0
 zeros_sized k t e = e ∙ ap (λ (j : ℕ). replicate j 0) (sym (zeros_size k t e))
 
--- the second array was j zeros
-pub frames_made : {stmts falls frames zeros dispatched : List ℕ} {n d : ℕ} (k j : ℕ) → zeros ≡ replicate j 0 → n * 3 ≤ k → n ≤ j → length frames ≡ k → length dispatched ≡ j
-    → Framed stmts n frames → DispatchedTo stmts falls n zeros dispatched d → FramesMade stmts falls frames dispatched n d
-frames_made {zeros = zeros} k j z hf hd lf ld p q =
-    record {
-      framed = p;
-      frames_fit = omega arith;
-      before = zeros;
-      zero-before = zeros_sized j zeros z;
-      listed = q;
-      dispatched_size = ld ∙ sym (zeros_size j zeros z);
-      dispatched_fit = omega arith;
-    }
-
-pub with_frames : {L : Listing} {stmts args entries falls links frames dispatched : List ℕ} {c n d : ℕ} → LinksPrepared L stmts args entries falls links c n → FramesMade stmts falls frames dispatched n d
-    → Prepared L stmts args entries falls links frames dispatched c n d
-with_frames {L} {stmts} {args} {entries} {falls} {links} {frames} {dispatched} {c} {n} {d} p m =
+pub with_frames : {L : Listing} {stmts args entries falls links frames dispatched : List ℕ} {c n : ℕ} → LinksPrepared L stmts args entries falls links c n → FramesMade stmts falls frames dispatched n
+    → Prepared L stmts args entries falls links frames dispatched c n
+with_frames {L} {stmts} {args} {entries} {falls} {links} {frames} {dispatched} {c} {n} p m =
     let W = wire L in
-    let q = m.listed in
-    let ds = front_padded m.before dispatched (dispatched_from 0 W.nodes) d m.zero-before m.dispatched_size (omega (arith, q.few, m.dispatched_fit))
-    (q.listed ∙ ids_are stmts args falls W.nodes n p.nodes_are p.listed (falls-listed W.entries W.nodes (length falls) falls p.falling)) q.rest in
     record {
       in_form = p.in_form;
       lines_are = p.lines_are;
@@ -212,8 +146,7 @@ with_frames {L} {stmts} {args} {entries} {falls} {links} {frames} {dispatched} {
       falling = p.falling;
       linking = p.linking;
       framed = m.framed W.nodes (sym p.nodes_are) (λ i s e. (p.listed i s e).word);
-      dispatching = ds.1;
-      dispatches = ds.0;
+      dispatching = m.listed ∙ ap (dispatched_ids stmts falls) p.nodes_are ∙ ids_are stmts args falls W.nodes p.listed (falls-listed W.entries W.nodes (length falls) falls p.falling);
       stmts_fit = p.stmts_fit;
       args_fit = p.args_fit;
       few_lines = p.few_lines;
@@ -221,5 +154,4 @@ with_frames {L} {stmts} {args} {entries} {falls} {links} {frames} {dispatched} {
       falls_fit = p.falls_fit;
       links_fit = p.links_fit;
       frames_fit = m.frames_fit;
-      dispatched_fit = m.dispatched_fit;
     }

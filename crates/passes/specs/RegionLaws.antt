@@ -1,16 +1,15 @@
 -- Laws of regions: calls, sets that grow, and the sets of the RETURNs, entry after entry. Assumes nothing.
 use Prim.Native.Nat.{ℕ, zero, suc, ◌+◌, ◌-◌, ◌*◌, ◌/◌, ◌≤◌, ◌<◌}
-use Rattle.std.specs.Prelude.{◌≡◌, refl, Bool, true, false, ◌⊎◌, ◌↔◌, T, length, get_or, set, take, drop, replicate}
+use Rattle.std.specs.Prelude.{◌≡◌, refl, Bool, true, false, ◌⊎◌, ◌↔◌, T, length, get_or, take, drop, replicate}
 use Rattle.std.proofs.Common.{sym, ◌∙◌, ⊎_elim, length-take, length-drop, length-take-le, take-suc, get_or-take, get_or-drop, ext_get_or}
 use Rattle.std.proofs.Math.Path.{ap, subst}
 use mathlib.Core.List.{List, [], ◌∷◌, ◌++◌, Memᴰ}
 use Rattle.std.proofs.Math.Logic.{inl, inr}
 use native.Mathlib.Omega.{arith}
 use Rattle.std.proofs.Math.Numerals.{add-one}
-use Rattle.std.proofs.Math.ListN.{length-append}
 use Rattle.std.proofs.lemmas.List.{length-replicate, get_or-replicate}
 use Rattle.listings.specs.Bytes.{pick}
-use Rattle.listings.specs.Every.{All, all[], all∷, all_append}
+use Rattle.listings.specs.Every.{All, all[], all∷}
 use Rattle.graph.specs.Lists.{has, each}
 use Rattle.graph_laws.specs.Adding.{decode}
 use Rattle.passes.specs.Compare.{eq-or}
@@ -21,8 +20,9 @@ use Rattle.graph.specs.Reach.{Reach, here, on}
 use Rattle.graph.specs.Graph.{Wired, skip_steps, region_return_edges}
 use Rattle.graph_laws.specs.ReturnLists.{conts_inside, region_sound, region_complete, region_asc}
 use Rattle.passes.specs.Walk.{Reached, Stored, stored_list}
-use Rattle.passes.specs.Sets.{In, inserted, one_if, Put}
-use Rattle.passes.specs.SetLaws.{none_in, in_inserted, inserted-length, members_are, put_none, put_both, put_yes}
+use Rattle.passes.specs.Sets.{In, inserted}
+use Rattle.passes.specs.SetLaws.{none_in, in_inserted, inserted-length, members_are}
+use Rattle.passes.specs.ListedWhere.{where_mem, mem_where, where_all}
 use Rattle.passes.specs.ReturnSets.{IsReturn, set_of, ReturnsJoined}
 use Rattle.tables.specs.Columns.{call_word, word_of, fall_entry, continuation_entry}
 use Rattle.tables.specs.Readable.{lists_readable, lists_read, read_lists, both_so}
@@ -30,7 +30,7 @@ use Rattle.listings.specs.Tests.{both_true}
 use Rattle.graph_laws.specs.EdgeBounds.{Ids}
 use Rattle.passes.specs.Prepared.{link_entries, Roles}
 use Rattle.passes.specs.Spans.{SpansGrow, Spanned, mem_place, mem_take, mem_drop, part_place}
-use Rattle.passes.specs.Regions.{calls_below, target_row, back_from, TargetsFit, CallFits, CallsReady, EntryCalls, SetAdded, CallsBack, ReturnsBy, RegionJoined, RegionsJoined, SetsFound, ReturnRows, SetsClear, ListedJoined, EntriesReady}
+use Rattle.passes.specs.Regions.{is_call, calls_below, target_row, back_from, TargetsFit, CallFits, CallsReady, EntryCalls, SetAdded, CallsBack, ReturnsBy, RegionJoined, RegionsJoined, SetsFound, ReturnRows, SetsClear, ListedJoined, EntriesReady}
 use Rattle.passes.specs.WalkTables.{CallsRead, calls_readable, walks_readable, read_calls, RegionsAnswered}
 use Rattle.passes.specs.WalkLaws.{mem_get_d, id_at, all_take, stored_own}
 
@@ -42,72 +42,6 @@ each_more f xs k h = rw (add-one, take-suc xs k 0 h) (each_snoc f (take k xs) (g
 
 pub all_get_d : {P : ℕ → Type 0} {l : List ℕ} → All P l → (k a : ℕ) → k < length l → a ≡ get_or l k 0 → P a
 all_get_d {P} {l} h k a lt e = rw e (all_mem h (get_or l k 0) (mem_get_d l k lt))
-
--- ---- calls
-
-module _ (stmts : List ℕ) where
-  -- node i behind the first m entries, or not
-  pub call_yes : (p : List ℕ) (m i x : ℕ) → m < length p → x ≡ i → call_word (get_or stmts (i * 12) 0) ≡ true
-      → Put p m (set p m x) (m + 1) (one_if (call_word (word_of stmts i)) i)
-  unfolding word_of
-  call_yes p m i x h q e = rw e (put_yes p m i 1 x h q refl)
-
-  pub call_no : (p : List ℕ) (m i : ℕ) → call_word (get_or stmts (i * 12) 0) ≡ false → Put p m p m (one_if (call_word (word_of stmts i)) i)
-  unfolding word_of
-  call_no p m i e = rw e (put_none p m)
-
-  one_few : (b : Bool) (i : ℕ) → length (one_if b i) ≤ 1
-  one_few true i = omega arith
-  one_few false i = omega arith
-
-  pub calls_few : (i : ℕ) → length (calls_below stmts i) ≤ i
-  unfolding calls_below
-  calls_few zero = omega arith
-  calls_few (suc i) = simp length-append (omega (arith, calls_few i, one_few (call_word (word_of stmts i)) i))
-
-  pub calls_start : (p : List ℕ) → Put p 0 p 0 (calls_below stmts 0)
-  unfolding calls_below
-  calls_start p = put_none p 0
-
-  pub calls_more : (p q s : List ℕ) (m r i : ℕ) → Put p 0 q m (calls_below stmts i) → Put q m s r (one_if (call_word (word_of stmts i)) i) → Put p 0 s r (calls_below stmts (i + 1))
-  unfolding calls_below
-  calls_more p q s m r i a b = rw add-one (put_both p q s 0 m r (calls_below stmts i) (one_if (call_word (word_of stmts i)) i) a b)
-
-  one_mem : (b : Bool) (i c : ℕ) → Memᴰ c (one_if b i) → (c ≡ i) × (b ≡ true)
-  one_mem true i c m = ⊎_elim (λ e. (e, refl)) (λ n. absurd (mathlib.Core.List.Memᴰ.not-nil n)) (mathlib.Core.List.Memᴰ.cases_cons m)
-  one_mem false i c m = absurd (mathlib.Core.List.Memᴰ.not-nil m)
-
-  pub calls_mem : (n c : ℕ) → Memᴰ c (calls_below stmts n) → (c < n) × (call_word (word_of stmts c) ≡ true)
-  unfolding calls_below
-  calls_mem zero c m = absurd (mathlib.Core.List.Memᴰ.not-nil m)
-  calls_mem (suc n) c m =
-      elim (mathlib.Core.List.Memᴰ.append_cases (calls_below stmts n) m) [
-        | inl k ↦ let r = calls_mem n c k in (omega (arith, r.0), r.1)
-        | inr k ↦ let r = one_mem (call_word (word_of stmts n)) n c k in (omega (arith, r.0), ap (λ (x : ℕ). call_word (word_of stmts x)) r.0 ∙ r.1)
-      ]
-
-  one_in : (b : Bool) (i c : ℕ) → c ≡ i → b ≡ true → Memᴰ c (one_if b i)
-  one_in true i c e t = mathlib.Core.List.Memᴰ.head e
-  one_in false i c e t = absurd (let z : ◌≡◌ {A = ℕ} 0 1 = cc in omega arith)
-
-  pub mem_calls : (n c : ℕ) → c < n → call_word (word_of stmts c) ≡ true → Memᴰ c (calls_below stmts n)
-  unfolding calls_below
-  mem_calls zero c h e = absurd (omega arith)
-  mem_calls (suc n) c h e =
-      elim (eq-or c n) [
-        | inl q ↦ mathlib.Core.List.Memᴰ.append_right (calls_below stmts n) (one_in (call_word (word_of stmts n)) n c q (ap (λ (x : ℕ). call_word (word_of stmts x)) (sym q) ∙ e))
-        | inr q ↦ mathlib.Core.List.Memᴰ.append_left (one_if (call_word (word_of stmts n)) n) (mem_calls n c (omega arith) e)
-      ]
-
-  one-all : (P : ℕ → Type 0) (b : Bool) (i : ℕ) → (b ≡ true → P i) → All P (one_if b i)
-  one-all P true i h = all∷ (h refl) all[]
-  one-all P false i h = all[]
-
-  calls_all : (P : ℕ → Type 0) (n : ℕ) → ((c : ℕ) → c < n → call_word (word_of stmts c) ≡ true → P c) → All P (calls_below stmts n)
-  unfolding calls_below
-  calls_all P zero h = all[]
-  calls_all P (suc n) h =
-      all_append (calls_all P n (λ c lt e. h c (omega arith) e)) (one-all P (call_word (word_of stmts n)) n (h n (omega arith)))
 
 -- every element, by its place
 pub all-at : (P : ℕ → Type 0) (l : List ℕ) → ((k : ℕ) → k < length l → P (get_or l k 0)) → All P l
@@ -132,17 +66,15 @@ calls_fit {stmts} {falls} {links} r c lt e =
 
 pub calls_ready : {stmts falls links : List ℕ} {n : ℕ} {calls : List ℕ} → CallsRead stmts falls links n → calls ≡ calls_below stmts n → CallsReady stmts falls links n calls
 calls_ready {stmts} {falls} {links} {n} r q =
-    record { few = r.few; in_stmts = r.in_stmts; listed = q; fit = rw q (calls_all stmts (CallFits stmts falls links) n (λ c lt e. calls_fit r c lt e)) }
+    record { few = r.few; in_stmts = r.in_stmts; listed = q; fit = rw q (where_all (is_call stmts) (CallFits stmts falls links) n (λ c lt e. calls_fit r c lt e)) }
 
 pub targets_fit : {stmts falls links l : List ℕ} → All (CallFits stmts falls links) l → All (TargetsFit stmts links) l
 targets_fit h = all_map (λ c f. f.targets) h
 
--- the row as code lends it
-pub target_part : (stmts links : List ℕ) (c u : ℕ) → u ≡ get_or stmts (c * 12 + 10) 0 → take (c * 64 + u - c * 64) (drop (c * 64) links) ≡ target_row stmts links c
+-- the row as `targets` cuts it
+pub targets_row : (stmts links : List ℕ) (c : ℕ) (row : List ℕ) → row ≡ take (get_or stmts (c * 12 + 10) 0) (drop (c * 64) links) → row ≡ target_row stmts links c
 unfolding target_row
-target_part stmts links c u e =
-    let q : c * 64 + u - c * 64 ≡ get_or stmts (c * 12 + 10) 0 = omega arith in
-    rw q
+targets_row stmts links c row e = e
 
 pub part_ids : (stmts links : List ℕ) (c : ℕ) (row : List ℕ) → row ≡ target_row stmts links c → TargetsFit stmts links c → All (λ (t : ℕ). t ≤ 4096) row
 part_ids stmts links c row e f = rw e f.ids
@@ -247,7 +179,7 @@ module _ (stmts falls links : List ℕ) (n e k : ℕ) where
   unfolding back_from link_entries target_row continuation_entry
   backs_table m =
       let t = each_mem (back_from stmts falls links e) (calls_below stmts n) m in
-      let r = calls_mem stmts n t.0 t.1 in
+      let r = where_mem (is_call stmts) n t.0 t.1 in
       let p = picked (has (e + 1) (target_row stmts links t.0)) (fall_entry falls t.0) t.2 in
       record {
         caller = t.0;
@@ -266,7 +198,7 @@ module _ (stmts falls links : List ℕ) (n e k : ℕ) where
   table_backs b =
       let c = b.caller in
       let p = goes_on c b.continues in
-      mem_each (back_from stmts falls links e) (mem_calls stmts n c b.node p.0)
+      mem_each (back_from stmts falls links e) (mem_where (is_call stmts) n c b.node p.0)
       (into (has (e + 1) (target_row stmts links c)) (fall_entry falls c) (row_has e (target_row stmts links c) b.exists) p.1)
 
   -- the set of the continuations of the calls of e
@@ -289,7 +221,7 @@ module _ (stmts falls links : List ℕ) (n e k : ℕ) where
 
   called_spanned : (calls spans : List ℕ) → calls ≡ calls_below stmts n → Spanned stmts links calls (length calls) spans → CallsBack stmts falls links n e k → 0 < get_or spans (e * 2 + 1) 0
   called_spanned calls spans q p b =
-      let m = mem_place {c = b.caller} calls (rw q (mem_calls stmts n b.caller b.node (goes_on b.caller b.continues).0)) in
+      let m = mem_place {c = b.caller} calls (rw q (mem_where (is_call stmts) n b.caller b.node (goes_on b.caller b.continues).0)) in
       let i = p.covers m.0 m.1 e (rw m.2 b.exists) in
       omega (arith, i.below)
 

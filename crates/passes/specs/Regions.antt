@@ -1,7 +1,7 @@
 -- Where RETURNs go back to without handlers: the calls, the continuations of the calls of one entry, and what the walks from all called
 -- entries leave in the sets of the RETURNs. Assumes nothing.
-use Rattle.std.specs.Prelude.{ℕ, zero, suc, ◌+◌, ◌*◌, ◌/◌, ◌≤◌, ◌<◌, ◌≡◌, ◌⊎◌, ◌↔◌, length, get_or, take, drop}
-use mathlib.Core.List.{List, [], ◌++◌, Memᴰ}
+use Rattle.std.specs.Prelude.{ℕ, Bool, ◌+◌, ◌*◌, ◌/◌, ◌≤◌, ◌<◌, ◌≡◌, ◌⊎◌, ◌↔◌, length, get_or, take, drop}
+use mathlib.Core.List.{List, [], Memᴰ}
 use Rattle.listings.specs.Bytes.{pick}
 use Rattle.listings.specs.Every.{All}
 use Rattle.graph.specs.Lists.{has, each}
@@ -9,7 +9,8 @@ use Rattle.graph.specs.Reach.{Reach}
 use Rattle.graph.specs.Graph.{Wired, region_return_edges}
 use Rattle.passes.specs.Walk.{Reached, Stored, stored_list}
 use Rattle.passes.specs.Spans.{Spanned}
-use Rattle.passes.specs.Sets.{In, one_if, members_of}
+use Rattle.passes.specs.ListedWhere.{listed_where}
+use Rattle.passes.specs.Sets.{In, members_of}
 use Rattle.passes.specs.ReturnSets.{IsReturn, set_of}
 use Rattle.layout.specs.Layout.{return_word}
 use Rattle.tables.specs.Columns.{call_word, word_of, fall_entry, continuation_entry}
@@ -17,10 +18,13 @@ use Rattle.passes.specs.Prepared.{link_entries}
 
 -- ---- calls, by the tables
 
+-- whether node i is one
+abbrev pub is_call : List ℕ → ℕ → Bool
+is_call stmts i = call_word (word_of stmts i)
+
 -- those among the nodes below n, ascending
-unfoldable pub calls_below : List ℕ → ℕ → List ℕ
-calls_below stmts zero = []
-calls_below stmts (suc i) = calls_below stmts i ++ one_if (call_word (word_of stmts i)) i
+abbrev pub calls_below : List ℕ → ℕ → List ℕ
+calls_below stmts = listed_where (is_call stmts)
 
 -- the part of a call's row of links that its targets take
 unfoldable pub target_row : List ℕ → List ℕ → ℕ → List ℕ

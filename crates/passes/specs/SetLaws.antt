@@ -3,9 +3,10 @@ use Rattle.std.specs.Prelude.{◌≡◌, refl, Bool, true, false, ◌⊎◌, ◌
 use Rattle.std.proofs.Common.{sym, subst, ◌∙◌, inl, inr, arith, mod-lt, mod-eq_of_lt, pow-suc, lt_of_lt_of_le, one-mul, add-one, one-add, length-set, pow_pos, pow_mono, pow-add, shl_exact, shr-shr, get_or-set_same, get_or-set_other, take-suc-set, drop-set-lt, drop-drop}
 use Rattle.std.proofs.Math.Path.{ap}
 use mathlib.Core.List.Memᴰ
-use mathlib.Core.List.{List, [], ◌++◌, append-nil, append_assoc, Memᴰ}
+use mathlib.Core.List.{List, [], ◌∷◌, ◌++◌, append-nil, append_assoc, Memᴰ}
 use Rattle.std.proofs.Math.Nat.{div_self, div-eq_of_lt, mul-mod_left}
 use borrow.Author.Tests.{eq-eqb, ne_eqb, eqb-true, le-leb, lt-leb}
+use Rattle.std.specs.Int.{bit_at}
 use Rattle.std.specs.Int.Bits.{bit_or, or_step}
 use Rattle.std.proofs.lemmas.Nat.{or_shr, ones_cat, shl-shr, mod-pow-add}
 use Rattle.std.specs.Int.Count.{ones_in, ones}
@@ -322,36 +323,46 @@ put_both p q s n m r k l a b =
       rest = b.rest ∙ d;
     }
 
--- as code goes: an id i is put where its bit b is 1
-pub put_yes : (p : List ℕ) (n i b x : ℕ) → n < length p → x ≡ i → b ≡ 1 → Put p n (set p n x) (n + 1) (one_if (eqb b 1) i)
-put_yes p n i b x h ex e =
-    rw (eq-eqb b 1 e)
-    (record {
+pub put_one : (p : List ℕ) (n i x : ℕ) → n < length p → x ≡ i → Put p n (set p n x) (n + 1) (i ∷ [])
+put_one p n i x h ex =
+    record {
       count = omega arith;
       list = rw (add-one n, take-suc-set p n x h, ex);
       rest = drop-set-lt (n + 1) p n x (omega arith);
-    })
-
-pub put_no : (p : List ℕ) (n i b : ℕ) → (b ≡ 1 → ⊥) → Put p n p n (one_if (eqb b 1) i)
-put_no p n i b e = rw (ne_eqb b 1 e) (put_none p n)
-
-pub one_room : (n i b : ℕ) {m : ℕ} → b ≡ 1 → n + length (one_if (eqb b 1) i) ≤ m → n < m
-one_room n i b e h = let q = eq-eqb b 1 e in omega (arith, rw q at h)
+    }
 
 -- a word, of which x is left at bit j
 module _ (base w j x : ℕ) (ex : x ≡ w / 2 ^ j) where
-  pub word_left : (k : ℕ) → w < 2 ^ k → (x ≡ 0 → ⊥) → j < k
-  word_left k h ne = elim (lt-or j k) [ inl g ↦ g | inr g ↦ absurd (ne (ex ∙ div-eq_of_lt (lt_of_lt_of_le h (pow_mono g)))) ]
+  -- its lowest bit that is 1 is bit t, so none of those below it is a member
+  word_passed : (t : ℕ) → ((i : ℕ) → i < t → bit_at x i ≡ 0) → word_members base w (j + t) ≡ word_members base w j
+  word_passed zero h = ap (word_members base w) (omega arith)
+  word_passed (suc t) h =
+      let e : j + suc t ≡ j + t + 1 = omega arith in
+      let b : w / 2 ^ (j + t) % 2 ≡ 0 = ap (λ (y : ℕ). y % 2) (sym (shr-shr w j t) ∙ ap (λ (y : ℕ). y / 2 ^ t) (sym ex)) ∙ h t (omega arith) in
+      rw (e, word_step base w (j + t) (w / 2 ^ (j + t)) refl, b, append-nil (word_members base w (j + t))) (word_passed t (λ i g. h i (omega arith)))
 
-  pub word_room : (k : ℕ) → j < k → length (word_members base w j) + length (one_if (eqb (x % 2) 1) (base + j)) ≤ length (word_members base w k)
-  word_room k h =
-      omega (arith, length-append (word_members base w j) (one_if (eqb (x % 2) 1) (base + j)), ap length (word_step base w j x ex), word_grows base w (j + 1) k (omega arith))
+  module _ (t : ℕ) (one : bit_at x t ≡ 1) (zeros : (i : ℕ) → i < t → bit_at x i ≡ 0) where
+    word_bit : w / 2 ^ (j + t) % 2 ≡ 1
+    word_bit = ap (λ (y : ℕ). y % 2) (sym (shr-shr w j t) ∙ ap (λ (y : ℕ). y / 2 ^ t) (sym ex)) ∙ one
 
-  pub word_next : x / 2 ≡ w / 2 ^ (j + 1)
-  word_next = ap (λ (y : ℕ). y / 2) ex ∙ shr-shr w j 1
+    word_met : word_members base w (j + t + 1) ≡ word_members base w j ++ ((base + (j + t)) ∷ [])
+    word_met = rw (word_step base w (j + t) (w / 2 ^ (j + t)) refl, word_bit, word_passed t zeros) refl
 
-  pub word_put : (p q s : List ℕ) (n m r : ℕ) → Put p n q m (word_members base w j) → Put q m s r (one_if (eqb (x % 2) 1) (base + j)) → Put p n s r (word_members base w (j + 1))
-  word_put p q s n m r a b = rw (word_step base w j x ex) (put_both p q s n m r (word_members base w j) (one_if (eqb (x % 2) 1) (base + j)) a b)
+    pub word_inside : (k : ℕ) → w < 2 ^ k → j + t < k
+    word_inside k h =
+        elim (lt-or (j + t) k) [
+          | inl g ↦ g
+          | inr g ↦ let z : w / 2 ^ (j + t) % 2 ≡ 0 = ap (λ (y : ℕ). y % 2) (div-eq_of_lt (lt_of_lt_of_le h (pow_mono g))) in absurd (let q : ◌≡◌ {A = ℕ} 0 1 = sym z ∙ word_bit in omega arith)
+        ]
+
+    pub word_room : (k : ℕ) → j + t < k → length (word_members base w j) + 1 ≤ length (word_members base w k)
+    word_room k h = omega (arith, length-append (word_members base w j) ((base + (j + t)) ∷ []), ap length word_met, word_grows base w (j + t + 1) k (omega arith))
+
+    pub word_next : x / 2 ^ t / 2 ^ 1 ≡ w / 2 ^ (j + t + 1)
+    word_next = shr-shr x t 1 ∙ ap (λ (y : ℕ). y / 2 ^ (t + 1)) ex ∙ shr-shr w j (t + 1) ∙ ap (λ (y : ℕ). w / 2 ^ y) (omega arith)
+
+    pub word_put : (p q : List ℕ) (n m v : ℕ) → Put p n q m (word_members base w j) → m < length q → v ≡ base + (j + t) → Put p n (set q m v) (m + 1) (word_members base w (j + t + 1))
+    word_put p q n m v a h e = rw word_met (put_both p q (set q m v) n m (m + 1) (word_members base w j) ((base + (j + t)) ∷ []) a (put_one q m (base + (j + t)) v h e))
 
   pub word_end : (p q : List ℕ) (n m k : ℕ) → j ≤ k → x ≡ 0 → Put p n q m (word_members base w j) → Put p n q m (word_members base w k)
   word_end p q n m k h z a = rw (word_done base w j k h (sym ex ∙ z)) a

@@ -88,10 +88,10 @@ module _ (falls : List ℕ) (i : ℕ) (part : List ℕ) where
 -- ---- one node
 
 -- what the loop's turn for node i needs: so many edges counted before it, and scratch used up to at
-pub record SkipReady (stmts args entries falls links frames dispatched : List ℕ) (lines d i total at : ℕ) (lists scratch buffer : List ℕ) : Type 0 where
+pub record SkipReady (stmts args entries falls links frames dispatched : List ℕ) (lines i total at : ℕ) (lists scratch buffer : List ℕ) : Type 0 where
   pub listing : Listing
   pub nodes : ℕ
-  pub prepared : Prepared listing stmts args entries falls links frames dispatched lines nodes d
+  pub prepared : Prepared listing stmts args entries falls links frames dispatched lines nodes
   pub roles : Roles (wire listing) stmts falls links nodes
   pub node : i < nodes
   pub rows : nodes * 4 ≤ length lists
@@ -106,15 +106,15 @@ pub record SkipStored (W : Wired) (i total at : ℕ) (lists lists' scratch scrat
   pub few : total' ≤ total + 4096
   pub stored : total' ≤ 32768 → Appended i at (length (skip_steps W i)) (skip_steps W i) lists lists' scratch scratch' at'
 
-abbrev pub SkipDone : (stmts args entries falls links frames dispatched : List ℕ) (lines d i total at : ℕ) (lists lists' scratch scratch' : List ℕ) (total' at' : ℕ) → Type 0
-SkipDone stmts args entries falls links frames dispatched lines d i total at lists lists' scratch scratch' total' at' =
-    (L : Listing) (n : ℕ) → Prepared L stmts args entries falls links frames dispatched lines n d → Roles (wire L) stmts falls links n → i < n → SkipStored (wire L) i total at lists lists' scratch scratch' total' at'
+abbrev pub SkipDone : (stmts args entries falls links frames dispatched : List ℕ) (lines i total at : ℕ) (lists lists' scratch scratch' : List ℕ) (total' at' : ℕ) → Type 0
+SkipDone stmts args entries falls links frames dispatched lines i total at lists lists' scratch scratch' total' at' =
+    (L : Listing) (n : ℕ) → Prepared L stmts args entries falls links frames dispatched lines n → Roles (wire L) stmts falls links n → i < n → SkipStored (wire L) i total at lists lists' scratch scratch' total' at'
 
 -- ---- all nodes
 
-pub record SkipsReady (stmts args entries falls links frames dispatched : List ℕ) (lines n d : ℕ) (lists scratch buffer : List ℕ) : Type 0 where
+pub record SkipsReady (stmts args entries falls links frames dispatched : List ℕ) (lines n : ℕ) (lists scratch buffer : List ℕ) : Type 0 where
   pub listing : Listing
-  pub prepared : Prepared listing stmts args entries falls links frames dispatched lines n d
+  pub prepared : Prepared listing stmts args entries falls links frames dispatched lines n
   pub roles : Roles (wire listing) stmts falls links n
   pub rows : n * 4 ≤ length lists
   pub scratch_size : length scratch ≡ 36864
@@ -128,9 +128,9 @@ pub record SkipTable (W : Wired) (i : ℕ) (lists lists' scratch scratch' : List
   pub at : ℕ
   pub stored : total ≤ 32768 → ListsStored (lists_to (skip_steps W) i) at lists lists' scratch scratch'
 
-abbrev pub SkipsDone : (stmts args entries falls links frames dispatched : List ℕ) (lines n d : ℕ) (lists lists' scratch scratch' : List ℕ) (total : ℕ) → Type 0
-SkipsDone stmts args entries falls links frames dispatched lines n d lists lists' scratch scratch' total =
-    (L : Listing) → Prepared L stmts args entries falls links frames dispatched lines n d → Roles (wire L) stmts falls links n → SkipTable (wire L) n lists lists' scratch scratch' total
+abbrev pub SkipsDone : (stmts args entries falls links frames dispatched : List ℕ) (lines n : ℕ) (lists lists' scratch scratch' : List ℕ) (total : ℕ) → Type 0
+SkipsDone stmts args entries falls links frames dispatched lines n lists lists' scratch scratch' total =
+    (L : Listing) → Prepared L stmts args entries falls links frames dispatched lines n → Roles (wire L) stmts falls links n → SkipTable (wire L) n lists lists' scratch scratch' total
 
 -- ---- the turn for one node
 
@@ -138,8 +138,8 @@ SkipsDone stmts args entries falls links frames dispatched lines n d lists lists
 pub keys_same : (stmts ks : List ℕ) (i : ℕ) → Keys stmts ks ks i
 keys_same stmts ks i e = record { own = λ j h. refl; names = λ k h. refl }
 
-module _ {stmts args entries falls links frames dispatched : List ℕ} {lines d i total at : ℕ} {lists scratch buffer : List ℕ} (q : SkipReady stmts args entries falls links frames dispatched lines d i total at lists scratch buffer) where
-  pub skip_list_ready : ListReady stmts args entries falls links frames dispatched lines d i (length buffer)
+module _ {stmts args entries falls links frames dispatched : List ℕ} {lines i total at : ℕ} {lists scratch buffer : List ℕ} (q : SkipReady stmts args entries falls links frames dispatched lines i total at lists scratch buffer) where
+  pub skip_list_ready : ListReady stmts args entries falls links frames dispatched lines i (length buffer)
   skip_list_ready =
       record {
         listing = q.listing;
@@ -152,8 +152,8 @@ module _ {stmts args entries falls links frames dispatched : List ℕ} {lines d 
         room = omega (arith, q.prepared.few, q.buffer_size);
       }
 
-  module _ {buffer₁ : List ℕ} {count : ℕ} (m : ListMade stmts args entries falls links frames dispatched lines d i buffer buffer₁ count) where
-    made : (L : Listing) (n : ℕ) → Prepared L stmts args entries falls links frames dispatched lines n d → i < n → ListIs (base (wire L) i) buffer buffer₁ count
+  module _ {buffer₁ : List ℕ} {count : ℕ} (m : ListMade stmts args entries falls links frames dispatched lines i buffer buffer₁ count) where
+    made : (L : Listing) (n : ℕ) → Prepared L stmts args entries falls links frames dispatched lines n → i < n → ListIs (base (wire L) i) buffer buffer₁ count
     made L n p h = m L args n p (keys_same stmts args i) refl h
 
     own : ListIs (base (wire q.listing) i) buffer buffer₁ count
@@ -171,7 +171,7 @@ module _ {stmts args entries falls links frames dispatched : List ℕ} {lines d 
         (omega (arith, r.few), omega (arith, r.stmts_fit), omega (arith, r.falls_fit), omega (arith, o.within, o.size), omega (arith, o.size))
 
     -- more edges than a graph may have
-    pub skip_over : 32768 < total + count → SkipDone stmts args entries falls links frames dispatched lines d i total at lists lists scratch scratch (total + count) at
+    pub skip_over : 32768 < total + count → SkipDone stmts args entries falls links frames dispatched lines i total at lists lists scratch scratch (total + count) at
     skip_over h L n p r g =
         let o = made L n p g in
         record { counted = ap (λ (x : ℕ). total + x) o.count; few = omega (arith, o.within, q.buffer_size); stored = λ f. absurd (omega arith) }
@@ -188,7 +188,7 @@ module _ {stmts args entries falls links frames dispatched : List ℕ} {lines d 
           (omega arith, omega (arith, q.scratch_size, q.roles.few), omega (arith, q.roles.few), omega (arith, q.rows))
 
       pub skip_store : {lists' scratch' : List ℕ} {at' : ℕ} → Appended i at kept (take kept (take kept buffer₂)) lists lists' scratch scratch' at'
-          → SkipDone stmts args entries falls links frames dispatched lines d i total at lists lists' scratch scratch' (total + count) at'
+          → SkipDone stmts args entries falls links frames dispatched lines i total at lists lists' scratch scratch' (total + count) at'
       skip_store {lists'} {scratch'} {at'} a L n p r h =
           let o = made L n p h in
           let e : skip_list stmts falls i (take count buffer₁) ≡ skip_steps (wire L) i = ap (skip_list stmts falls i) o.list ∙ sym (skip_list_lem r i h) in
@@ -227,9 +227,9 @@ pub record SkipsTo (W : Wired) (i total at : ℕ) (lists₀ lists scratch₀ scr
   pub counted : total ≡ length (joined_lists (lists_to (base W) i))
   pub stored : total ≤ 32768 → ListsStored (lists_to (skip_steps W) i) at lists₀ lists scratch₀ scratch
 
-abbrev pub Skipping : (stmts args entries falls links frames dispatched : List ℕ) (lines n d i total at : ℕ) (lists₀ lists scratch₀ scratch : List ℕ) → Type 0
-Skipping stmts args entries falls links frames dispatched lines n d i total at lists₀ lists scratch₀ scratch =
-    (L : Listing) → Prepared L stmts args entries falls links frames dispatched lines n d → Roles (wire L) stmts falls links n → SkipsTo (wire L) i total at lists₀ lists scratch₀ scratch
+abbrev pub Skipping : (stmts args entries falls links frames dispatched : List ℕ) (lines n i total at : ℕ) (lists₀ lists scratch₀ scratch : List ℕ) → Type 0
+Skipping stmts args entries falls links frames dispatched lines n i total at lists₀ lists scratch₀ scratch =
+    (L : Listing) → Prepared L stmts args entries falls links frames dispatched lines n → Roles (wire L) stmts falls links n → SkipsTo (wire L) i total at lists₀ lists scratch₀ scratch
 
 pub skips_none : (W : Wired) (lists scratch : List ℕ) → SkipsTo W 0 0 0 lists lists scratch scratch
 unfolding lists_to joined_lists

@@ -43,7 +43,7 @@ use Rattle.passes.specs.NodeListLaws.{own_jump}
 use Rattle.passes.specs.PreparedLaws.{call_moves}
 use Rattle.passes.specs.NodeTables.{falling, falls_ok, entered, popped-ids, opener_fits}
 use Rattle.passes.specs.OwnTables.{own_are}
-use Rattle.passes.specs.OrphanKeys.{dispatched_are, dispatched_fits, slots-counted, orphan_are}
+use Rattle.passes.specs.OrphanKeys.{dispatched_are, slots-counted, orphan_are}
 
 -- the words of IF, IFELSE and RCOMP are below 7
 cond_low : (s : NodeStmt) → 7 ≤ stmt_number s → (o : Simple) × (s ≡ simple o)
@@ -66,7 +66,7 @@ call_number w h = go (eqb w 8) refl h
     go true e q = inl (eqb-true w 8 e)
     go false e q = inr (eqb-true w 12 q)
 
-module _ {L : Listing} {stmts ks entries falls links frames ds : List ℕ} {lines n d : ℕ} (P : Prepared L stmts ks entries falls links frames ds lines n d) where
+module _ {L : Listing} {stmts ks entries falls links frames ds : List ℕ} {lines n : ℕ} (P : Prepared L stmts ks entries falls links frames ds lines n) where
   pub closing_tables : ClosingTables stmts falls frames (wire L).nodes
   closing_tables = record {
     worded = λ i x e. (P.listed i x e).word;
@@ -80,7 +80,7 @@ module _ {L : Listing} {stmts ks entries falls links frames ds : List ℕ} {line
   module _ (args : List ℕ) (i : ℕ) (lt : i < n) (kept : Keys stmts ks args i) (size : length args ≡ length ks) where
     -- the edges that the code adds, in its order
     abbrev edges_by : Fact → List ℕ
-    edges_by f = own_edges stmts entries falls links frames lines i ++ (closing_edges (facts 0 (wire L).nodes no_openers) i f ++ orphan_bodies stmts args falls (take d ds) i)
+    edges_by f = own_edges stmts entries falls links frames lines i ++ (closing_edges (facts 0 (wire L).nodes no_openers) i f ++ orphan_bodies stmts args falls ds i)
 
     module _ (x : Node) (f : Fact) (ex : get_elem? (wire L).nodes i ≡ some x) (ef : get_elem? (facts 0 (wire L).nodes no_openers) i ≡ some f) where
       edges_are : edges_by f ≡ per_node (wire L).entries (dispatch_targets (wire L).nodes) (facts 0 (wire L).nodes no_openers) i f
@@ -97,10 +97,10 @@ module _ {L : Listing} {stmts ks entries falls links frames ds : List ℕ} {line
       own-ids = all_left (own_edges stmts entries falls links frames lines i) _ edges-ids
 
       closing-ids : Ids n (closing_edges (facts 0 (wire L).nodes no_openers) i f)
-      closing-ids = all_left (closing_edges (facts 0 (wire L).nodes no_openers) i f) (orphan_bodies stmts args falls (take d ds) i) (all_right (own_edges stmts entries falls links frames lines i) _ edges-ids)
+      closing-ids = all_left (closing_edges (facts 0 (wire L).nodes no_openers) i f) (orphan_bodies stmts args falls ds i) (all_right (own_edges stmts entries falls links frames lines i) _ edges-ids)
 
-      orphan_ids : Ids n (orphan_bodies stmts args falls (take d ds) i)
-      orphan_ids = all_right (closing_edges (facts 0 (wire L).nodes no_openers) i f) (orphan_bodies stmts args falls (take d ds) i) (all_right (own_edges stmts entries falls links frames lines i) _ edges-ids)
+      orphan_ids : Ids n (orphan_bodies stmts args falls ds i)
+      orphan_ids = all_right (closing_edges (facts 0 (wire L).nodes no_openers) i f) (orphan_bodies stmts args falls ds i) (all_right (own_edges stmts entries falls links frames lines i) _ edges-ids)
 
       few_args : 7 ≤ get_or stmts (i * 12) 0 → get_or stmts (i * 12 + 10) 0 ≤ 64
       few_args h =
@@ -121,8 +121,9 @@ module _ {L : Listing} {stmts ks entries falls links frames ds : List ℕ} {line
             popped = popped-ids P i lt x f ex ef k.0 k.1 (stmt_at_lem loop_stack (wire L).nodes i x f ex ef ∙ k.2) (s.count ∙ length-map k.1 slot_key);
           }
 
-      own-fits : (part : List ℕ) → n ≤ length part → OwnRoom stmts entries falls links frames lines i part
+      own-fits : (part : List ℕ) → n ≤ length part → OwnRoom stmts entries falls links frames lines i part 0
       own-fits part h = record {
+        fresh = refl;
         stmts = omega (arith, P.stmts_fit);
         entries = P.entries_fit;
         falls = omega (arith, P.falls_fit);
@@ -143,7 +144,7 @@ module _ {L : Listing} {stmts ks entries falls links frames ds : List ℕ} {line
 
     -- ---- room for each piece
 
-    pub own_room : (part : List ℕ) → n ≤ length part → OwnRoom stmts entries falls links frames lines i part
+    pub own_room : (part : List ℕ) → n ≤ length part → OwnRoom stmts entries falls links frames lines i part 0
     own_room part h = own-fits here.0 fact.0 here.1 fact.1 part h
 
     pub after-own : (part p : List ℕ) (r : ℕ) → n ≤ length part → Grows part 0 p r (own_edges stmts entries falls links frames lines i) → Grown n p r
@@ -159,13 +160,13 @@ module _ {L : Listing} {stmts ks entries falls links frames ds : List ℕ} {line
     after-closing p q r s g a e h =
         grown_added n p q r s (closing_edges (facts 0 (wire L).nodes no_openers) i fact.0) (a (wire L).nodes closing_tables fact.0 fact.1) e h g (closing-ids here.0 fact.0 here.1 fact.1)
 
-    pub orphan_room : (q : List ℕ) (s : ℕ) → Grown n q s → ((i * 12 + 12 ≤ length stmts) × (i * 64 + 64 ≤ length args) × (d ≤ length ds)) × (SlotsCounted stmts i × SelectRoom args falls (take d ds) q s)
+    pub orphan_room : (q : List ℕ) (s : ℕ) → Grown n q s → SlotsCounted stmts i × SelectRoom args falls ds q s
     orphan_room q s g = (
-      (omega (arith, P.stmts_fit), omega (arith, P.args_fit), dispatched_fits P),
-      (slots-counted P i lt, record { nodes = n; grown = g; falls = falls_ok P; args = omega (arith, P.args_fit); ids = rw (dispatched_are P) (dispatched_below stmts falls n) }),
+      slots-counted P i lt,
+      record { nodes = n; grown = g; falls = falls_ok P; args = omega (arith, P.args_fit); ids = rw (dispatched_are P) (dispatched_below stmts falls n) },
     )
 
-    pub after_orphan : (q z : List ℕ) (s t : ℕ) → Grown n q s → Grows q s z t (orphan_bodies stmts args falls (take d ds) i) → Grown n z t
+    pub after_orphan : (q z : List ℕ) (s t : ℕ) → Grown n q s → Grows q s z t (orphan_bodies stmts args falls ds i) → Grown n z t
     after_orphan q z s t g a = a.grown n g (orphan_ids here.0 fact.0 here.1 fact.1)
 
     -- ---- a call's list is what its statement adds
@@ -182,7 +183,7 @@ module _ {L : Listing} {stmts ks entries falls links frames ds : List ℕ} {line
         let m : node_moves fact.0.stmt ≡ no_moves = call_moves fact.0.stmt (ap (λ (y : NodeStmt). call_word (stmt_number y)) s ∙ ap call_word (sym (P.listed i here.0 here.1).word) ∙ w) in
         rw m
 
-    call_orphan : call_word (get_or stmts (i * 12) 0) ≡ true → orphan_bodies stmts args falls (take d ds) i ≡ []
+    call_orphan : call_word (get_or stmts (i * 12) 0) ≡ true → orphan_bodies stmts args falls ds i ≡ []
     unfolding orphan_bodies
     call_orphan w = rw (ne_eqb (get_or stmts (i * 12) 0) 14 (λ e. ⊎_elim (λ q. omega arith) (λ q. omega arith) (call_number (get_or stmts (i * 12) 0) w)))
 
@@ -195,11 +196,11 @@ module _ {L : Listing} {stmts ks entries falls links frames ds : List ℕ} {line
     -- ---- the list that they make
 
     pub list_made : (part p q z : List ℕ) (r s t : ℕ) → Added part 0 p r (own_edges stmts entries falls links frames lines i) → ClosingAdded stmts falls frames i p r q s
-        → Added q s z t (orphan_bodies stmts args falls (take d ds) i) → length z ≡ length part → t ≤ length z → ListIs (base (wire L) i) part z t
+        → Added q s z t (orphan_bodies stmts args falls ds i) → length z ≡ length part → t ≤ length z → ListIs (base (wire L) i) part z t
     unfolding facts_of
     list_made part p q z r s t a b c e h =
         let l = closing_edges (facts 0 (wire L).nodes no_openers) i fact.0 in
-        let o = orphan_bodies stmts args falls (take d ds) i in
+        let o = orphan_bodies stmts args falls ds i in
         let m = added_both part p z 0 r t (own_edges stmts entries falls links frames lines i) (l ++ o) a (added_both p q z r s t l o (b (wire L).nodes closing_tables fact.0 fact.1) c) in
         let is : take t z ≡ base (wire L) i = m.list ∙ ap (add_all []) (edges_are here.0 fact.0 here.1 fact.1) ∙ sym (lists_per_node L i fact.0 fact.1) in
         record { count = sym (length-take-le t z h) ∙ ap length is; list = is; size = e; within = omega arith }

@@ -12,22 +12,21 @@ use layout::columns::{HOLDER, INDEX, LINE, STMT_ENTRIES};
 use layout::limits::MAX_DEPTH;
 use tables::graphs::Graph;
 
-// The path of node i among n: that of the IF that holds it, and then its own number. It goes up through `left` IFs at most.
-fn put_path(page: &mut Page<'_>, stmts: &[u16], n: usize, i: usize, left: usize)
-    requires { (i < n) × Holders stmts.now n }
-    ensures { Wrote page.old page.new (joined (path_in stmts.now left i)) }
+// The path of node i: that of the IF that holds it, and then its own number. It goes up through `left` IFs at most.
+fn put_path(page: &mut Page<'_>, g: &Graph<'_>, i: usize, left: usize)
+    requires { (i < get_or g.now.counts.now 1 0) × NodesReadable g.now.lines.now g.now.stmts.now g.now.lists.now g.now.succ.now g.now.pred.now (get_or g.now.counts.now 1 0) }
+    ensures { Wrote page.old page.new (joined (path_in g.now.stmts.now left i)) }
 {
     let row = i * STMT_ENTRIES;
-    let index = usize::from(stmts[row + INDEX]);
-    let holder = usize::from(stmts[row + HOLDER]);
-    if left == 0 {
-        return page.put_decimal(index);
+    let index = usize::from(g.stmts[row + INDEX]);
+    let holder = usize::from(g.stmts[row + HOLDER]);
+    match holder.checked_sub(1) {
+        Some(outer) if left > 0 => {
+            put_path(page, g, outer, left - 1);
+            page.put_number(index);
+        }
+        _ => page.put_decimal(index),
     }
-    let Some(outer) = holder.checked_sub(1) else {
-        return page.put_decimal(index);
-    };
-    put_path(page, stmts, n, outer, left - 1);
-    page.put_number(index);
 }
 
 // The front of a row, as far as the bracket of the path.
@@ -60,13 +59,13 @@ fn put_lists(page: &mut Page<'_>, g: &Graph<'_>, i: usize)
 }
 
 // The row of node i.
-fn put_node(page: &mut Page<'_>, g: &Graph<'_>, n: usize, i: usize)
-    requires { (i < n) × NodesReadable g.now.lines.now g.now.stmts.now g.now.lists.now g.now.succ.now g.now.pred.now n × (n ≡ get_or g.now.counts.now 1 0) }
+fn put_node(page: &mut Page<'_>, g: &Graph<'_>, i: usize)
+    requires { (i < get_or g.now.counts.now 1 0) × NodesReadable g.now.lines.now g.now.stmts.now g.now.lists.now g.now.succ.now g.now.pred.now (get_or g.now.counts.now 1 0) }
     ensures { Wrote page.old page.new (node_text g.now.lines.now g.now.stmts.now g.now.lists.now g.now.succ.now g.now.pred.now i) }
 {
     let line = usize::from(g.stmts[i * STMT_ENTRIES + LINE]);
     put_head(page, i, usize::from(g.lines[line]), line);
-    put_path(page, g.stmts, n, i, MAX_DEPTH);
+    put_path(page, g, i, MAX_DEPTH);
     put_lists(page, g, i);
 }
 
@@ -76,6 +75,6 @@ pub(crate) fn put_nodes(page: &mut Page<'_>, g: &Graph<'_>, n: usize)
     ensures { Wrote page.old page.new (each (node_text g.now.lines.now g.now.stmts.now g.now.lists.now g.now.succ.now g.now.pred.now) (below n)) }
 {
     for i in 0..n {
-        put_node(page, g, n, i);
+        put_node(page, g, i);
     }
 }

@@ -20,11 +20,11 @@ use Rattle.basic.specs.Items.{put_front}
 use Rattle.basic.specs.Judge.{judged_of, told_of}
 use Rattle.basic.specs.Rows.{lines_at, contents_from, SimpleIs, RowIs, First}
 use Rattle.basic.specs.RowsAre.{rows_are_lem}
-use Rattle.basic.specs.declared.cursors.Cursor.{Cursor}
 use Rattle.basic.specs.declared.judge.Counts.{Counts}
 use Rattle.layout.specs.Refusals.{number_of}
 use Rattle.layout.specs.declared.refusals.Refusal.{Refusal}
 use Rattle.basic.specs.declared.sources.Source.{Source}
+use Rattle.basic.specs.declared.sources.Simple.{Simple}
 use Rattle.basic.specs.declared.sources.FileRow.{FileRow}
 use Rattle.basic.specs.declared.sources.FileRow.TheVariants as row
 use Rattle.basic.specs.declared.sources.Sourced.{Sourced}
@@ -40,8 +40,8 @@ ended d = row_text d ++ (10 ∷ [])
 abbrev pub WroteRow : List ℕ → FileRow → Page → Page → Type 0
 WroteRow f w p p' = (d : Content) → RowIs f d w → Printable d → Wrote p p' (ended d)
 
-abbrev pub WroteSimple : List ℕ → (w n b : ℕ) → Cursor → Page → Page → Type 0
-WroteSimple f w n b c p p' = (d : Content) → SimpleIs f d w n b c → Printable d → Wrote p p' (ended d)
+abbrev pub WroteSimple : List ℕ → Simple → Page → Page → Type 0
+WroteSimple f s p p' = (d : Content) → SimpleIs f d s → Printable d → Wrote p p' (ended d)
 
 -- ---- the rows of one number or none
 
@@ -82,29 +82,29 @@ front_args : (vs z : List ℕ) → length vs ≤ length z → take (length vs) (
 unfolding put_front
 front_args vs z h = ap (λ (l : List ℕ). take (length vs) (l ++ drop (length vs) z)) (take_all (length z) vs h) ∙ take_at vs (drop (length vs) z) (length vs) refl
 
-module _ (f : List ℕ) (w n b : ℕ) (c : Cursor) where
-  stmt_prints : (d : Content) (s : SimpleIs f d w n b c) → Printable d → StmtPrints s.simple
+module _ (f : List ℕ) (r : Simple) where
+  stmt_prints : (d : Content) (s : SimpleIs f d r) → Printable d → StmtPrints s.simple
   unfolding Printable IsParsed
   stmt_prints d s h = rw s.content at h
 
-  pub too_many_lem : {p : Page} → 64 < n → WroteSimple f w n b c p p
+  pub too_many_lem : {p : Page} → 64 < r.count → WroteSimple f r p p
   too_many_lem g = λ d s h. absurd (omega (arith, s.count, (stmt_prints d s h).few))
 
   -- the arguments in the room for them
-  args_are_lem : (d : Content) (s : SimpleIs f d w n b c) → Printable d → (z part : List ℕ) → length z ≡ 64
-      → part ≡ put_front (args_in (action (fuel f c) b (tokens_at f c))) z → take n part ≡ args_of s.simple
+  args_are_lem : (d : Content) (s : SimpleIs f d r) → Printable d → (z part : List ℕ) → length z ≡ 64
+      → part ≡ put_front (args_in (action (fuel f r.at) r.byte (tokens_at f r.at))) z → take r.count part ≡ args_of s.simple
   args_are_lem d s h z part e g =
-      ap (take n) (g ∙ ap (λ (l : List ℕ). put_front l z) s.args) ∙ ap (λ (k : ℕ). take k (put_front (args_of s.simple) z)) s.count
+      ap (take r.count) (g ∙ ap (λ (l : List ℕ). put_front l z) s.args) ∙ ap (λ (k : ℕ). take k (put_front (args_of s.simple) z)) s.count
       ∙ front_args (args_of s.simple) z (omega (arith, e, (stmt_prints d s h).few))
 
-  row_is_lem : (d : Content) (s : SimpleIs f d w n b c) → Printable d → stmt_text w (args_of s.simple) ≡ ended d
+  row_is_lem : (d : Content) (s : SimpleIs f d r) → Printable d → stmt_text r.word (args_of s.simple) ≡ ended d
   unfolding row_text text_by
   row_is_lem d s h =
       ap (λ (k : ℕ). stmt_text k (args_of s.simple)) s.word ∙ sym (stmt_text_lem s.simple (stmt_prints d s h).form s.detail) ∙ ap ended (sym s.content)
 
-  pub wrote_simple : {p p' : Page} (z part : List ℕ) → length z ≡ 64 → part ≡ put_front (args_in (action (fuel f c) b (tokens_at f c))) z → Wrote p p' (stmt_text w (take n part))
-      → WroteSimple f w n b c p p'
-  wrote_simple z part e g p = λ d s h. wrote_is (ap (stmt_text w) (args_are_lem d s h z part e g) ∙ row_is_lem d s h) p
+  pub wrote_simple : {p p' : Page} (z part : List ℕ) → length z ≡ 64 → part ≡ put_front (args_in (action (fuel f r.at) r.byte (tokens_at f r.at))) z → Wrote p p' (stmt_text r.word (take r.count part))
+      → WroteSimple f r p p'
+  wrote_simple z part e g p = λ d s h. wrote_is (ap (stmt_text r.word) (args_are_lem d s h z part e g) ∙ row_is_lem d s h) p
 
 -- ---- any row
 
@@ -115,8 +115,8 @@ module _ (f : List ℕ) {q q' : Page} (w : FileRow) where
   pub wrote_line : (n : ℕ) → w ≡ row.Line n → Wrote q q' (numbered_text (bytes "(line") n (bytes "\n")) → WroteRow f w q q'
   wrote_line n e p = λ d h g. wrote_is (line_text_lem n ∙ ap ended (sym (subst (RowIs f d) e h))) p
 
-  pub wrote_stmt_row : (k n b : ℕ) (c : Cursor) → w ≡ row.Simple k n b c → WroteSimple f k n b c q q' → WroteRow f w q q'
-  wrote_stmt_row k n b c e p = λ d h g. p d (subst (RowIs f d) e h) g
+  pub wrote_stmt_row : (s : Simple) → w ≡ row.Simple s → WroteSimple f s q q' → WroteRow f w q q'
+  wrote_stmt_row s e p = λ d h g. p d (subst (RowIs f d) e h) g
 
   pub wrote_if : w ≡ row.If → Wrote q q' (bytes "(if\n") → WroteRow f w q q'
   wrote_if e p = λ d h g. wrote_is (if_text ∙ ap ended (sym (subst (RowIs f d) e h))) p

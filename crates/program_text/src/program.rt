@@ -14,6 +14,7 @@ use basic::rows::{first_row, row_at};
 use formatting::page::{Page, print_refusal};
 
 // Every row of an accepted file, one after the other.
+// Kept: `while let`; as an iterator of rows it is no plainer: std's laws want the items as a function of what is left, and a row is told by what it means (`RowIs`).
 fn put_rows(file: &[u8], out: &mut [u8]) -> usize
     requires { All Printable (module_row false ∷ lines_at file.now 2) }
     ensures { Puts out.old 0 out.new result (rows_text (module_row false ∷ lines_at file.now 2)) }

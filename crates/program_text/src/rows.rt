@@ -5,8 +5,7 @@ ghost use Rattle.program_text.specs.RowTexts.{WroteRow, WroteSimple, numbered_te
 
 use super::statements::put_stmt;
 use basic::actions::put_args;
-use basic::cursors::Cursor;
-use basic::sources::FileRow;
+use basic::sources::{FileRow, Simple};
 use formatting::page::Page;
 use layout::limits::MAX_ARGS;
 
@@ -20,15 +19,15 @@ fn put_numbered(page: &mut Page<'_>, word: &[u8], n: u16, end: &[u8])
 }
 
 // A statement that holds no others. No row has more arguments than `part` holds.
-fn put_simple(file: &[u8], word: u16, count: usize, byte: u8, c: Cursor, page: &mut Page<'_>)
-    ensures { WroteSimple file.now word count byte c page.old page.new }
+fn put_simple(file: &[u8], s: Simple, page: &mut Page<'_>)
+    ensures { WroteSimple file.now s page.old page.new }
 {
-    if MAX_ARGS < count {
+    if MAX_ARGS < s.count {
         return;
     }
     let mut part = [0u64; MAX_ARGS];
-    put_args(file, byte, c, &mut part);
-    put_stmt(page, word, &part[..count]);
+    put_args(file, s.byte, s.at, &mut part);
+    put_stmt(page, s.word, &part[..s.count]);
 }
 
 // One row, with the byte that ends it.
@@ -38,12 +37,7 @@ pub(crate) fn put_row(file: &[u8], row: FileRow, page: &mut Page<'_>)
     match row {
         FileRow::Module => page.put_bytes(b"(module 0\n"),
         FileRow::Line(n) => put_numbered(page, b"(line", n, b"\n"),
-        FileRow::Simple {
-            word,
-            count,
-            byte,
-            at,
-        } => put_simple(file, word, count, byte, at, page),
+        FileRow::Simple(s) => put_simple(file, s, page),
         FileRow::If => page.put_bytes(b"(if\n"),
         FileRow::To(n) => put_numbered(page, b"(to", n, b")\n"),
         FileRow::Stmts => page.put_bytes(b"(stmts\n"),

@@ -191,7 +191,7 @@ module _ (lines : ℕ) (stmts : List ℕ) (ns : List Node) (R : Recorded lines s
           R.one i j a b e f (sym w ∙ ap (λ (d : Node). d.line) c ∙ w') (q ∙ ap (λ (d : Node). d.path ++ (index_of stmts i ∷ [])) c ∙ ap (λ (o : ℕ). m'.path ++ (o ∷ [])) h ∙ sym q')
 
   child_is : (i : ℕ) (d : Node) → get_elem? ns i ≡ some d → (h x : ℕ) → holder_of stmts i ≡ h → index_of stmts i ≡ x → child_at stmts (length ns) d.line h x ≡ suc i
-  unfolding child_at
+  unfolding child_at word_of
   child_is i d e h x a b =
       first-is (stands_at stmts d.line h x) (length ns) 0 i (omega arith) (omega (arith, in_range ns i d e)) here
       (λ m l q.
@@ -199,11 +199,11 @@ module _ (lines : ℕ) (stmts : List ℕ) (ns : List Node) (R : Recorded lines s
       let p = at_place ns m (omega (arith, l, in_range ns i d e)) in
       absurd (omega (arith, l, spot m i p.0 d p.1 e (s.0 ∙ sym a) (s.1 ∙ sym b) (λ z. s.2 (sym a ∙ z) ∙ sym (R.lined i d e)))))
     where
-      in_if_here : HeldBy (λ j. get_elem? ns j) (holder_of stmts i) (index_of stmts i) i d → (h ≡ 0 → ⊥) → branching_word (get_or stmts ((h - 1) * 12 + 0) 0) ≡ true
+      in_if_here : HeldBy (λ j. get_elem? ns j) (holder_of stmts i) (index_of stmts i) i d → (h ≡ 0 → ⊥) → branching_word (word_of stmts (h - 1)) ≡ true
       in_if_here (on_line y p) f = absurd (f (sym a ∙ y))
       in_if_here (in_if j m u o v y w q) f =
-          let z : (h - 1) * 12 + 0 ≡ j * 12 = omega (arith, a, y) in
-          ap (λ (k : ℕ). branching_word (get_or stmts k 0)) z ∙ ap branching_word (R.worded j m u) ∙ branching_word_lem m.stmt o
+          let z : h - 1 ≡ j = omega (arith, a, y) in
+          ap (λ (k : ℕ). branching_word (word_of stmts k)) z ∙ ap branching_word (R.worded j m u) ∙ branching_word_lem m.stmt o
 
       here : stands_at stmts d.line h x i ≡ true
       here =

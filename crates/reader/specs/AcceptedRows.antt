@@ -1,5 +1,5 @@
 -- The rows of an accepted text: each is in form, so that less has to be judged when it is read again. Assumes nothing.
-use Rattle.std.specs.Prelude.{ℕ, ◌-◌, ◌≤◌, ◌<◌, ◌≡◌, refl, List, [], ◌∷◌, Bool, true, false, eqb, ltb, leb, length, get_or, take, drop, Option as Maybe, Some, None, Ok, Err}
+use Rattle.std.specs.Prelude.{ℕ, ◌<◌, ◌≡◌, refl, List, [], ◌∷◌, Bool, true, false, eqb, ltb, leb, length, get_or, Option as Maybe, Some, None, Ok, Err}
 use Rattle.std.proofs.Common.{sym, ap, ◌∙◌, subst, arith, eqb-true}
 use Rattle.std.proofs.Math.Option.{Option, none, some}
 use Rattle.std.proofs.Math.Decide.{dec_lt}
@@ -8,14 +8,12 @@ use Rattle.listings.specs.Bytes.{same, pick}
 use Rattle.listings.specs.Rows.{split, are_words, form_row, row_of, lookup, Parse, malformed, invalid, parsed, single, handler_facts, module_by, module_content, content_of}
 use Rattle.listings.specs.WordTable.{word_index}
 use Rattle.listing_laws.specs.WordSlots.{candidate_of, own_candidate}
-use Rattle.listings.specs.Scan.{index_of, after}
 use Rattle.tokens.specs.Arguments.{Verdict, check_kind}
 use Rattle.tokens.specs.Kinds.{opened_kind, opened_past}
 use Rattle.tokens.specs.declared.words.Kind.{Kind}
 use Rattle.tokens.specs.declared.words.Kind.TheVariants as kind
 use Rattle.reader.specs.CodedRows.{place_number, as_line, as_to, as_row, Said, simple_of, closed_args, opened_args, args_row, closed_bare, opened_bare, bare_row, closed_others, form_false, form_one, form_more, row_empty, row_end, row_bad}
-use Rattle.reader.specs.Machine.{one_more, step_simple, step_row}
-use Rattle.reader.specs.declared.machine.State.{State}
+use Rattle.reader.specs.Machine.{State, one_more, step_simple, step_row}
 use Rattle.reader.specs.declared.rows.Position.TheVariants as at
 use Rattle.reader.specs.declared.rows.Misfit.{Misfit}
 use Rattle.reader.specs.declared.rows.Cond.TheVariants as cond
@@ -191,35 +189,39 @@ formed_words c ws f = go (are_words ws) refl
     go true e = refl
     go false e = absurd (subst WellFormed (ap as_row (form_false c ws e)) f)
 
-module _ (c : Bool) (s : List ℕ) (e : ℕ) (found : e ≡ index_of 32 s) (formed : WellFormed (as_row (content_of (form_row c (split 32 s))))) where
-  formed_opening : e ≤ length s → word_index (take (e - 0) (drop 0 s)) < 28
-  formed_opening le = elim (dec_lt k 28) [ yes h ↦ h | no h ↦ absurd (go (opened_past k (omega (arith, h))) (eqb e (length s)) refl) ]
-    where
-      k : ℕ
-      k = word_index (take (e - 0) (drop 0 s))
+module _ (c : Bool) (s : List ℕ) (formed : WellFormed (as_row (content_of (form_row c (split 32 s))))) where
+  words : are_words (split 32 s) ≡ true
+  words = formed_words c (split 32 s) formed
 
-      words : are_words (split 32 s) ≡ true
-      words = formed_words c (split 32 s) formed
+  module _ (alone : split 32 s ≡ s ∷ []) where
+    -- there is an opening word, which opens a form
+    pub one_kind : opened_kind (word_index s) ≡ None → ⊥
+    one_kind q = bare-none (word_index s) c (subst (λ (n : Maybe Kind). WellFormed (bare_row n (word_index s) c)) q (subst WellFormed (form_one c s words alone) formed))
 
-      go : opened_kind k ≡ None → (t : Bool) → eqb e (length s) ≡ t → ⊥
-      go q true h = bare-none k c (subst (λ (n : Maybe Kind). WellFormed (bare_row n k c)) q (subst WellFormed (form_one c s e found words (eqb-true e (length s) h)) formed))
-      go q false h =
-          let lt : e < length s = omega (arith, eqb-false e (length s) h) in
-          args_none k c (split 32 (after s e)) (subst (λ (n : Maybe Kind). WellFormed (args_row n k c (split 32 (after s e)))) q (subst WellFormed (form_more c s e found words lt) formed))
+    pub one_candidate : (k : ℕ) → k ≡ candidate_of s → k ≡ word_index s
+    one_candidate k q = q ∙ own_candidate s (elim (dec_lt (word_index s) 28) [ yes h ↦ h | no h ↦ absurd (one_kind (opened_past (word_index s) (omega (arith, h)))) ])
 
-  pub formed_candidate : (k : ℕ) → k ≡ candidate_of (take (e - 0) (drop 0 s)) → e ≤ length s → k ≡ word_index (take (e - 0) (drop 0 s))
-  formed_candidate k q le = q ∙ own_candidate (take (e - 0) (drop 0 s)) (formed_opening le)
+    -- g: what the opening word opens
+    pub formed_one : (k : ℕ) (g : Maybe Kind) → k ≡ word_index s → g ≡ opened_kind k → bare_row g k c ≡ uncounted (as_row (content_of (form_row c (split 32 s))))
+    formed_one k g opening is =
+        let p = ap (λ (x : Maybe Kind). bare_row x k c) is ∙ ap (λ (n : ℕ). bare_row (opened_kind n) n c) opening ∙ sym (form_one c s words alone) in
+        bare-same g k c ∙ ap uncounted p
 
-  pub formed_one : (k : ℕ) → k ≡ word_index (take (e - 0) (drop 0 s)) → e ≡ length s → bare_row (opened_kind k) k c ≡ uncounted (as_row (content_of (form_row c (split 32 s))))
-  formed_one k q h =
-      let p = ap (λ (n : ℕ). bare_row (opened_kind n) n c) q ∙ sym (form_one c s e found (formed_words c (split 32 s) formed) h) in
-      bare-same (opened_kind k) k c ∙ ap uncounted p
+  module _ (w v : List ℕ) (cut : split 32 s ≡ w ∷ split 32 v) where
+    pub more_kind : opened_kind (word_index w) ≡ None → ⊥
+    more_kind q = args_none (word_index w) c (split 32 v) (subst (λ (n : Maybe Kind). WellFormed (args_row n (word_index w) c (split 32 v))) q (subst WellFormed (form_more c s words w v cut) formed))
 
-  pub formed_args : (k : ℕ) → k ≡ word_index (take (e - 0) (drop 0 s)) → e < length s → args_row (opened_kind k) k c (split 32 (after s e)) ≡ as_row (content_of (form_row c (split 32 s)))
-  formed_args k q h = ap (λ (n : ℕ). args_row (opened_kind n) n c (split 32 (after s e))) q ∙ sym (form_more c s e found (formed_words c (split 32 s) formed) h)
+    pub more_candidate : (k : ℕ) → k ≡ candidate_of w → k ≡ word_index w
+    more_candidate k q = q ∙ own_candidate w (elim (dec_lt (word_index w) 28) [ yes h ↦ h | no h ↦ absurd (more_kind (opened_past (word_index w) (omega (arith, h)))) ])
 
-  pub formed_more : (k : ℕ) → k ≡ word_index (take (e - 0) (drop 0 s)) → e < length s → WellFormed (args_row (opened_kind k) k c (split 32 (after s e)))
-  formed_more k q h = subst WellFormed (sym (formed_args k q h)) formed
+    module _ (k : ℕ) (g : Maybe Kind) (opening : k ≡ word_index w) (is : g ≡ opened_kind k) where
+      pub formed_args : args_row g k c (split 32 v) ≡ as_row (content_of (form_row c (split 32 s)))
+      formed_args =
+          ap (λ (x : Maybe Kind). args_row x k c (split 32 v)) is ∙ ap (λ (n : ℕ). args_row (opened_kind n) n c (split 32 v)) opening
+          ∙ sym (form_more c s words w v cut)
+
+      pub formed_more : WellFormed (args_row g k c (split 32 v))
+      formed_more = subst WellFormed (sym formed_args) formed
 
 module _ (s : List ℕ) (formed : WellFormed (as_row (content_of (row_of s)))) where
   pub formed_some : 0 < length s

@@ -1,17 +1,19 @@
 -- What a row says, as the code answers it, and how the code finds it. Assumes nothing.
-use Rattle.std.specs.Prelude.{ℕ, zero, suc, ◌+◌, ◌-◌, ◌≤◌, ◌<◌, ◌≡◌, refl, List, [], ◌∷◌, Bool, true, false, eqb, length, get_or, take, drop, Option as Maybe, Some, None, Result, Ok, Err}
+use Rattle.std.specs.Prelude.{ℕ, zero, suc, ◌+◌, ◌-◌, ◌≤◌, ◌<◌, ◌≡◌, refl, List, [], ◌∷◌, Bool, true, false, eqb, ltb, length, get_or, take, drop, Option as Maybe, Some, None, Result, Ok, Err}
 use Rattle.std.proofs.Common.{sym, ◌∙◌, subst, arith, not-suc-le-zero, take_all, eq-eqb, ne_eqb, eqb-true}
 use Rattle.std.proofs.Math.Path.{ap}
 use Rattle.std.proofs.Math.Option.{Option, none, some}
 use Rattle.std.proofs.Math.ListN.{get_elem?}
+use borrow.Author.Tests.{ltb-true, ltb-false}
 use Rattle.std.proofs.lemmas.Bool.{eqb-false}
 use Rattle.listings.specs.Bytes.{bytes, same, pick}
 use Rattle.listings.specs.Listing.{Simple, jump, runto, on, for, next, CondWord, if, ifelse, rcomp}
-use Rattle.listings.specs.Rows.{split, are_words, strip_close, Row as FormRow, close, bad, form, form_row, row_of, Form, module_form, line_form, to_form, stmts_form, run_form, for_form, next_form, cond_form, bare_form, number_form, numbers_form, opening_words, lookup, Parse, malformed, invalid, parsed, map_parse, with_parse, parse_numbers, parse_name, parse_slots, parse_tier, parse_mark, Counted, Content, no_form, end_row, stmts_row, module_row, line_row, to_row, simple_row, cond_row, bare_stmt, single, run_stmt, for_stmt, next_stmt, if_no_words, handler_facts, module_by, module_content, form_content, word_content, content_of}
+use Rattle.listings.specs.Rows.{split, on_first, are_words, strip_close, Row as FormRow, close, bad, form, form_row, row_of, Form, module_form, line_form, to_form, stmts_form, run_form, for_form, next_form, cond_form, bare_form, number_form, numbers_form, opening_words, lookup, Parse, malformed, invalid, parsed, map_parse, with_parse, parse_numbers, parse_name, parse_slots, parse_tier, parse_mark, Counted, Content, no_form, end_row, stmts_row, module_row, line_row, to_row, simple_row, cond_row, bare_stmt, single, run_stmt, for_stmt, next_stmt, if_no_words, handler_facts, module_by, module_content, form_content, word_content, content_of}
+use Rattle.listing_laws.specs.WordText.{same_equal}
 use Rattle.listings.specs.ListingText.{jump_word, on_word, simple_word}
 use Rattle.listings.specs.WordTable.{words, forms, first, word_index, content_at}
-use Rattle.listings.specs.Scan.{index_of, split_last, split-some, after, split_alone, split-first}
-use Rattle.tokens.specs.Numbers.{as_number}
+use Rattle.listings.specs.Scan.{index_of, index_le, split_last, split_more, split-some}
+use Rattle.tokens.specs.Numbers.{as_number, flag_of}
 use Rattle.tokens.specs.Arguments.{Verdict, verdict, lowest, check_for, check_next, check_kind, refusal_with, numbers_refusal, slots_refusal}
 use Rattle.tokens.specs.declared.arguments.Checked.{Checked}
 use Rattle.tokens.specs.Kinds.{form_kind, kind_found, opened_kind}
@@ -107,23 +109,25 @@ as_row (cond_row k) = Ok (row.Cond (as_cond k))
 
 -- ---- by the code's number, and by the check of the words
 
-abbrev pub to_by_number : Result ℕ Reason → Said
-to_by_number (Err r) = misfit r at.InCond
-to_by_number (Ok n) = Ok (row.To n)
+-- a number that is due there
+abbrev pub number_due : Place → Result ℕ Reason → Result ℕ Misfit
+number_due p (Err r) = Err (record { reason = r; due = p })
+number_due p (Ok n) = Ok n
 
-abbrev pub line_by_number : Result ℕ Reason → Said
-line_by_number (Err r) = misfit r at.InModule
-line_by_number (Ok n) = Ok (row.Line n)
+-- a row by its number
+abbrev pub row_by_number : (ℕ → Row) → Result ℕ Misfit → Said
+row_by_number f (Err m) = Err m
+row_by_number f (Ok n) = Ok (f n)
 
-pub to_by_number_lem : (g : Parse ℕ) → to_by_number (as_number g) ≡ as_to g
-to_by_number_lem malformed = refl
-to_by_number_lem invalid = refl
-to_by_number_lem (parsed n) = refl
+pub to_by_number : (g : Parse ℕ) → row_by_number row.To (number_due at.InCond (as_number g)) ≡ as_to g
+to_by_number malformed = refl
+to_by_number invalid = refl
+to_by_number (parsed n) = refl
 
-pub line_by_number_lem : (g : Parse ℕ) → line_by_number (as_number g) ≡ as_line g
-line_by_number_lem malformed = refl
-line_by_number_lem invalid = refl
-line_by_number_lem (parsed n) = refl
+pub line_by_number : (g : Parse ℕ) → row_by_number row.Line (number_due at.InModule (as_number g)) ≡ as_line g
+line_by_number malformed = refl
+line_by_number invalid = refl
+line_by_number (parsed n) = refl
 
 abbrev pub simple_of : ℕ → ℕ → Verdict → Said
 simple_of k n (Ok u) = Ok (row.Simple k n)
@@ -407,25 +411,41 @@ unfolding module_content
 module_two w [] h = absurd (not-suc-le-zero h)
 module_two w (v ∷ ws) h = refl
 
-module _ (s : List ℕ) (e : ℕ) (found : e ≡ index_of 32 s) where
-  pub module_many : e < length s → module_content (split 32 s) ≡ no_form
-  module_many h = ap module_content (split-first 32 s e found h) ∙ module_two (take (e - 0) (drop 0 s)) (split 32 (after s e)) (split-some 32 (after s e))
+module_one : (s : List ℕ) → same (48 ∷ []) s ≡ false → same (49 ∷ []) s ≡ false → module_content (s ∷ []) ≡ no_form
+unfolding module_content lookup handler_facts bytes module_by
+module_one s q r = rw (q, r)
 
-  module _ (ends : e ≡ length s) where
-    module_one : module_content (split 32 s) ≡ module_content (s ∷ [])
-    module_one = ap module_content (split_last 32 s (sym found ∙ ends))
+-- what is no flag is no form, of one word or of more
+module_bad : (s : List ℕ) → same (48 ∷ []) s ≡ false → same (49 ∷ []) s ≡ false → module_content (split 32 s) ≡ no_form
+module_bad s q r = go (ltb (index_of 32 s) (length s)) refl
+  where
+    i : ℕ
+    i = index_of 32 s
 
-    pub module_false : same (48 ∷ []) s ≡ true → module_content (split 32 s) ≡ module_row false
-    unfolding module_content lookup handler_facts bytes module_by
-    module_false q = module_one ∙ rw q
+    go : (t : Bool) → ltb i (length s) ≡ t → module_content (split 32 s) ≡ no_form
+    go true e = ap module_content (split_more 32 s (ltb-true i (length s) e)) ∙ module_two (take i s) (split 32 (drop (suc i) s)) (split-some 32 (drop (suc i) s))
+    go false e = ap module_content (split_last 32 s (omega (arith, ltb-false i (length s) e, index_le 32 s))) ∙ module_one s q r
 
-    pub module_true : same (48 ∷ []) s ≡ false → same (49 ∷ []) s ≡ true → module_content (split 32 s) ≡ module_row true
-    unfolding module_content lookup handler_facts bytes module_by
-    module_true q r = module_one ∙ rw (q, r)
+abbrev pub flag_row : Maybe Bool → Said
+flag_row None = no_row
+flag_row (Some h) = Ok (row.Module h)
 
-    pub module_bad : same (48 ∷ []) s ≡ false → same (49 ∷ []) s ≡ false → module_content (split 32 s) ≡ no_form
-    unfolding module_content lookup handler_facts bytes module_by
-    module_bad q r = module_one ∙ rw (q, r)
+zero_row : Ok (row.Module false) ≡ as_row (module_content (split 32 (48 ∷ [])))
+unfolding split on_first module_content lookup handler_facts bytes module_by same
+zero_row = refl
+
+one_row : Ok (row.Module true) ≡ as_row (module_content (split 32 (49 ∷ [])))
+unfolding split on_first module_content lookup handler_facts bytes module_by same
+one_row = refl
+
+pub module_flag : (s : List ℕ) → flag_row (flag_of s) ≡ as_row (module_content (split 32 s))
+unfolding flag_of bytes
+module_flag s = go (same (48 ∷ []) s) (same (49 ∷ []) s) refl refl
+  where
+    go : (a b : Bool) → same (48 ∷ []) s ≡ a → same (49 ∷ []) s ≡ b → flag_row (pick a (Some false) (pick b (Some true) None)) ≡ as_row (module_content (split 32 s))
+    go true b p q = zero_row ∙ ap (λ (l : List ℕ). as_row (module_content (split 32 l))) (same_equal (48 ∷ []) s p)
+    go false true p q = one_row ∙ ap (λ (l : List ℕ). as_row (module_content (split 32 l))) (same_equal (49 ∷ []) s q)
+    go false false p q = ap as_row (sym (module_bad s p q))
 
 -- ---- what stands between the brackets
 
@@ -446,32 +466,24 @@ form_some c w [] q h = absurd (not-suc-le-zero q)
 form_some c w (v ∷ ws) q h =
     ap (λ (r : FormRow). as_row (content_of r)) (form_true c w (v ∷ ws) h) ∙ ap as_row (content_at c w (v ∷ ws)) ∙ args_at (word_index w) c v ws
 
-module _ (c : Bool) (s : List ℕ) (e : ℕ) (found : e ≡ index_of 32 s) (ok : are_words (split 32 s) ≡ true) where
-  pub form_one : e ≡ length s → as_row (content_of (form_row c (split 32 s))) ≡ bare_row (opened_kind (word_index (take (e - 0) (drop 0 s)))) (word_index (take (e - 0) (drop 0 s))) c
-  form_one h =
-      let p = split_alone 32 s e found h in
-      let w = take (e - 0) (drop 0 s) in
-      ap (λ (z : List (List ℕ)). as_row (content_of (form_row c z))) p ∙ ap (λ (r : FormRow). as_row (content_of r)) (form_true c w [] (ap are_words (sym p) ∙ ok))
-      ∙ ap as_row (content_at c w []) ∙ bare_at (word_index w) c
+-- w: the opening word
+module _ (c : Bool) (s : List ℕ) (ok : are_words (split 32 s) ≡ true) where
+  pub form_one : split 32 s ≡ s ∷ [] → as_row (content_of (form_row c (split 32 s))) ≡ bare_row (opened_kind (word_index s)) (word_index s) c
+  form_one p =
+      ap (λ (z : List (List ℕ)). as_row (content_of (form_row c z))) p ∙ ap (λ (r : FormRow). as_row (content_of r)) (form_true c s [] (ap are_words (sym p) ∙ ok))
+      ∙ ap as_row (content_at c s []) ∙ bare_at (word_index s) c
 
-  pub form_more : e < length s
-      → as_row (content_of (form_row c (split 32 s))) ≡ args_row (opened_kind (word_index (take (e - 0) (drop 0 s)))) (word_index (take (e - 0) (drop 0 s))) c (split 32 (after s e))
-  form_more h =
-      let p = split-first 32 s e found h in
-      let w = take (e - 0) (drop 0 s) in
-      ap (λ (z : List (List ℕ)). as_row (content_of (form_row c z))) p ∙ form_some c w (split 32 (after s e)) (split-some 32 (after s e)) (ap are_words (sym p) ∙ ok)
+  pub form_more : (w v : List ℕ) → split 32 s ≡ w ∷ split 32 v → as_row (content_of (form_row c (split 32 s))) ≡ args_row (opened_kind (word_index w)) (word_index w) c (split 32 v)
+  form_more w v p = ap (λ (z : List (List ℕ)). as_row (content_of (form_row c z))) p ∙ form_some c w (split 32 v) (split-some 32 v) (ap are_words (sym p) ∙ ok)
 
   -- a row with no opening word is no form
-  pub no_opening : e ≤ length s → opened_kind (word_index (take (e - 0) (drop 0 s))) ≡ None → as_row (content_of (form_row c (split 32 s))) ≡ no_row
-  unfolding args_row bare_row
-  no_opening le q = go (eqb e (length s)) refl
-    where
-      k : ℕ
-      k = word_index (take (e - 0) (drop 0 s))
+  pub one_unopened : split 32 s ≡ s ∷ [] → opened_kind (word_index s) ≡ None → as_row (content_of (form_row c (split 32 s))) ≡ no_row
+  unfolding bare_row
+  one_unopened p q = form_one p ∙ ap (λ (g : Maybe Kind). bare_row g (word_index s) c) q
 
-      go : (t : Bool) → eqb e (length s) ≡ t → as_row (content_of (form_row c (split 32 s))) ≡ no_row
-      go true h = form_one (eqb-true e (length s) h) ∙ ap (λ (g : Maybe Kind). bare_row g k c) q
-      go false h = form_more (omega (arith, eqb-false e (length s) h)) ∙ ap (λ (g : Maybe Kind). args_row g k c (split 32 (after s e))) q
+  pub more_unopened : (w v : List ℕ) → split 32 s ≡ w ∷ split 32 v → opened_kind (word_index w) ≡ None → as_row (content_of (form_row c (split 32 s))) ≡ no_row
+  unfolding args_row
+  more_unopened w v p q = form_more w v p ∙ ap (λ (g : Maybe Kind). args_row g (word_index w) c (split 32 v)) q
 
 -- ---- a whole row
 

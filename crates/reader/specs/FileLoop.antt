@@ -19,28 +19,31 @@ use Rattle.basic.specs.Cursors.{tokens_at}
 use Rattle.basic.specs.Actions.{fuel, args_in}
 use Rattle.basic.specs.Rows.{contents_from, RowIs, StartsRows}
 use Rattle.basic.specs.RowsAre.{rows_are_lem}
-use Rattle.basic.specs.declared.cursors.Cursor.{Cursor}
 use Rattle.basic.specs.declared.judge.Counts.{Counts}
 use Rattle.layout.specs.Refusals.{number_of}
 use Rattle.layout.specs.declared.refusals.Refusal.{Refusal}
 use Rattle.basic.specs.declared.sources.Source.{Source}
+use Rattle.basic.specs.declared.sources.Simple.{Simple}
 use Rattle.basic.specs.declared.sources.FileRow.{FileRow}
 use Rattle.basic.specs.declared.sources.FileRow.TheVariants as file
 use Rattle.reader.specs.CodedRows.{Said}
-use Rattle.reader.specs.Machine.{as_state}
+use Rattle.reader.specs.Machine.{State, as_state}
 use Rattle.reader.specs.Fill.{add_entries, Operands, no_operands, Says, outside_walk}
 use Rattle.reader.specs.FillSteps.{Fills}
 use Rattle.reader.specs.Filling.{Zeroed, filled_start}
+use Rattle.reader.specs.declared.fill.Walk.{Walk}
 use Rattle.reader.specs.declared.listing.Accepted.{Accepted}
-use Rattle.reader.specs.declared.machine.State.{State}
 use Rattle.reader.specs.declared.rows.Cond.TheVariants as cond
 use Rattle.reader.specs.declared.rows.Row.{Row}
 use Rattle.reader.specs.declared.rows.Row.TheVariants as row
 
 -- ---- what judging answers, as the reader tells it
 
+abbrev pub accepted_counts : Counts → Accepted
+accepted_counts c = record { handlers = false; lines = c.lines; stmts = c.stmts }
+
 abbrev pub listed_program_of : Result Counts Refusal → Result Accepted Refusal
-listed_program_of (Ok c) = Ok (record { handlers = false; lines = c.lines; stmts = c.stmts })
+listed_program_of (Ok c) = Ok (accepted_counts c)
 listed_program_of (Err r) = Err r
 
 -- an accepted input is within the limits
@@ -77,20 +80,20 @@ program-listed f j e = go j (read_program f) refl e
 abbrev pub row_by : FileRow → Row
 row_by file.Module = row.Module false
 row_by (file.Line n) = row.Line n
-row_by (file.Simple w n b c) = row.Simple w 0
+row_by (file.Simple s) = row.Simple s.word 0
 row_by file.If = row.Cond cond.If
 row_by (file.To n) = row.To n
 row_by file.Stmts = row.Stmts
 row_by file.End = row.End
 
--- the arguments of the statement whose first byte is b, which stands before c
-abbrev pub operands_at : List ℕ → ℕ → Cursor → Operands
-operands_at f b c = record { entries = args_in (action (fuel f c) b (tokens_at f c)); detail = 0 }
+-- the arguments of a statement
+abbrev pub operands_at : List ℕ → Simple → Operands
+operands_at f s = record { entries = args_in (action (fuel f s.at) s.byte (tokens_at f s.at)); detail = 0 }
 
 abbrev pub operands_by : List ℕ → FileRow → Operands
 operands_by f file.Module = no_operands
 operands_by f (file.Line n) = no_operands
-operands_by f (file.Simple w n b c) = operands_at f b c
+operands_by f (file.Simple s) = operands_at f s
 operands_by f file.If = no_operands
 operands_by f (file.To n) = no_operands
 operands_by f file.Stmts = no_operands
@@ -100,7 +103,7 @@ operands_by f file.End = no_operands
 abbrev pub RowCounted : List ℕ → FileRow → Type 0
 RowCounted f file.Module = Unit {0}
 RowCounted f (file.Line n) = Unit {0}
-RowCounted f (file.Simple w n b c) = n ≡ length (operands_at f b c).entries
+RowCounted f (file.Simple s) = s.count ≡ length (operands_at f s).entries
 RowCounted f file.If = Unit {0}
 RowCounted f (file.To n) = Unit {0}
 RowCounted f file.Stmts = Unit {0}
@@ -109,7 +112,7 @@ RowCounted f file.End = Unit {0}
 pub file_counted : (f : List ℕ) (d : Content) (r : FileRow) → RowIs f d r → RowCounted f r
 file_counted f d file.Module h = tt
 file_counted f d (file.Line n) h = tt
-file_counted f d (file.Simple w n b c) h = h.count ∙ ap length (sym h.args)
+file_counted f d (file.Simple s) h = h.count ∙ ap length (sym h.args)
 file_counted f d file.If h = tt
 file_counted f d (file.To n) h = tt
 file_counted f d file.Stmts h = tt
@@ -121,7 +124,7 @@ says_as {r = r} {x = x} p h = subst (λ (c : Content). Says c r x) (sym p) h
 pub file_says : (f : List ℕ) (d : Content) (r : FileRow) → RowIs f d r → Says d (Ok (row_by r)) (operands_by f r)
 file_says f d file.Module h = says_as h (record { row = refl; operands = refl })
 file_says f d (file.Line n) h = says_as h (record { row = refl; operands = refl })
-file_says f d (file.Simple w n b c) h = says_as h.content (record { row = ap {B = Said} (λ (k : ℕ). Ok (row.Simple k 0)) h.word; operands = operands_are h.args (sym h.detail) })
+file_says f d (file.Simple s) h = says_as h.content (record { row = ap {B = Said} (λ (k : ℕ). Ok (row.Simple k 0)) h.word; operands = operands_are h.args (sym h.detail) })
   where
     operands_are : {es fs : List ℕ} {k : ℕ} → es ≡ fs → 0 ≡ k → ◌≡◌ {A = Operands} (record { entries = es; detail = 0 }) (record { entries = fs; detail = k })
     operands_are p q = cc
@@ -149,9 +152,9 @@ args_put a es part n room few e =
 rows_lead : (f : List ℕ) (L : Listing) (s : Source) → read_program f ≡ listing L → StartsRows f s → Leads start (contents_from f s) L
 rows_lead f L s e h = subst (λ (ds : List Content). Leads start ds L) (sym (h ∙ rows_are_lem f L e)) (listing_steps L (program_within f L e))
 
-pub file_start : (f n t a : List ℕ) (z : Zeroed (read_program f) n t a) (d : Source) → StartsRows f d → (s : State) → s ≡ as_state start
-    → Fills z.accepts.tree (length n) (length t) (length a) (contents_from f d) s outside_walk n t a
-file_start f n t a z d h s e = filled_start z (contents_from f d) (rows_lead f z.accepts.tree d z.accepts.reads h) s e
+pub file_start : (f n t a : List ℕ) (z : Zeroed (read_program f) n t a) (d : Source) → StartsRows f d → (s : State) (w : Walk) → s ≡ as_state start → w ≡ outside_walk
+    → Fills z.accepts.tree (length n) (length t) (length a) (contents_from f d) s w n t a
+file_start f n t a z d h s w e k = filled_start z (contents_from f d) (rows_lead f z.accepts.tree d z.accepts.reads h) s w e k
 
 -- by the code's row
 pub file_says_by : (f : List ℕ) (d : Content) (r : FileRow) (e : Row) → e ≡ row_by r → RowIs f d r → Says d (Ok e) (operands_by f r)

@@ -1,13 +1,15 @@
 -- What a row gives, what it does to the tables and to the walk, and what the code needs for that. Assumes nothing.
-use Rattle.std.specs.Prelude.{◌≡◌, Bool, true, false, List, [], ◌++◌, ℕ, ◌+◌, ◌*◌, ◌-◌, ◌%◌, ◌≤◌, ◌<◌, eqb, length, take, drop, set, get_or, Ok, Err}
-use Rattle.std.proofs.Common.{sym, ap, ◌∙◌, subst}
+use Rattle.std.specs.Prelude.{◌≡◌, Bool, true, false, List, [], ◌++◌, ℕ, ◌+◌, ◌*◌, ◌-◌, ◌%◌, ◌≤◌, ◌<◌, eqb, length, take, drop, set, get_or, Option as Maybe, Some, None, zero, suc, refl, Ok, Err}
+use Rattle.std.proofs.Common.{sym, ap, ◌∙◌, subst, arith}
 use Rattle.listings.specs.Bytes.{pick}
 use Rattle.listings.specs.Rows.{malformed, invalid, parsed, Content, no_form, end_row, stmts_row, module_row, line_row, to_row, simple_row, cond_row}
 use Rattle.listings.specs.Records.{args_of, detail_of}
 use Rattle.reader.specs.Tables.{append_row}
 use Rattle.reader.specs.CodedRows.{place_number, as_row, cond_index, Said}
 use Rattle.reader.specs.AcceptedRows.{uncounted}
-use Rattle.reader.specs.declared.machine.State.{State}
+use Rattle.reader.specs.Machine.{State}
+use Rattle.reader.specs.declared.fill.Branch.{Branch}
+use Rattle.reader.specs.declared.fill.Branch.TheVariants as branch
 use Rattle.reader.specs.declared.rows.Cond.{Cond}
 use Rattle.reader.specs.declared.rows.Row.TheVariants as row
 use Rattle.reader.specs.declared.fill.Walk.{Walk}
@@ -51,25 +53,56 @@ as_given x = record { count = length x.entries; detail = x.detail }
 
 -- ---- what the code does to the tables
 
+-- a holder as its records have it: one more than its node, or 0 where there is none
+abbrev pub held : Maybe ℕ → ℕ
+held None = 0
+held (Some i) = i + 1
+
+abbrev pub holder_by : ℕ → Maybe ℕ
+holder_by zero = None
+holder_by (suc i) = Some i
+
+pub held_back : (n : ℕ) → held (holder_by n) ≡ n
+held_back zero = refl
+held_back (suc i) = omega arith
+
 abbrev pub entry_of : State → Walk → (word end : ℕ) → Given → Entry
-entry_of s w k e g = record { word = k; line = s.lines - 1; holder = w.holder; index = w.index; end = e; count = g.count; detail = g.detail }
+entry_of s w k e g = record { word = k; line = s.lines - 1; holder = held w.holder; index = w.index; end = e; count = g.count; detail = g.detail }
+
+-- the form and the number of a branch, as its record has them
+abbrev pub branch_columns : Branch → ℕ × ℕ
+branch_columns branch.Stmts = (1, 0)
+branch_columns (branch.To n) = (2, n)
 
 abbrev pub branch_stmts : List ℕ → ℕ → Bool → (form number n : ℕ) → List ℕ
 branch_stmts t i true form number n = set (set t (i * 12 + 8) form) (i * 12 + 9) number
 branch_stmts t i false form number n = set (set (set t (i * 12 + 5) n) (i * 12 + 6) form) (i * 12 + 7) number
 
+-- `)`, by the IF in which the next statement stands: its branch ends or, where its branches are due, itself
+abbrev pub ended : List ℕ → State → Maybe ℕ → List ℕ
+ended t s None = t
+ended t s (Some i) = pick (eqb (place_number s.position) 4) (set t (i * 12 + 4) s.stmts) (branch_stmts t i (eqb (s.open_conds % 2) 1) 1 0 s.stmts)
+
 abbrev pub end_table : List ℕ → State → Walk → List ℕ
-end_table t s w =
-    pick (eqb (place_number s.position) 3) (pick (eqb s.depth 0) t (branch_stmts t (w.holder - 1) (eqb (s.open_conds % 2) 1) 1 0 s.stmts))
-    (pick (eqb (place_number s.position) 4) (set t ((w.holder - 1) * 12 + 4) s.stmts) t)
+end_table t s w = ended t s w.holder
 
 abbrev pub outside_walk : Walk
-outside_walk = record { holder = 0; index = 0 }
+outside_walk = record { holder = None; index = 0 }
+
+abbrev pub ended_walk : List ℕ → State → Walk → Maybe ℕ → Walk
+ended_walk t s w None = outside_walk
+ended_walk t s w (Some i) = pick (eqb (place_number s.position) 4) (record { holder = holder_by (get_or t (i * 12 + 2) 0); index = get_or t (i * 12 + 3) 0 + 1 }) w
 
 abbrev pub end_walk : List ℕ → State → Walk → Walk
-end_walk t s w =
-    pick (eqb (place_number s.position) 3) (pick (eqb s.depth 0) outside_walk w)
-    (pick (eqb (place_number s.position) 4) (record { holder = get_or t ((w.holder - 1) * 12 + 2) 0; index = get_or t ((w.holder - 1) * 12 + 3) 0 + 1 }) outside_walk)
+end_walk t s w = ended_walk t s w w.holder
+
+-- `(to N)`: a branch of the IF whose branches are due
+abbrev pub branch_to : List ℕ → State → Maybe ℕ → ℕ → List ℕ
+branch_to t s None n = t
+branch_to t s (Some i) n = branch_stmts t i (eqb s.branches 1) 2 n s.stmts
+
+abbrev pub to_table : List ℕ → State → Walk → ℕ → List ℕ
+to_table t s w n = branch_to t s w.holder n
 
 abbrev pub add_simple : List ℕ → State → Walk → ℕ → Given → List ℕ
 add_simple t s w k g = append_row t s.stmts (entry_of s w k (s.stmts + 1) g)
@@ -84,7 +117,7 @@ abbrev pub added_walk : Walk → Walk
 added_walk w = record { holder = w.holder; index = w.index + 1 }
 
 abbrev pub inside_walk : State → Walk
-inside_walk s = record { holder = s.stmts + 1; index = 0 }
+inside_walk s = record { holder = Some s.stmts; index = 0 }
 
 abbrev pub stmt_table : List ℕ → State → Walk → Said → Given → List ℕ
 stmt_table t s w (Err m) g = t
@@ -92,7 +125,7 @@ stmt_table t s w (Ok row.End) g = end_table t s w
 stmt_table t s w (Ok row.Stmts) g = t
 stmt_table t s w (Ok (row.Module h)) g = t
 stmt_table t s w (Ok (row.Line n)) g = t
-stmt_table t s w (Ok (row.To n)) g = branch_stmts t (w.holder - 1) (eqb s.branches 1) 2 n s.stmts
+stmt_table t s w (Ok (row.To n)) g = to_table t s w n
 stmt_table t s w (Ok (row.Simple k n)) g = add_simple t s w k g
 stmt_table t s w (Ok (row.Cond k)) g = add_cond t s w k
 
@@ -145,24 +178,22 @@ pub record Recorded (n t a : List ℕ) (s : State) (w : Walk) (d : Said) (x : Op
 -- ---- what the code needs
 
 pub record EndReady (t : List ℕ) (s : State) (w : Walk) : Type 0 where
-  pub fits : w.holder * 12 ≤ length t
-  pub small : w.holder ≤ 4096
+  pub fits : held w.holder * 12 ≤ length t
+  pub small : held w.holder ≤ 4096
   pub most : s.stmts ≤ 4096
-  pub held : place_number s.position ≡ 4 → 0 < w.holder
-  pub inner : place_number s.position ≡ 3 → 0 < s.depth → 0 < w.holder
-  pub index : place_number s.position ≡ 4 → get_or t ((w.holder - 1) * 12 + 3) 0 ≤ 4096
+  pub index : (i : ℕ) → w.holder ≡ Some i → place_number s.position ≡ 4 → get_or t (i * 12 + 3) 0 ≤ 4096
 
 pub record ToReady (t : List ℕ) (s : State) (w : Walk) : Type 0 where
-  pub fits : w.holder * 12 ≤ length t
-  pub small : w.holder ≤ 4096
+  pub fits : held w.holder * 12 ≤ length t
+  pub small : held w.holder ≤ 4096
   pub most : s.stmts ≤ 4096
-  pub held : 0 < w.holder
 
 pub record AddReady (t : List ℕ) (s : State) (w : Walk) (k : ℕ) : Type 0 where
   pub fits : s.stmts * 12 + 12 ≤ length t
   pub small : s.stmts < 4096
   pub line : 0 < s.lines
   pub lines : s.lines ≤ 1024
+  pub holder : held w.holder ≤ 4096
   pub index : w.index ≤ 4096
   pub word : k ≤ 28
 
@@ -194,8 +225,8 @@ pub record RecordReady (n t a : List ℕ) (s : State) (w : Walk) (d : Said) (x :
   pub args : ArgsReady a s.stmts d x
   pub rest : Ready n t s w d (as_given x)
 
-pub walk_is : {w : Walk} {a b : ℕ} → w.holder ≡ a → w.index ≡ b → w ≡ record { holder = a; index = b }
-walk_is {w} {a} {b} p q = ap {B = Walk} (λ (x : ℕ). record { holder = x; index = w.index }) p ∙ ap {B = Walk} (λ (x : ℕ). record { holder = a; index = x }) q
+pub walk_is : {w : Walk} {a : Maybe ℕ} {b : ℕ} → w.holder ≡ a → w.index ≡ b → w ≡ record { holder = a; index = b }
+walk_is {w} {a} {b} p q = ap {B = Walk} (λ (x : Maybe ℕ). record { holder = x; index = w.index }) p ∙ ap {B = Walk} (λ (x : ℕ). record { holder = a; index = x }) q
 
 pub given_is : {g : Given} {a b : ℕ} → g.count ≡ a → g.detail ≡ b → g ≡ record { count = a; detail = b }
 given_is {g} {a} {b} p q = ap {B = Given} (λ (x : ℕ). record { count = x; detail = g.detail }) p ∙ ap {B = Given} (λ (x : ℕ). record { count = a; detail = x }) q

@@ -1,5 +1,5 @@
 -- A row that is taken: the tables hold the records of the reading after it, and the walk stands where it stands. Assumes nothing.
-use Rattle.std.specs.Prelude.{◌≡◌, Bool, leb, ltb, set}
+use Rattle.std.specs.Prelude.{◌≡◌, Bool, leb, ltb, set, Some}
 use Rattle.std.proofs.Math.Path.{refl, sym, ap, subst}
 use Rattle.std.proofs.Common.{◌∙◌}
 use Rattle.std.proofs.Math.Bool.{true, false}
@@ -20,14 +20,13 @@ use Rattle.listing_laws.specs.Contents.{IsParsed, ContentOk}
 use Rattle.listings.specs.WordTable.{words, first, word_index}
 use Rattle.listing_laws.specs.Shown.{first_size, branches_size, position_size, open_lines, Good}
 use Rattle.reader.specs.CodedRows.{word_number, cond_number}
-use Rattle.reader.specs.Machine.{first_code, cond_code, packed, branch_count, position_code, open_conds, branch_code, state_at, as_state}
+use Rattle.reader.specs.Machine.{State, first_code, cond_code, packed, branch_count, position_code, open_conds, branch_code, state_at, as_state}
 use Rattle.listings.specs.Records.{Rec, rec_row, branch_number, branch_line, simple_rec, cond_rec, stmt_recs, line_numbers, args_of, detail_of}
 use Rattle.listing_laws.specs.ReadingRecords.{first_node, holder_of, first_len, first_index, branches_of, partial_rec, open_rec, branch_recs, list_recs, open_recs, position_recs, recs_of, open_numbers, numbers_of, amend, with_end, with_branch, first_node_lem, recs_length, numbers-length, before, before-length, cond_split, simple_law, cond_law, stmts_law, branch_law, end_law₁, end_law₂, line_law}
-use Rattle.reader.specs.Fill.{written_row, operands_of, as_given, entry_of, branch_stmts, outside_walk, add_entries, stmt_table, arg_table, line_table, walk_by, walk_is}
+use Rattle.reader.specs.Fill.{held, holder_by, held_back, written_row, operands_of, as_given, entry_of, branch_stmts, outside_walk, add_entries, stmt_table, arg_table, line_table, walk_by, walk_is}
 use Rattle.reader.specs.Tables.{append_row}
 use Rattle.reader.specs.ReadBack.{args_short}
 use Rattle.reader.specs.Holds.{Holds, holds_as, holds_line, holds_record, holds-bare, holds_end, is_some, holds-branch, holds_get}
-use Rattle.reader.specs.declared.machine.State.{State}
 use Rattle.reader.specs.declared.fill.Walk.{Walk}
 
 -- ---- the numbers of the opening words
@@ -54,8 +53,8 @@ unfoldable pub walk_at : Reading → Position → Walk
 walk_at r begin = outside_walk
 walk_at r in_module = outside_walk
 walk_at r ended = outside_walk
-walk_at r (in_stmts s fs) = record { holder = holder_of (total r.lines) fs; index = first_index fs + len s }
-walk_at r (in_cond s k bs fs) = record { holder = suc (first_node (total r.lines) fs + size s); index = branches_len bs }
+walk_at r (in_stmts s fs) = record { holder = holder_by (holder_of (total r.lines) fs); index = first_index fs + len s }
+walk_at r (in_cond s k bs fs) = record { holder = Some (first_node (total r.lines) fs + size s); index = branches_len bs }
 
 -- the tables can hold what was read
 pub record Fits (nl ns na : ℕ) (q : Reading) : Type 0 where
@@ -115,8 +114,8 @@ next_is rcomp (two_branches a b) = tt
 
 -- an entry is the row of a record
 entry_row : (k li h i e c d : ℕ) {k' li' e' c' d' : ℕ} → k ≡ k' → li ≡ li' → e ≡ e' → c ≡ c' → d ≡ d'
-    → ◌≡◌ {A = List ℕ} (k ∷ li ∷ h ∷ i ∷ e ∷ 0 ∷ 0 ∷ 0 ∷ 0 ∷ 0 ∷ c ∷ d ∷ []) (k' ∷ li' ∷ h ∷ i ∷ e' ∷ 0 ∷ 0 ∷ 0 ∷ 0 ∷ 0 ∷ c' ∷ d' ∷ [])
-entry_row k li h i e c d p q r s t = cc
+    → ◌≡◌ {A = List ℕ} (k ∷ li ∷ h ∷ i ∷ e ∷ 0 ∷ 0 ∷ 0 ∷ 0 ∷ 0 ∷ c ∷ d ∷ []) (k' ∷ li' ∷ held (holder_by h) ∷ i ∷ e' ∷ 0 ∷ 0 ∷ 0 ∷ 0 ∷ 0 ∷ c' ∷ d' ∷ [])
+entry_row k li h i e c d p q r s t = let u = held_back h in cc
 
 module _ (r : Reading) (nl ns na : ℕ) (n t a : List ℕ) where
   -- the tables hold what was read
@@ -166,7 +165,7 @@ module _ (r : Reading) (nl ns na : ℕ) (n t a : List ℕ) where
       let e = entry_of (state_at r (in_stmts s fs)) (walk_at r (in_stmts s fs)) (word_number o) (r.stmt_count + 1) (record { count = length (args_of o); detail = detail_of o }) in (
         holds_as nl ns na n (append_row t r.stmt_count e) (add_entries a r.stmt_count (args_of o)) refl (sym (simple_law r.lines li s fs o))
             (holds_record nl ns na n t a _ (recs_of r (in_stmts s fs)) x r.stmt_count e (args_of o) q.2 y refl (args_few d c (leb-true d.1 64 b)) f.args h),
-        ap {B = Walk} (λ (z : ℕ). record { holder = holder_of T fs; index = z }) i,
+        ap {B = Walk} (λ (z : ℕ). record { holder = holder_by (holder_of T fs); index = z }) i,
       ))))
 
   cond_done : (s : Stmts) (fs : List OpenCond) (k : CondWord) → Good r (in_stmts s fs) → Tab (in_stmts s fs)
@@ -179,11 +178,10 @@ module _ (r : Reading) (nl ns na : ℕ) (n t a : List ℕ) where
       let li = count r.lines in
       let x = cond_rec k li (holder_of T fs) (first_index fs + len s) 0 0 absent absent in
       let y = entry_row (word_index (cond_word k)) li (holder_of T fs) (first_index fs + len s) 0 0 0 (cond_number_lem k) (sym q.1) refl refl refl in
-      let i : r.stmt_count + 1 ≡ suc (first_node T fs + size s) = omega (arith, q.0) in
       let e = entry_of (state_at r (in_stmts s fs)) (walk_at r (in_stmts s fs)) (cond_number k + 2) 0 (record { count = 0; detail = 0 }) in (
         holds_as nl ns na n (append_row t r.stmt_count e) a refl (sym (cond_law r.lines li s fs k))
             (holds-bare nl ns na n t a _ (recs_of r (in_stmts s fs)) x r.stmt_count e q.2 y refl f.args h),
-        ap {B = Walk} (λ (z : ℕ). record { holder = z; index = 0 }) i,
+        ap {B = Walk} (λ (z : ℕ). record { holder = Some z; index = 0 }) q.0,
       )))
 
   -- `)` after statements
@@ -197,14 +195,11 @@ module _ (r : Reading) (nl ns na : ℕ) (n t a : List ℕ) where
       let li = count r.lines in
       let j = first_node T fs + size o.before in
       let rs = recs_of r (in_stmts s (o ∷ fs)) in
-      let i : suc j - 1 ≡ j = omega arith in
-      let z : eqb (suc (length fs)) 0 ≡ false = ne_eqb (suc (length fs)) 0 (λ e. omega arith) in
       let b : j < length rs = omega (arith, q.0, q.2, under o.first T fs o.before o.word) in
-      let e : branch_stmts t (suc j - 1) (eqb (packed (o ∷ fs) % 2) 1) 1 0 r.stmt_count ≡ branch_stmts t j (is_some o.first) 1 0 r.stmt_count =
-      ap (λ (m : ℕ). branch_stmts t m (eqb (packed (o ∷ fs) % 2) 1) 1 0 r.stmt_count) i ∙ ap (λ (m : Bool). branch_stmts t j m 1 0 r.stmt_count) (packed-first o fs) in
-      let w : record { holder = suc j; index = first_len o.first + len s } ≡ walk_at (end_stmts r s (o ∷ fs)) (end_stmts r s (o ∷ fs)).position =
-      ap {B = Walk} (λ (m : ℕ). record { holder = suc j; index = m }) (branch_index o.first BranchForm.stmts s) in
-      rw (z, e) (
+      let e : branch_stmts t j (eqb (packed (o ∷ fs) % 2) 1) 1 0 r.stmt_count ≡ branch_stmts t j (is_some o.first) 1 0 r.stmt_count = ap (λ (m : Bool). branch_stmts t j m 1 0 r.stmt_count) (packed-first o fs) in
+      let w : record { holder = Some j; index = first_len o.first + len s } ≡ walk_at (end_stmts r s (o ∷ fs)) (end_stmts r s (o ∷ fs)).position =
+      ap {B = Walk} (λ (m : ℕ). record { holder = Some j; index = m }) (branch_index o.first BranchForm.stmts s) in
+      rw e (
         holds_as nl ns na n (branch_stmts t j (is_some o.first) 1 0 r.stmt_count) a refl (sym (branch_law r.lines li o.before fs o.word o.first BranchForm.stmts s r.stmt_count q.0))
             (holds-branch nl ns na n a _ o.first rs t j 1 0 r.stmt_count b h),
         w,
@@ -250,13 +245,9 @@ module _ (r : Reading) (nl ns na : ℕ) (n t a : List ℕ) where
       let li = count r.lines in
       let j = first_node T fs + size s in
       let q = cond_node s w bs fs g in
-      let i : suc j - 1 ≡ j = omega arith in
       let y = way_back T li s w bs fs in (
-        holds_as nl ns na n (set t ((suc j - 1) * 12 + 4) r.stmt_count) a refl (sym c)
-            (subst (λ (m : ℕ). Holds (numbers_of r (in_cond s w bs fs)) (amend (recs_of r (in_cond s w bs fs)) j (with_end r.stmt_count)) nl ns na n (set t (m * 12 + 4) r.stmt_count) a) (sym i)
-            (holds_end nl ns na n a (numbers_of r (in_cond s w bs fs)) (recs_of r (in_cond s w bs fs)) t j r.stmt_count q.1 h)),
-        walk_is (ap (λ (m : ℕ). get_or t (m * 12 + 2) 0) i ∙ cond_get s w bs fs g h 2 (omega arith) ∙ y.0)
-            (ap (λ (m : ℕ). get_or t (m * 12 + 3) 0 + 1) i ∙ omega (arith, cond_get s w bs fs g h 3 (omega arith), y.1, lz)),
+        holds_as nl ns na n (set t (j * 12 + 4) r.stmt_count) a refl (sym c) (holds_end nl ns na n a (numbers_of r (in_cond s w bs fs)) (recs_of r (in_cond s w bs fs)) t j r.stmt_count q.1 h),
+        walk_is (ap holder_by (cond_get s w bs fs g h 2 (omega arith) ∙ y.0)) (omega (arith, cond_get s w bs fs g h 3 (omega arith), y.1, lz)),
       )
 
   close_done : (s : Stmts) (w : CondWord) (bs : Branches) (fs : List OpenCond) → Good r (in_cond s w bs fs) → Tab (in_cond s w bs fs)
@@ -280,7 +271,7 @@ module _ (r : Reading) (nl ns na : ℕ) (n t a : List ℕ) where
   into_done s w o fs h f =
       let i : branches_len (branches_of o) ≡ first_len o + 0 = omega (arith, (first-branch o).0) in (
         holds_as nl ns na n t a refl (sym (stmts_law r.lines (count r.lines) s fs w o)) h,
-        ap {B = Walk} (λ (z : ℕ). record { holder = suc (first_node (total r.lines) fs + size s); index = z }) i,
+        ap {B = Walk} (λ (z : ℕ). record { holder = Some (first_node (total r.lines) fs + size s); index = z }) i,
       )
 
   to_done : (s : Stmts) (w : CondWord) (o : Option (BranchForm × Stmts)) (fs : List OpenCond) (m : ℕ) → Good r (in_cond s w (branches_of o) fs) → Tab (in_cond s w (branches_of o) fs)
@@ -292,16 +283,14 @@ module _ (r : Reading) (nl ns na : ℕ) (n t a : List ℕ) where
       let j = first_node T fs + size s in
       let q = cond_node s w (branches_of o) fs g in
       let y = first-branch o in
-      let i : suc j - 1 ≡ j = omega arith in
       let rs = recs_of r (in_cond s w (branches_of o) fs) in
-      let e : branch_stmts t (suc j - 1) (eqb (branch_count (branches_of o)) 1) 2 m r.stmt_count ≡ branch_stmts t j (is_some o) 2 m r.stmt_count =
-      ap (λ (z : ℕ). branch_stmts t z (eqb (branch_count (branches_of o)) 1) 2 m r.stmt_count) i ∙ ap (λ (z : Bool). branch_stmts t j z 2 m r.stmt_count) y.1 in
+      let e : branch_stmts t j (eqb (branch_count (branches_of o)) 1) 2 m r.stmt_count ≡ branch_stmts t j (is_some o) 2 m r.stmt_count = ap (λ (z : Bool). branch_stmts t j z 2 m r.stmt_count) y.1 in
       let x : branches_len (branches_of o) ≡ branches_len (branched o (BranchForm.to m, ∅)) = omega (arith, y.0, branch_index o (BranchForm.to m) ∅) in (
         rw e (holds_as nl ns na n (branch_stmts t j (is_some o) 2 m r.stmt_count) a refl
             (ap (λ (z : List Rec). amend z j (with_branch o 2 m r.stmt_count)) (sym (stmts_law r.lines li s fs w o))
             ∙ sym (branch_law r.lines li s fs w o (BranchForm.to m) ∅ r.stmt_count (omega (arith, q.0, y.2, list_next o T fs s w))))
             (holds-branch nl ns na n a _ o rs t j 2 m r.stmt_count q.1 h)),
-        ap {B = Walk} (λ (z : ℕ). record { holder = suc j; index = z }) x,
+        ap {B = Walk} (λ (z : ℕ). record { holder = Some j; index = z }) x,
       )
 
   begin_done : (d : Content) → Tab begin → Done (state_at r begin) (walk_at r begin) d (at_begin r d)

@@ -15,12 +15,11 @@ use Rattle.listings.specs.Cut.{cut_listing, meant}
 use Rattle.listing_laws.specs.CutLaws.{meant-written, meant_within, cut_content, contents_cut}
 use Rattle.listings.specs.Scan.{index_of, split-some, piece_at, next_last, next_more}
 use Rattle.listings.specs.Records.{line_recs, line_numbers}
-use Rattle.reader.specs.Machine.{as_state}
+use Rattle.reader.specs.Machine.{State, as_state}
 use Rattle.reader.specs.Fill.{outside_walk}
 use Rattle.reader.specs.Holds.{Holds}
 use Rattle.reader.specs.FillSteps.{Fills}
 use Rattle.reader.specs.Filling.{Accepts, Zeroed, filled_start, filled_end}
-use Rattle.reader.specs.declared.machine.State.{State}
 use Rattle.reader.specs.declared.fill.Walk.{Walk}
 
 -- ---- what the rows say
@@ -60,8 +59,9 @@ rows_lead text L e =
 
 -- ---- the loop
 
-pub zeroed_start : (text n t a : List ℕ) (z : Zeroed (meant text) n t a) (s : State) → s ≡ as_state start → Fills z.accepts.tree (length n) (length t) (length a) (rows_in (split 10 (drop 0 text))) s outside_walk n t a
-zeroed_start text n t a z s e = filled_start z (rows_in (split 10 text)) (rows_lead text z.accepts.tree z.accepts.reads) s e
+pub zeroed_start : (text n t a : List ℕ) (z : Zeroed (meant text) n t a) (s : State) (w : Walk) → s ≡ as_state start → w ≡ outside_walk
+    → Fills z.accepts.tree (length n) (length t) (length a) (rows_in (split 10 (drop 0 text))) s w n t a
+zeroed_start text n t a z s w e k = filled_start z (rows_in (split 10 text)) (rows_lead text z.accepts.tree z.accepts.reads) s w e k
 
 module _ (text : List ℕ) {nl ns na : ℕ} {s : State} {w : Walk} {n t a : List ℕ} (at e : ℕ) (inside : at ≤ length text) (found : e ≡ index_of 10 (take (length text - at) (drop at text))) where
   -- the text ends

@@ -1,10 +1,10 @@
 -- What the code needs at a row that is taken: places, numbers and room. Assumes nothing.
 use Rattle.std.specs.Prelude.{◌≡◌, Bool, List, [], ◌∷◌, leb, ltb, length}
 use Rattle.std.proofs.Math.Path.{refl, ap}
-use Rattle.std.proofs.Common.{◌∙◌, subst, not-suc-le-zero, leb-true, ltb-true}
+use Rattle.std.proofs.Common.{◌∙◌, subst, leb-true, ltb-true}
 use Rattle.std.proofs.Math.Bool.{true, false}
 use Rattle.std.proofs.Math.Option.{Option, none, some}
-use Prim.Native.Nat.{ℕ, suc, ◌+◌, ◌*◌, ◌-◌, ◌≤◌, ◌<◌}
+use Prim.Native.Nat.{ℕ, suc, ◌+◌, ◌*◌, ◌≤◌, ◌<◌}
 use native.Mathlib.Omega.{arith}
 use Rattle.std.proofs.Math.ListN.{get_or}
 use Rattle.listings.specs.Listing.{Simple, CondWord, if, ifelse, rcomp, BranchForm, Stmts, ∅, ◌▸◌, branching, size, len, total}
@@ -16,14 +16,13 @@ use Rattle.listings.specs.Read.{OpenCond, Branches, Position, begin, in_module, 
 use Rattle.listing_laws.specs.Contents.{IsParsed, ContentOk}
 use Rattle.listing_laws.specs.Shown.{first_size, open_size, position_size, open_lines, Good}
 use Rattle.reader.specs.CodedRows.{word_number, cond_number}
-use Rattle.reader.specs.Machine.{position_code, open_conds, state_at, as_state}
+use Rattle.reader.specs.Machine.{State, position_code, open_conds, state_at, as_state}
 use Rattle.listings.specs.Records.{rec_rows, arg_rows, rec_row, arg_row}
 use Rattle.listing_laws.specs.ReadingRecords.{first_node, holder_of, first_len, first_index, recs_of, numbers_of, first_node_lem, recs_length, numbers-length}
 use Rattle.reader.specs.Tables.{rec_wide, padded-length, joined_length}
 use Rattle.reader.specs.Holds.{Holds}
-use Rattle.reader.specs.Fill.{written_row, operands_of, as_given, EndReady, ToReady, AddReady, Ready, ArgsReady}
+use Rattle.reader.specs.Fill.{held_back, written_row, operands_of, as_given, EndReady, ToReady, AddReady, Ready, ArgsReady}
 use Rattle.reader.specs.FillLaws.{args_few, walk_at, Fits, cond_index}
-use Rattle.reader.specs.declared.machine.State.{State}
 use Rattle.reader.specs.declared.fill.Walk.{Walk}
 
 -- ---- bounds
@@ -48,11 +47,6 @@ holder_le : (T : ℕ) (fs : List OpenCond) → holder_of T fs ≤ first_node T f
 unfolding holder_of first_node
 holder_le T [] = omega arith
 holder_le T (f ∷ fs) = omega arith
-
-holder_some : (T : ℕ) (fs : List OpenCond) → 0 < length fs → 0 < holder_of T fs
-unfolding holder_of
-holder_some T [] h = absurd (not-suc-le-zero h)
-holder_some T (f ∷ fs) h = omega arith
 
 word_le : (o : Simple) → word_number o ≤ 28
 unfolding word_index
@@ -95,15 +89,14 @@ module _ (r : Reading) (nl ns na : ℕ) (n t a : List ℕ) (now : Long nl ns na 
       let T = total r.lines in
       let h = holder_le T fs in
       let e = first_node_lem T fs in
+      let b = held_back (holder_of T fs) in
       let x = now.stmts in
       let y = room.stmts in
       record {
         fits = omega (arith, g.stmt_sum);
         small = omega (arith, g.stmt_sum, g.stmt_most);
         most = g.stmt_most;
-        held = λ z. absurd (omega arith);
-        inner = λ z b. holder_some T fs b;
-        index = λ z. absurd (omega arith);
+        index = λ i q z. absurd (omega arith);
       }
 
   add_ready : (s : Stmts) (fs : List OpenCond) (c : ℕ) → c ≤ 28 → r.stmt_count < 4096 → Good r (in_stmts s fs) → suc r.stmt_count * 12 ≤ ns → AddReady t (state_at r (in_stmts s fs)) (walk_at r (in_stmts s fs)) c
@@ -115,6 +108,7 @@ module _ (r : Reading) (nl ns na : ℕ) (n t a : List ℕ) (now : Long nl ns na 
         small = b;
         line = omega (arith, g.line_sum);
         lines = g.line_most;
+        holder = omega (arith, g.stmt_sum, held_back (holder_of (total r.lines) fs), holder_le (total r.lines) fs, first_node_lem (total r.lines) fs);
         index = omega (arith, g.stmt_sum, g.stmt_most, index_le fs, len-le s);
         word = h;
       }
@@ -130,17 +124,14 @@ module _ (r : Reading) (nl ns na : ℕ) (n t a : List ℕ) (now : Long nl ns na 
       let T = total r.lines in
       let j = first_node T fs + size s in
       let c = cond_holder s w bs fs g in
-      let i : suc j - 1 ≡ j = omega arith in
-      let k : get_or t ((suc j - 1) * 12 + 3) 0 ≡ first_index fs + len s = ap (λ (m : ℕ). get_or t (m * 12 + 3) 0) i ∙ cond_index r nl ns na n t a s w bs fs g e in
+      let k : get_or t (j * 12 + 3) 0 ≤ 4096 = omega (arith, cond_index r nl ns na n t a s w bs fs g e, g.stmt_sum, g.stmt_most, index_le fs, len-le s) in
       let x = now.stmts in
       let y = room.stmts in
       record {
         fits = omega arith;
         small = omega (arith, g.stmt_most);
         most = g.stmt_most;
-        held = λ z. omega arith;
-        inner = λ z b. omega arith;
-        index = λ z. omega (arith, k, g.stmt_sum, g.stmt_most, index_le fs, len-le s);
+        index = λ m q z. let p : j ≡ m = cc in subst (λ (i : ℕ). get_or t (i * 12 + 3) 0 ≤ 4096) p k;
       }
 
   begin_needs : (d : Content) → Needs (state_at r begin) (walk_at r begin) d (at_begin r d)
@@ -160,7 +151,7 @@ module _ (r : Reading) (nl ns na : ℕ) (n t a : List ℕ) (now : Long nl ns na 
   unfolding at_module Needs or_refused read_line state_at position_code walk_at
   module_needs no_form g = tt
   module_needs end_row g =
-      λ _. (record { fits = omega arith; small = omega arith; most = g.stmt_most; held = λ x. absurd (omega arith); inner = λ x y. absurd (omega arith); index = λ x. absurd (omega arith) }, tt)
+      λ _. (record { fits = omega arith; small = omega arith; most = g.stmt_most; index = λ i q z. absurd (omega arith) }, tt)
   module_needs stmts_row g = tt
   module_needs (module_row h) g = tt
   module_needs (line_row malformed) g = tt
@@ -224,7 +215,7 @@ module _ (r : Reading) (nl ns na : ℕ) (n t a : List ℕ) (now : Long nl ns na 
       let c = cond_holder s w bs fs g in
       let x = now.stmts in
       let y = room.stmts in
-      to_needs s w fs (next_branch w bs) m (state_at r (in_cond s w bs fs)) (walk_at r (in_cond s w bs fs)) (record { fits = omega arith; small = omega (arith, g.stmt_most); most = g.stmt_most; held = omega arith })
+      to_needs s w fs (next_branch w bs) m (state_at r (in_cond s w bs fs)) (walk_at r (in_cond s w bs fs)) (record { fits = omega arith; small = omega (arith, g.stmt_most); most = g.stmt_most })
   branches_needs s w bs fs (simple_row o) g e = tt
   branches_needs s w bs fs (cond_row k) g e = tt
 

@@ -1,5 +1,5 @@
 -- The loop that writes, over what its rows say: room for all that is still to come, the invariant, and what it gives. Assumes nothing.
-use Rattle.std.specs.Prelude.{◌≡◌, refl, Bool, true, false, List, [], ◌∷◌, ℕ, ◌*◌, ◌≤◌, leb, ltb, length, replicate, Ok, Err}
+use Rattle.std.specs.Prelude.{◌≡◌, Bool, true, false, List, [], ◌∷◌, ℕ, ◌*◌, ◌≤◌, leb, ltb, length, replicate, Ok, Err}
 use Rattle.std.proofs.Common.{sym, ◌∙◌, subst, append-nil, arith}
 use Rattle.std.proofs.Math.Path.{ap}
 use Rattle.std.proofs.Math.Option.{Option, none, some}
@@ -14,16 +14,15 @@ use Rattle.listings.specs.Records.{joined, line_recs, line_numbers}
 use Rattle.listing_laws.specs.ReadingRecords.{position_recs, recs_of, open_numbers, numbers_of}
 use Rattle.listings.specs.Every.{all[]}
 use Rattle.reader.specs.CodedRows.{as_row, Said}
-use Rattle.reader.specs.Machine.{state_at, as_state, Step, numbered_step, as_step, taken_is, step_row}
-use Rattle.reader.specs.MachineLaws.{step_law, Bounded, state_bounded}
-use Rattle.reader.specs.Judge.{good_depth}
+use Rattle.tokens.specs.Arguments.{Verdict}
+use Rattle.reader.specs.Machine.{State, state_at, as_state, stepped, numbered_step, as_step, taken_is, step_row}
+use Rattle.reader.specs.MachineLaws.{step_law}
 use Rattle.reader.specs.Tables.{padded-nil}
 use Rattle.reader.specs.AcceptedRows.{WellFormed, taken_formed, taken-uncounted}
 use Rattle.reader.specs.Fill.{Operands, Says, as_given, arg_table, line_table, stmt_table, walk_by, Recorded, RecordReady, outside_walk}
 use Rattle.reader.specs.Holds.{Holds, holds_as}
 use Rattle.reader.specs.FillLaws.{walk_at, Fits, fill_law}
 use Rattle.reader.specs.FillReady.{Long, holds_long, ready_law}
-use Rattle.reader.specs.declared.machine.State.{State}
 use Rattle.layout.specs.declared.refusals.Reason.{Reason}
 use Rattle.reader.specs.declared.fill.Walk.{Walk}
 
@@ -178,20 +177,17 @@ pub record Fills (L : Listing) (nl ns na : ℕ) (ds : List Content) (s : State) 
   pub ahead : Leads reading ds L
   pub holds : Holds (numbers_of reading reading.position) (recs_of reading reading.position) nl ns na n t a
 
-pub fills_start : (L : Listing) (nl ns na : ℕ) (ds : List Content) (s : State) → Leads start ds L → s ≡ as_state start → Fills L nl ns na ds s outside_walk (replicate nl 0) (replicate ns 0) (replicate na 0)
+pub fills_start : (L : Listing) (nl ns na : ℕ) (ds : List Content) (s : State) (w : Walk) → Leads start ds L → s ≡ as_state start → w ≡ outside_walk → Fills L nl ns na ds s w (replicate nl 0) (replicate ns 0) (replicate na 0)
 unfolding start walk_at recs_of position_recs numbers_of open_numbers line_recs line_numbers joined
-fills_start L nl ns na ds s h e =
+fills_start L nl ns na ds s w h e k =
     record {
       reading = start;
       state = e;
-      walk = refl;
+      walk = k;
       good = good_start;
       ahead = h;
       holds = record { lines = sym (padded-nil nl); stmts = sym (padded-nil ns); args = sym (padded-nil na); wide = all[] };
     }
-
-pub fills_bounded : {L : Listing} {nl ns na : ℕ} {ds : List Content} {s : State} {w : Walk} {n t a : List ℕ} → Fills L nl ns na ds s w n t a → Bounded s
-fills_bounded f = subst Bounded (sym f.state) (state_bounded f.reading (good_depth f.reading f.reading.position f.good))
 
 -- nothing is left: the tables hold the listing
 pub fills_last : {L : Listing} {nl ns na : ℕ} {s : State} {w : Walk} {n t a : List ℕ} → Fills L nl ns na [] s w n t a → Holds (line_numbers L.lines) (line_recs L.lines) nl ns na n t a
@@ -243,19 +239,20 @@ module _ {L : Listing} {nl ns na : ℕ} {d : Content} {ds : List Content} {s : S
     pub fills_ready : RecordReady n t a s w e x
     fills_ready = ready_by f.reading after.reading nl ns na n t a s w f.state f.walk says after.ok f.good f.holds after.took fits_after (fits room f.good f.ahead)
 
-    stepped : {y : Step} → y ≡ step_row s e → y ≡ Ok (as_state after.reading)
-    stepped q = q ∙ ap (step_row s) says.row ∙ taken-uncounted s (as_state after.reading) (as_row d) steps_on
+    takes : (v : Verdict) (z : State) → stepped v z ≡ step_row s e → stepped v z ≡ Ok (as_state after.reading)
+    takes v z q = q ∙ ap (step_row s) says.row ∙ taken-uncounted s (as_state after.reading) (as_row d) steps_on
 
-    pub fills_refused : {y : Step} {m : Reason} → y ≡ step_row s e → y ≡ Err m → ⊥
-    fills_refused q h = let z = sym (stepped q) ∙ h in let k : ◌≡◌ {A = ℕ} 0 1 = cc in omega arith
+    -- v, z: what the machine answers, and the state that it leaves
+    pub fills_refused : (v : Verdict) (z : State) {m : Reason} → stepped v z ≡ step_row s e → v ≡ Err m → ⊥
+    fills_refused v z q h = let y = sym (takes v z q) ∙ ap (λ (x : Verdict). stepped x z) h in let k : ◌≡◌ {A = ℕ} 0 1 = cc in omega arith
 
-    pub fills_taken : {y : Step} {v : State} {n' t' a' : List ℕ} {u : Walk} → y ≡ step_row s e → y ≡ Ok v → Recorded n t a s w e x n' t' a' u → Fills L nl ns na ds v u n' t' a'
-    fills_taken {v = v} q h o =
+    pub fills_taken : (v : Verdict) (z : State) {n' t' a' : List ℕ} {u : Walk} → stepped v z ≡ step_row s e → v ≡ Ok tt → Recorded n t a s w e x n' t' a' u → Fills L nl ns na ds z u n' t' a'
+    fills_taken v z q h o =
         let y = fill_by f.reading after.reading nl ns na n t a s w f.state f.walk says after.ok f.good f.holds after.took fits_after in
-        let k = sym (stepped q) ∙ h in
+        let k = sym (takes v z q) ∙ ap (λ (x : Verdict). stepped x z) h in
         record {
           reading = after.reading;
-          state = let z : v ≡ as_state after.reading = cc in z;
+          state = let e : z ≡ as_state after.reading = cc in e;
           walk = o.rest.walk ∙ y.1;
           good = good-after;
           ahead = after.ahead;

@@ -6,11 +6,10 @@ use Rattle.listings.specs.Read.{Answer, listing, start}
 use Rattle.listings.specs.Rows.{Content}
 use Rattle.listings.specs.Records.{line_recs, line_numbers}
 use Rattle.listing_laws.specs.RowsTaken.{Leads}
-use Rattle.reader.specs.Machine.{as_state}
+use Rattle.reader.specs.Machine.{State, as_state}
 use Rattle.reader.specs.Fill.{outside_walk}
 use Rattle.reader.specs.Holds.{Holds, holds_as}
 use Rattle.reader.specs.FillSteps.{Room, Fills, fills_start, fills_last}
-use Rattle.reader.specs.declared.machine.State.{State}
 use Rattle.reader.specs.declared.fill.Walk.{Walk}
 
 -- q: what the input means. It is a listing, and there is room for it
@@ -31,14 +30,14 @@ abbrev pub Filled : (q : Answer) (n t a n' t' a' : List ℕ) → Type 0
 Filled q n t a n' t' a' = (L : Listing) → q ≡ listing L → Holds (line_numbers L.lines) (line_recs L.lines) (length n) (length t) (length a) n' t' a'
 
 -- before the first row
-pub filled_start : {q : Answer} {n t a : List ℕ} (z : Zeroed q n t a) (ds : List Content) → Leads start ds z.accepts.tree → (s : State) → s ≡ as_state start
-    → Fills z.accepts.tree (length n) (length t) (length a) ds s outside_walk n t a
-filled_start {n = n} {t = t} {a = a} z ds h s e =
+pub filled_start : {q : Answer} {n t a : List ℕ} (z : Zeroed q n t a) (ds : List Content) → Leads start ds z.accepts.tree → (s : State) (w : Walk) → s ≡ as_state start → w ≡ outside_walk
+    → Fills z.accepts.tree (length n) (length t) (length a) ds s w n t a
+filled_start {n = n} {t = t} {a = a} z ds h s w e k =
     let L = z.accepts.tree in
-    subst (λ (x : List ℕ). Fills L (length n) (length t) (length a) ds s outside_walk x t a) (sym z.lines)
-    (subst (λ (x : List ℕ). Fills L (length n) (length t) (length a) ds s outside_walk (replicate (length n) 0) x a) (sym z.stmts)
-    (subst (λ (x : List ℕ). Fills L (length n) (length t) (length a) ds s outside_walk (replicate (length n) 0) (replicate (length t) 0) x) (sym z.args)
-    (fills_start L (length n) (length t) (length a) ds s h e)))
+    subst (λ (x : List ℕ). Fills L (length n) (length t) (length a) ds s w x t a) (sym z.lines)
+    (subst (λ (x : List ℕ). Fills L (length n) (length t) (length a) ds s w (replicate (length n) 0) x a) (sym z.stmts)
+    (subst (λ (x : List ℕ). Fills L (length n) (length t) (length a) ds s w (replicate (length n) 0) (replicate (length t) 0) x) (sym z.args)
+    (fills_start L (length n) (length t) (length a) ds s w h e k)))
 
 -- behind the last
 pub filled_end : {q : Answer} {nl ns na : ℕ} {s : State} {w : Walk} {n t a : List ℕ} (g : Accepts q nl ns na) → Fills g.tree nl ns na [] s w n t a

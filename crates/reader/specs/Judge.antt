@@ -7,16 +7,16 @@ use Rattle.std.proofs.lemmas.Bool.{lt-leb}
 use Rattle.listings.specs.Bytes.{pick}
 use Rattle.listings.specs.Listing.{total, count}
 use Rattle.listings.specs.Rows.{split, row_of, content_of}
-use Rattle.listings.specs.Read.{OpenCond, Position, begin, in_module, ended, in_stmts, in_cond, Reading, start, Outcome, taken, refused, read_row, refusal, finish, read_rows, read}
+use Rattle.listings.specs.Read.{Position, begin, in_module, ended, in_stmts, in_cond, Reading, start, Outcome, taken, refused, read_row, refusal, finish, read_rows, read}
 use Rattle.listing_laws.specs.RowText.{content_text}
-use Rattle.listing_laws.specs.Shown.{open_lines, position_size, OpenOk, PositionOk, Good, Next}
+use Rattle.listing_laws.specs.Shown.{open_lines, position_size, Good, Next}
 use Rattle.listing_laws.specs.ShownLaws.{row_next}
 use Rattle.listings.specs.Scan.{index_of, split-some, piece_at, next_last, next_more}
 use Rattle.reader.specs.Answer.{by_number, listed_of}
 use Rattle.reader.specs.CodedRows.{place_number, as_row}
-use Rattle.reader.specs.Machine.{open_conds, position_code, state_at, as_state, Step, numbered_step, as_step, step_row}
-use Rattle.reader.specs.MachineLaws.{step_law, Bounded, state_bounded}
-use Rattle.reader.specs.declared.machine.State.{State}
+use Rattle.tokens.specs.Arguments.{Verdict}
+use Rattle.reader.specs.Machine.{State, position_code, state_at, as_state, stepped, numbered_step, as_step, step_row}
+use Rattle.reader.specs.MachineLaws.{step_law}
 use Rattle.reader.specs.declared.listing.Accepted.{Accepted}
 use Rattle.layout.specs.Refusals.{number_of, refusal_at}
 use Rattle.layout.specs.declared.refusals.Reason.{Reason}
@@ -72,19 +72,6 @@ pub good_row : (r q : Reading) (w : List ℕ) → Good r r.position → read_row
 unfolding Next
 good_row r q w g e = (subst (Next _) e (row_next r r.position (content_of (row_of w)) w (content_text w) g)).0
 
-open_depth : (fs : List OpenCond) → OpenOk fs → length fs ≤ 17
-unfolding OpenOk
-open_depth [] h = omega arith
-open_depth (f ∷ fs) h = omega (arith, h.2)
-
-pub good_depth : (r : Reading) (p : Position) → Good r p → length (open_conds p) ≤ 17
-unfolding open_conds PositionOk
-good_depth r begin g = omega arith
-good_depth r in_module g = omega arith
-good_depth r ended g = omega arith
-good_depth r (in_stmts s fs) g = open_depth fs g.place.1
-good_depth r (in_cond s k bs fs) g = omega (arith, g.place.3)
-
 finish_by : (r : Reading) (i : ℕ) (p : Position) (w : List ℕ) → Good r p → by_number (finish_state (state_at r p) i (length w)) ≡ listed_of (finish r i p w)
 unfolding finish listed_of state_at position_code open_lines position_size
 finish_by r i begin w g = refl
@@ -109,9 +96,6 @@ pub record Follows (text : List ℕ) (s : State) (i at : ℕ) : Type 0 where
 pub follows_start : (text : List ℕ) (s : State) → s ≡ as_state start → Follows text s 0 0
 follows_start text s e = record { reading = start; state = e; good = good_start; rest = refl }
 
-pub follows_bounded : {text : List ℕ} {s : State} {i at : ℕ} → Follows text s i at → Bounded s
-follows_bounded f = subst Bounded (sym f.state) (state_bounded f.reading (good_depth f.reading f.reading.position f.good))
-
 module _ (text : List ℕ) (s : State) (i at e : ℕ) (short : length text ≤ 65536) (f : Follows text s i at) (fits : at ≤ length text)
     (found : e ≡ index_of 10 (take (length text - at) (drop at text))) where
   -- the text ends in this row
@@ -125,28 +109,28 @@ module _ (text : List ℕ) (s : State) (i at e : ℕ) (short : length text ≤ 6
       ap (λ (z : State). by_number (finish_state z i e)) f.state ∙ ap (λ (z : ℕ). by_number (finish_state (as_state r) i z)) (sym n) ∙ finish_by r i r.position w f.good
       ∙ ap listed_of (sym p ∙ f.rest ∙ sym (read_short text short))
 
-  -- a row ended by byte 10, and the step x that it makes
-  module _ (more : at + e ≡ length text → ⊥) (le : e ≤ length (take (length text - at) (drop at text))) (x : Step) (steps : x ≡ step_row s (as_row (content_of (row_of (piece_at text at e))))) where
+  -- a row ended by byte 10, what the machine answers to it, and the state that it leaves
+  module _ (more : at + e ≡ length text → ⊥) (le : e ≤ length (take (length text - at) (drop at text))) (v : Verdict) (t : State) (steps : stepped v t ≡ step_row s (as_row (content_of (row_of (piece_at text at e))))) where
     pieces : split 10 (drop at text) ≡ piece_at text at e ∷ split 10 (drop (at + e + 1) text)
     pieces = (next_more 10 text at e fits found more le).1
 
-    outcome : numbered_step x ≡ as_step (read_row f.reading f.reading.position (content_of (row_of (piece_at text at e))))
+    outcome : numbered_step (stepped v t) ≡ as_step (read_row f.reading f.reading.position (content_of (row_of (piece_at text at e))))
     outcome = ap numbered_step steps ∙ ap (λ (z : State). numbered_step (step_row z (as_row (content_of (row_of (piece_at text at e)))))) f.state ∙ step_law f.reading (content_of (row_of (piece_at text at e)))
 
-    pub follows_refused : (n : Reason) → x ≡ Err n → by_number (Err (refusal_at n i)) ≡ listed_of (read text)
+    pub follows_refused : (n : Reason) → v ≡ Err n → by_number (Err (refusal_at n i)) ≡ listed_of (read text)
     unfolding listed_of
     follows_refused n h =
         let r = f.reading in
         let vs = split 10 (drop (at + e + 1) text) in
-        let q = step-refused (read_row r r.position (content_of (row_of (piece_at text at e)))) (number_of n) (sym outcome ∙ ap numbered_step h) in
+        let q = step-refused (read_row r r.position (content_of (row_of (piece_at text at e)))) (number_of n) (sym outcome ∙ ap (λ (x : Verdict). numbered_step (stepped x t)) h) in
         let p = rows-refused r i (piece_at text at e) vs (number_of n) (split-some 10 (drop (at + e + 1) text)) q in
         ap listed_of (sym (ap (read_rows r i) pieces ∙ p) ∙ f.rest ∙ sym (read_short text short))
 
-    pub follows_taken : (t : State) → x ≡ Ok t → Follows text t (i + 1) (at + e + 1)
-    follows_taken t h =
+    pub follows_taken : v ≡ Ok tt → Follows text t (i + 1) (at + e + 1)
+    follows_taken h =
         let r = f.reading in
         let vs = split 10 (drop (at + e + 1) text) in
-        let q = step-taken (read_row r r.position (content_of (row_of (piece_at text at e)))) t (sym outcome ∙ ap numbered_step h) in
+        let q = step-taken (read_row r r.position (content_of (row_of (piece_at text at e)))) t (sym outcome ∙ ap (λ (x : Verdict). numbered_step (stepped x t)) h) in
         let p = rows_taken r q.0 i (piece_at text at e) vs (split-some 10 (drop (at + e + 1) text)) q.1 in
         record {
           reading = q.0;

@@ -1,5 +1,6 @@
 pub mod Answer
 pub mod Inputs
+pub mod States
 pub mod Tables
 pub mod Operands
 pub mod CodedRows

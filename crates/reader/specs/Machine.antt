@@ -11,12 +11,27 @@ use Rattle.reader.specs.declared.rows.Cond.{Cond}
 use Rattle.reader.specs.declared.rows.Cond.TheVariants as cond
 use Rattle.reader.specs.declared.rows.Misfit.{Misfit}
 use Rattle.reader.specs.declared.rows.Row.TheVariants as row
-use Rattle.reader.specs.declared.machine.State.{State}
 use Rattle.layout.specs.Refusals.{number_of}
 use Rattle.layout.specs.declared.refusals.Reason.{Reason}
 use Rattle.layout.specs.declared.refusals.Reason.TheVariants as reason
 
 -- ---- the state that stands for a reading
+
+-- what the machine keeps
+pub record State : Type 0 where
+  pub position : Place
+  pub handlers : Bool
+  pub last : Maybe ℕ
+  pub lines : ℕ
+  pub stmts : ℕ
+  pub depth : ℕ
+  pub open_conds : ℕ
+  pub word : Cond
+  pub branches : ℕ
+
+-- in how many branches its next row stands at most: one fewer where an IF's own branches are due
+abbrev pub deepest : Place → ℕ
+deepest p = pick (eqb (place_number p) 4) 16 17
 
 -- the last line's number
 unfoldable pub last_code : Option ℕ → Maybe ℕ
@@ -92,6 +107,11 @@ as_state r = state_at r r.position
 abbrev pub Step : Type 0
 Step = Result State Reason
 
+-- the step that a routine made: the state that it left, or why the row is refused
+abbrev pub stepped : Result (Unit {0}) Reason → State → Step
+stepped (Ok u) s = Ok s
+stepped (Err r) s = Err r
+
 -- the same by the papers' number
 abbrev pub numbered_step : Step → Result State ℕ
 numbered_step (Ok s) = Ok s
@@ -106,6 +126,14 @@ taken_is (Ok t) s e = let z : t ≡ s = cc in cc
 taken_is (Err r) s e = cc
 
 -- ---- the steps
+
+-- whether a row is due
+abbrev pub due : Bool → Result (Unit {0}) Reason
+due t = pick t (Ok tt) (Err reason.NotAForm)
+
+-- whether there is room for one statement more
+abbrev pub room : State → Result (Unit {0}) Reason
+room s = pick (ltb s.stmts 4096) (pick (leb s.depth 16) (Ok tt) (Err reason.TooDeep)) (Err reason.TooManyStatements)
 
 -- outside of all lines
 abbrev pub outside : State → Place → State

@@ -1,14 +1,15 @@
 -- The row machine goes as the definition goes, and its numbers fit. Assumes nothing.
-use Rattle.std.specs.Prelude.{ℕ, zero, suc, ◌+◌, ◌*◌, ◌-◌, ◌/◌, ◌%◌, ◌≤◌, ◌<◌, ◌≡◌, refl, List, [], ◌∷◌, Bool, true, false, eqb, leb, ltb, length, Result, Ok, Err}
+use Rattle.std.specs.Prelude.{ℕ, zero, suc, ◌+◌, ◌*◌, ◌-◌, ◌/◌, ◌%◌, ◌^◌, ◌≤◌, ◌<◌, ◌≡◌, refl, List, [], ◌∷◌, Bool, true, false, eqb, leb, ltb, length, Result, Ok, Err}
+use Rattle.std.proofs.Math.Nat.{pow-suc, pow-le-pow_right}
 use Rattle.std.proofs.Common.{sym, ap, ◌∙◌, arith, add-one, ne_eqb}
 use Rattle.std.proofs.Math.Option.{Option, none, some}
 use Rattle.listings.specs.Bytes.{pick}
 use Rattle.listings.specs.Listing.{CondWord, if, ifelse, rcomp, BranchForm, Stmts, ∅, ◌▸◌}
 use Rattle.listings.specs.Rows.{malformed, invalid, parsed, Counted, Content, no_form, end_row, stmts_row, module_row, line_row, to_row, simple_row, cond_row}
 use Rattle.listings.specs.Read.{OpenCond, Branches, no_branch, one_branch, two_branches, Position, begin, in_module, ended, in_stmts, in_cond, Reading, go_to, one_more, Outcome, taken, or_refused, check, at_begin, ascends, read_line, at_module, read_simple, read_cond, branched, end_stmts, at_stmts, NextBranch, no_more, may_follow, next_branch, cond_stmt, end_cond, read_to, read_stmts, at_cond, read_row}
-use Rattle.reader.specs.CodedRows.{as_cond, cond_number, cond_back, as_row}
-use Rattle.reader.specs.Machine.{last_code, first_code, cond_code, packed, branch_count, position_code, open_conds, word_code, branch_code, state_at, as_state, numbered_step, as_step, ascends as above, step_line, step_simple, step_cond, step_stmts, step_to, may_branch, reason_at, end_of_stmts, step_end, step_row}
-use Rattle.reader.specs.declared.machine.State.{State}
+use Rattle.reader.specs.CodedRows.{place_number, as_cond, cond_number, cond_back, as_row}
+use Rattle.reader.specs.Machine.{State, deepest, last_code, first_code, cond_code, packed, branch_count, position_code, open_conds, word_code, branch_code, state_at, as_state, numbered_step, as_step, ascends as above, step_line, step_simple, step_cond, step_stmts, step_to, may_branch, reason_at, end_of_stmts, step_end, step_row}
+use Rattle.reader.specs.declared.rows.Position.{Position as Place}
 use Rattle.reader.specs.declared.rows.Position.TheVariants as at
 use Rattle.layout.specs.Refusals.{number_of}
 use Rattle.layout.specs.declared.refusals.Reason.{Reason}
@@ -265,44 +266,18 @@ step_law r d = row_law r r.position d
 
 -- ---- the numbers fit
 
--- 8 to the power n
-power : ℕ → ℕ
-power zero = 1
-power (suc n) = 8 * power n
-
-power_le : (n m : ℕ) → n ≤ m → power n ≤ power m
-unfolding power
-power_le n m h = let e : (m - n) + n ≡ m = omega arith in omega (arith, ap power e, up (m - n))
+deepest_le : (p : Place) → deepest p ≤ 17
+deepest_le p = go (eqb (place_number p) 4)
   where
-    up : (d : ℕ) → power n ≤ power (d + n)
-    up zero = let e : 0 + n ≡ n = omega arith in omega (arith, ap power e)
-    up (suc d) = let e : suc d + n ≡ suc (d + n) = omega arith in omega (arith, up d, ap power e)
+    go : (t : Bool) → pick t 16 17 ≤ 17
+    go true = omega arith
+    go false = omega arith
 
-packed-below : (fs : List OpenCond) → packed fs < power (length fs)
-unfolding packed power cond_code
-packed-below [] = omega arith
-packed-below (f ∷ fs) = omega (arith, packed-below fs, cond_le f.word, first-le f.first)
+-- the packed IFs, of which there are 17 at most
+pub few_open : (p : Place) (o d : ℕ) → d ≤ deepest p → o < 8 ^ d → o < 2251799813685248
+few_open p o d h k = omega (arith, k, pow-le-pow_right {n = 8} (omega arith) {i = d} {j = 17} (omega (arith, h, deepest_le p)))
 
-branch-le : (p : Position) → branch_code p ≤ 2
-unfolding branch_code branch_count
-branch-le begin = omega arith
-branch-le in_module = omega arith
-branch-le ended = omega arith
-branch-le (in_stmts s fs) = omega arith
-branch-le (in_cond s k no_branch fs) = omega arith
-branch-le (in_cond s k (one_branch a) fs) = omega arith
-branch-le (in_cond s k (two_branches a b) fs) = omega arith
-
-pub record Bounded (s : State) : Type 0 where
-  pub open_conds : s.open_conds < 2251799813685248
-  pub branches : s.branches ≤ 2
-  pub depth : s.depth ≤ 17
-
-pub state_bounded : (r : Reading) → length (open_conds r.position) ≤ 17 → Bounded (as_state r)
-unfolding as_state state_at power
-state_bounded r d =
-    record {
-      open_conds = omega (arith, packed-below (open_conds r.position), power_le (length (open_conds r.position)) 17 d);
-      branches = branch-le r.position;
-      depth = d;
-    }
+-- one of them less
+pub one_closed : (o d : ℕ) → (d ≡ 0 → ⊥) → o < 8 ^ d → o / 8 < 8 ^ (d - 1)
+one_closed o zero h k = absurd (h refl)
+one_closed o (suc d) h k = let e : suc d - 1 ≡ d = omega arith in rw e (omega (arith, k, pow-suc 8 d))

@@ -1,12 +1,13 @@
 -- The arguments of a statement's row, word by word, as they are written. Assumes nothing.
 use Rattle.std.specs.Prelude.{◌≡◌, refl, Bool, true, false, take, drop, set, Option, Some, None, Result, Ok, Err}
-use Rattle.std.proofs.Common.{sym, ◌∙◌, not-suc-le-zero, add-one, arith, length-append, length-set, length-drop, take-append-drop, take-suc-set, drop-set-lt, drop-drop, take_at}
+use Rattle.std.proofs.Common.{get_or, sym, ◌∙◌, not-suc-le-zero, arith, length-append, length-drop, take_all, take_at}
 use Rattle.std.proofs.Math.Path.{ap, subst}
 use mathlib.Core.List.{List, [], ◌∷◌, ◌++◌, map, append_assoc}
 use Rattle.std.proofs.Math.Option.{none, some}
 use Prim.Native.Nat.{ℕ, suc, ◌+◌, ◌-◌, ◌≤◌, ◌<◌}
 use Rattle.std.proofs.Math.ListN.{length}
-use Rattle.std.proofs.lemmas.List.{length-map}
+use Rattle.std.proofs.lemmas.List.{length-map, get_or-map, take-map}
+use Rattle.layout.specs.Fronts.{front_next}
 use Rattle.listings.specs.Bytes.{bytes, same, pick, decimal}
 use Rattle.listings.specs.Listing.{Name, Tier, static, framed, dispatched, Mark, orphan, Slot, goto, gosub, runto, ongoto, ongosub, Simple, jump, on, for, next, block, bare}
 use Rattle.listings.specs.Rows.{split, Parse, malformed, invalid, parsed, parse_number, parse_name, is_name, is_capital, opening_words, content_of, row_of, simple_row, Counted}
@@ -17,7 +18,7 @@ use Rattle.listing_laws.specs.NumberText.{number_text}
 use Rattle.listing_laws.specs.WordText.{in_word, is_token, are_tokens, token_lacks, tokens_lack, name_text}
 use Rattle.listing_laws.specs.RowForms.{join, split-join, join-split, join-words}
 use Rattle.listing_laws.specs.RowText.{simple_tokens, row_simple}
-use Rattle.listings.specs.Scan.{index_of, after, split-some, split_alone, split-first}
+use Rattle.listings.specs.Scan.{split-some}
 use Rattle.tokens.specs.Numbers.{as_number}
 use Rattle.tokens.specs.Names.{as_key}
 use Rattle.listings.specs.Cut.{cut_name, cut_slot, cut_simple}
@@ -119,50 +120,18 @@ key_or_zero malformed = refl
 key_or_zero invalid = refl
 key_or_zero (parsed v) = refl
 
--- the loop over the words: n entries are written, the rest of the text gives the others
-pub record Filling (f : List ℕ → ℕ) (s t₀ t : List ℕ) (at n : ℕ) : Type 0 where
-  pub wrote : take n t ++ map f (split 32 (drop at s)) ≡ map f (split 32 s)
-  pub left : drop n t ≡ drop n t₀
-  pub long : length t ≡ length t₀
-  pub sum : n + length (split 32 (drop at s)) ≡ length (split 32 s)
+-- the entries of the first n words at the front of a part, and of one word more
+pub filled_next : (f : List ℕ → ℕ) (ws : List (List ℕ)) (t : List ℕ) (n : ℕ) (w : List ℕ) → n < length ws → length ws ≤ length t → w ≡ get_or ws n w
+    → set (map f (take n ws) ++ drop n t) n (f w) ≡ map f (take (n + 1) ws) ++ drop (n + 1) t
+filled_next f ws t n w h k e =
+    let same : f w ≡ get_or (map f ws) n (f w) = ap f e ∙ sym (get_or-map f ws n w (f w) h) in
+    rw (← take-map f n ws, ← take-map f (n + 1) ws) (front_next (map f ws) t n (f w) (omega (arith, h, length-map ws f)) (omega (arith, k, length-map ws f)) same)
 
-pub filling_start : (f : List ℕ → ℕ) (s t : List ℕ) → Filling f s t t 0 0
-filling_start f s t = record { wrote = refl; left = refl; long = refl; sum = omega arith }
-
-module _ (f : List ℕ → ℕ) (s t₀ t : List ℕ) (at n : ℕ) (w : List ℕ) (g : Filling f s t₀ t at n) where
-  -- room for one more
-  pub filling_room : length (split 32 s) ≤ length t₀ → n < length t
-  filling_room h = omega (arith, g.sum, g.long, split-some 32 (drop at s))
-
-  filling_entry : (at' : ℕ) → n < length t → split 32 (drop at s) ≡ w ∷ split 32 (drop at' s) → Filling f s t₀ (set t n (f w)) at' (n + 1)
-  filling_entry at' h e =
-      let q : map f (split 32 (drop at s)) ≡ f w ∷ map f (split 32 (drop at' s)) = ap (map f) e in
-      record {
-        wrote = ap (λ (k : ℕ). take k (set t n (f w)) ++ map f (split 32 (drop at' s))) (add-one n)
-            ∙ ap (λ (l : List ℕ). l ++ map f (split 32 (drop at' s))) (take-suc-set t n (f w) h)
-            ∙ append_assoc (take n t) (f w ∷ []) (map f (split 32 (drop at' s))) ∙ ap (λ (l : List ℕ). take n t ++ l) (sym q) ∙ g.wrote;
-        left = drop-set-lt (n + 1) t n (f w) (omega arith) ∙ sym (drop-drop 1 n t) ∙ ap (drop 1) g.left ∙ drop-drop 1 n t₀;
-        long = length-set t n (f w) ∙ g.long;
-        sum = omega (arith, ap length e, g.sum);
-      }
-
-  filling_end : n < length t → split 32 (drop at s) ≡ w ∷ [] → (n + 1 ≡ length (split 32 s)) × (set t n (f w) ≡ map f (split 32 s) ++ drop (length (split 32 s)) t₀)
-  filling_end h e =
-      let m : n + 1 ≡ length (split 32 s) = omega (arith, ap length e, g.sum) in
-      let a : take (n + 1) (set t n (f w)) ≡ map f (split 32 s) =
-      ap (λ (k : ℕ). take k (set t n (f w))) (add-one n) ∙ take-suc-set t n (f w) h ∙ ap (λ (l : List (List ℕ)). take n t ++ map f l) (sym e) ∙ g.wrote in
-      let b : drop (n + 1) (set t n (f w)) ≡ drop (n + 1) t₀ = drop-set-lt (n + 1) t n (f w) (omega arith) ∙ sym (drop-drop 1 n t) ∙ ap (drop 1) g.left ∙ drop-drop 1 n t₀ in
-      (m, sym (take-append-drop (n + 1) (set t n (f w))) ∙ ap (λ (l : List ℕ). l ++ drop (n + 1) (set t n (f w))) a ∙ ap (λ (l : List ℕ). map f (split 32 s) ++ l) b ∙ ap (λ (k : ℕ). map f (split 32 s) ++ drop k t₀) m)
-
-  -- one word more, of which v is the entry
-  pub filling_next : (at' v : ℕ) → v ≡ f w → n < length t → split 32 (drop at s) ≡ w ∷ split 32 (drop at' s) → Filling f s t₀ (set t n v) at' (n + 1)
-  filling_next at' v p h e = subst (λ (z : ℕ). Filling f s t₀ (set t n z) at' (n + 1)) (sym p) (filling_entry at' h e)
-
-  pub filling_last : (v : ℕ) → v ≡ f w → n < length t → split 32 (drop at s) ≡ w ∷ [] → Put (map f (split 32 s)) 0 t₀ (set t n v) (record { count = n + 1; detail = 0 })
-  filling_last v p h e =
-      let q = filling_end h e in
-      let m = length-map (split 32 s) f in
-      record { count = q.0 ∙ sym m; detail = refl; table = ap (set t n) p ∙ q.1 ∙ ap (λ (k : ℕ). map f (split 32 s) ++ drop k t₀) (sym m) }
+-- of all of them
+pub filled_put : (f : List ℕ → ℕ) (ws : List (List ℕ)) (t t' : List ℕ) (n : ℕ) → t' ≡ map f (take n ws) ++ drop n t → n ≡ length ws → Put (map f ws) 0 t t' (record { count = n; detail = 0 })
+filled_put f ws t t' n h e =
+    let m : n ≡ length (map f ws) = e ∙ sym (length-map ws f) in
+    record { count = m; detail = refl; table = h ∙ ap (λ (l : List (List ℕ)). map f l ++ drop n t) (take_all n ws (omega (arith, e))) ∙ ap (λ (k : ℕ). map f ws ++ drop k t) m }
 
 -- ---- FOR's words, NEXT's, a row's
 
@@ -211,66 +180,61 @@ none_detail (Some kind.Next) = refl
 pub put_by : {es fs : List ℕ} {d b : ℕ} (t t' : List ℕ) (r : Given) → es ≡ fs → d ≡ b → Put es d t t' r → Put fs b t t' r
 put_by t t' r e q g = record { count = g.count ∙ ap length e; detail = g.detail ∙ q; table = g.table ∙ ap (λ (l : List ℕ). l ++ drop (length l) t) e }
 
--- a part's words again
-rest-join : (s : List ℕ) (e : ℕ) → join 32 (split 32 (after s e)) ≡ after s e
-rest-join s e = join-split 32 (after s e)
-
-module _ (s : List ℕ) (e : ℕ) (found : e ≡ index_of 32 s) where
-  pub for_alone : (t : List ℕ) (x : ℕ) → 1 ≤ length t → e ≡ length s → x ≡ entry_by true (take (e - 0) (drop 0 s))
+module _ (s : List ℕ) (alone : split 32 s ≡ s ∷ []) where
+  pub for_alone : (t : List ℕ) (x : ℕ) → 1 ≤ length t → x ≡ entry_by true s
       → Put (map (entry_by true) (take 1 (split 32 s))) (tier_entry (join 32 (drop 1 (split 32 s)))) t (set t 0 x) (record { count = 1; detail = 0 })
   unfolding join
-  for_alone t x h q p =
+  for_alone t x h p =
       subst (λ (ws : List (List ℕ)). Put (map (entry_by true) (take 1 ws)) (tier_entry (join 32 (drop 1 ws))) t (set t 0 x) (record { count = 1; detail = 0 }))
-      (sym (split_alone 32 s e found q)) (put_one t x _ _ 0 h p (sym nil_tier))
+      (sym alone) (put_one t x _ _ 0 h p (sym nil_tier))
 
-  pub for_pair : (t : List ℕ) (x y : ℕ) → 1 ≤ length t → e < length s → x ≡ entry_by true (take (e - 0) (drop 0 s)) → y ≡ tier_entry (after s e)
-      → Put (map (entry_by true) (take 1 (split 32 s))) (tier_entry (join 32 (drop 1 (split 32 s)))) t (set t 0 x) (record { count = 1; detail = y })
-  for_pair t x y h q p r =
-      subst (λ (ws : List (List ℕ)). Put (map (entry_by true) (take 1 ws)) (tier_entry (join 32 (drop 1 ws))) t (set t 0 x) (record { count = 1; detail = y }))
-      (sym (split-first 32 s e found q)) (put_one t x _ _ y h p (r ∙ ap tier_entry (sym (rest-join s e))))
-
-  pub next_alone : (t : List ℕ) (m : ℕ) → e ≡ length s → m ≡ mark_entry (take (e - 0) (drop 0 s))
-      → Put (map (entry_by true) (drop 1 (split 32 s))) (head_mark (split 32 s)) t t (record { count = 0; detail = m })
+  pub next_alone : (t : List ℕ) (m : ℕ) → m ≡ mark_entry s → Put (map (entry_by true) (drop 1 (split 32 s))) (head_mark (split 32 s)) t t (record { count = 0; detail = m })
   unfolding head_mark
-  next_alone t m q p =
-      subst (λ (ws : List (List ℕ)). Put (map (entry_by true) (drop 1 ws)) (head_mark ws) t t (record { count = 0; detail = m }))
-      (sym (split_alone 32 s e found q)) (put_none t _ m p)
+  next_alone t m p = subst (λ (ws : List (List ℕ)). Put (map (entry_by true) (drop 1 ws)) (head_mark ws) t t (record { count = 0; detail = m })) (sym alone) (put_none t _ m p)
 
-  pub next_room : (n : ℕ) → length (drop 1 (split 32 s)) ≤ n → e < length s → length (split 32 (after s e)) ≤ n
-  next_room n h q = omega (arith, ap length (split-first 32 s e found q), length-drop 1 (split 32 s))
-
-  pub next_slots : (t t' : List ℕ) (r : Given) (m : ℕ) → e < length s → m ≡ mark_entry (take (e - 0) (drop 0 s)) → Put (map (entry_by true) (split 32 (after s e))) 0 t t' r
-      → Put (map (entry_by true) (drop 1 (split 32 s))) (head_mark (split 32 s)) t t' (record { count = r.count; detail = m })
-  unfolding head_mark
-  next_slots t t' r m q p g =
-      subst (λ (ws : List (List ℕ)). Put (map (entry_by true) (drop 1 ws)) (head_mark ws) t t' (record { count = r.count; detail = m }))
-      (sym (split-first 32 s e found q)) (record { count = g.count; detail = p; table = g.table })
-
-  pub row_alone : (t : List ℕ) → e ≡ length s → Put (row_entries (split 32 s)) (row_detail (split 32 s)) t t (record { count = 0; detail = 0 })
+  pub row_alone : (t : List ℕ) → Put (row_entries (split 32 s)) (row_detail (split 32 s)) t t (record { count = 0; detail = 0 })
   unfolding row_entries row_detail
-  row_alone t q =
-      subst (λ (ws : List (List ℕ)). Put (row_entries ws) (row_detail ws) t t (record { count = 0; detail = 0 })) (sym (split_alone 32 s e found q))
+  row_alone t =
+      subst (λ (ws : List (List ℕ)). Put (row_entries ws) (row_detail ws) t t (record { count = 0; detail = 0 })) (sym alone)
       (put_by t t _ (sym (none-entries k)) (sym (none_detail k)) (put_none t 0 0 refl))
     where
       k : Option Kind
-      k = opened_kind (word_index (take (e - 0) (drop 0 s)))
+      k = opened_kind (word_index s)
 
-  module _ (t t' : List ℕ) (r : Given) (k : Option Kind) (more : e < length s) (is : k ≡ opened_kind (opening_word (split 32 s))) where
-    kind-first : k ≡ opened_kind (word_index (take (e - 0) (drop 0 s)))
+-- w: the first word, v: the text behind it
+module _ (s w v : List ℕ) (cut : split 32 s ≡ w ∷ split 32 v) where
+  pub for_pair : (t : List ℕ) (x y : ℕ) → 1 ≤ length t → x ≡ entry_by true w → y ≡ tier_entry v
+      → Put (map (entry_by true) (take 1 (split 32 s))) (tier_entry (join 32 (drop 1 (split 32 s)))) t (set t 0 x) (record { count = 1; detail = y })
+  for_pair t x y h p r =
+      subst (λ (ws : List (List ℕ)). Put (map (entry_by true) (take 1 ws)) (tier_entry (join 32 (drop 1 ws))) t (set t 0 x) (record { count = 1; detail = y }))
+      (sym cut) (put_one t x _ _ y h p (r ∙ ap tier_entry (sym (join-split 32 v))))
+
+  pub next_room : (n : ℕ) → length (drop 1 (split 32 s)) ≤ n → length (split 32 v) ≤ n
+  next_room n h = omega (arith, ap length cut, length-drop 1 (split 32 s))
+
+  pub next_slots : (t t' : List ℕ) (r : Given) (m : ℕ) → m ≡ mark_entry w → Put (map (entry_by true) (split 32 v)) 0 t t' r
+      → Put (map (entry_by true) (drop 1 (split 32 s))) (head_mark (split 32 s)) t t' (record { count = r.count; detail = m })
+  unfolding head_mark
+  next_slots t t' r m p g =
+      subst (λ (ws : List (List ℕ)). Put (map (entry_by true) (drop 1 ws)) (head_mark ws) t t' (record { count = r.count; detail = m }))
+      (sym cut) (record { count = g.count; detail = p; table = g.table })
+
+  module _ (t t' : List ℕ) (r : Given) (k : Option Kind) (is : k ≡ opened_kind (opening_word (split 32 s))) where
+    kind-first : k ≡ opened_kind (word_index w)
     unfolding opening_word
-    kind-first = is ∙ ap (λ (ws : List (List ℕ)). opened_kind (opening_word ws)) (split-first 32 s e found more)
+    kind-first = is ∙ ap (λ (ws : List (List ℕ)). opened_kind (opening_word ws)) cut
 
     -- what a kind's words come to is what the row comes to
-    pub row_words : Put (entries_of k (split 32 (after s e))) (details_of k (split 32 (after s e))) t t' r → Put (row_entries (split 32 s)) (row_detail (split 32 s)) t t' r
+    pub row_words : Put (entries_of k (split 32 v)) (details_of k (split 32 v)) t t' r → Put (row_entries (split 32 s)) (row_detail (split 32 s)) t t' r
     unfolding row_entries row_detail
     row_words g =
-        subst (λ (ws : List (List ℕ)). Put (row_entries ws) (row_detail ws) t t' r) (sym (split-first 32 s e found more))
-        (subst (λ (n : Option Kind). Put (entries_of n (split 32 (after s e))) (details_of n (split 32 (after s e))) t t' r) kind-first g)
+        subst (λ (ws : List (List ℕ)). Put (row_entries ws) (row_detail ws) t t' r) (sym cut)
+        (subst (λ (n : Option Kind). Put (entries_of n (split 32 v)) (details_of n (split 32 v)) t t' r) kind-first g)
 
-    pub row_room : (n : ℕ) → length (row_entries (split 32 s)) ≤ n → length (entries_of k (split 32 (after s e))) ≤ n
+    pub row_room : (n : ℕ) → length (row_entries (split 32 s)) ≤ n → length (entries_of k (split 32 v)) ≤ n
     unfolding row_entries
     row_room n h =
-        let q : row_entries (split 32 s) ≡ entries_of k (split 32 (after s e)) = ap row_entries (split-first 32 s e found more) ∙ ap (λ (g : Option Kind). entries_of g (split 32 (after s e))) (sym kind-first) in
+        let q : row_entries (split 32 s) ≡ entries_of k (split 32 v) = ap row_entries cut ∙ ap (λ (g : Option Kind). entries_of g (split 32 v)) (sym kind-first) in
         omega (arith, ap length q)
 
 -- by the kind
@@ -326,7 +290,7 @@ name_entry : (v : Name) → is_name v ≡ true → entry_by true v ≡ name_key 
 unfolding entry_by key_entry
 name_entry v h = rw (name_text v h)
 
-star_entry : entry_by true (42 ∷ []) ≡ 0
+pub star_entry : entry_by true (42 ∷ []) ≡ 0
 unfolding entry_by key_entry parse_name is_name is_capital
 star_entry = refl
 

@@ -1,14 +1,17 @@
 // Writes the records of a text that is accepted: row by row, into zeroed tables that can hold them.
 ghost use Rattle.std.specs.Prelude.{◌≡◌, true, false, ◌+◌, ◌*◌, ◌-◌, ◌≤◌, ◌<◌, length, set, eqb, Ok};
+ghost use Rattle.listings.specs.Read.{start};
 ghost use Rattle.listings.specs.Cut.{meant};
 ghost use Rattle.reader.specs.Filling.{Zeroed, Filled};
-ghost use Rattle.reader.specs.Fill.{entry_of, branch_stmts, end_table, end_walk, outside_walk, added_walk, inside_walk, add_simple, add_cond, OperandsPut, Wrote, Recorded, Ready, EndReady, ToReady, AddReady, HasRoom, RecordReady};
+ghost use Rattle.reader.specs.Fill.{held, entry_of, branch_columns, branch_stmts, end_table, to_table, end_walk, outside_walk, added_walk, inside_walk, add_simple, add_cond, OperandsPut, Wrote, Recorded, Ready, EndReady, ToReady, AddReady, HasRoom, RecordReady};
 ghost use Rattle.reader.specs.CodedRows.{cond_index};
+ghost use Rattle.reader.specs.Machine.{as_state};
+ghost use Rattle.reader.specs.States.{state_of};
 ghost use Rattle.reader.specs.RowOperands.{operands_in, row_operands, IsStatement, RowReady};
 
-use super::machine::{State, is_at, start_state, step_row};
+use super::machine::State;
 use super::operands::{Given, NO_ARGS, put_operands};
-use super::rows::{Cond, Position, Row, accepted_row, index_of};
+use super::rows::{Cond, FIRST_COND, Position, Row, accepted_row, index_of};
 use super::tables::{Entry, append, fetch, store};
 use layout::columns::{
     ARG_ENTRIES, END, FORM1, FORM2, HOLDER, INDEX, NUMBER1, NUMBER2, SECOND, STMTS_BRANCH,
@@ -16,25 +19,66 @@ use layout::columns::{
 };
 use tokens::scan::find;
 
-// In which IF the next statement stands (one more than its node, or 0), and the number it gets there.
+// In which IF the next statement stands, and the number it gets there.
 #[derive(Clone, Copy)]
 pub(crate) struct Walk {
-    pub(crate) holder: u16,
+    pub(crate) holder: Option<u16>,
     pub(crate) index: u16,
 }
 
 // Where no statement stands.
-pub(crate) const OUTSIDE: Walk = Walk {
-    holder: 0,
+const OUTSIDE: Walk = Walk {
+    holder: None,
     index: 0,
 };
 
-// The node of a holder, which is one more.
-fn node_of(holder: u16) -> usize
-    requires { 0 < holder }
-    ensures { result ≡ holder - 1 }
+// Where reading stands, and where the next statement goes.
+#[derive(Clone, Copy)]
+pub(crate) struct Place {
+    pub(crate) state: State,
+    pub(crate) walk: Walk,
+}
+
+impl Place {
+    // Before the first row.
+    pub(crate) fn start() -> Place
+        ensures { (state_of result.state ≡ as_state start) × (result.walk ≡ outside_walk) }
+    {
+        Place {
+            state: State::start(),
+            walk: OUTSIDE,
+        }
+    }
+}
+
+// What a branch holds: statements, or the number of a line.
+#[derive(Clone, Copy)]
+enum Branch {
+    Stmts,
+    To(u16),
+}
+
+impl Branch {
+    // Its form and its number as the record has them.
+    fn columns(self) -> (u16, u16)
+        ensures { result ≡ branch_columns self }
+    {
+        match self {
+            Branch::Stmts => (STMTS_BRANCH, 0),
+            Branch::To(n) => (TO_BRANCH, n),
+        }
+    }
+}
+
+// A holder as its records have it: one more, or 0 for none.
+fn holder_number(holder: Option<u16>) -> u16
+    requires { held holder ≤ 4096 }
+    ensures { result ≡ held holder }
 {
-    usize::from(holder) - 1
+    match holder {
+        None => 0,
+        Some(i) => i + 1,
+    }
 }
 
 // The index of the next statement of the same holder.
@@ -46,78 +90,79 @@ fn next_index(k: u16) -> u16
 }
 
 // The first branch of IF i ends before node n.
-fn end_first(t: &mut [u16], i: usize, form: u16, number: u16, n: usize)
+fn end_first(t: &mut [u16], i: usize, branch: Branch, n: usize)
     requires { (i * 12 + 12 ≤ length t.old) × (i ≤ 4096) × (n ≤ 4096) }
-    ensures { t.new ≡ branch_stmts t.old i false form number n }
+    ensures { t.new ≡ branch_stmts t.old i false (branch_columns branch).0 (branch_columns branch).1 n }
 {
+    let (form, number) = branch.columns();
     store(t, i, SECOND, n as u16);
     store(t, i, FORM1, form);
     store(t, i, NUMBER1, number);
 }
 
 // Its second branch ends.
-fn end_second(t: &mut [u16], i: usize, form: u16, number: u16)
+fn end_second(t: &mut [u16], i: usize, branch: Branch)
     requires { (i * 12 + 12 ≤ length t.old) × (i ≤ 4096) }
-    ensures { t.new ≡ branch_stmts t.old i true form number 0 }
+    ensures { t.new ≡ branch_stmts t.old i true (branch_columns branch).0 (branch_columns branch).1 0 }
 {
+    let (form, number) = branch.columns();
     store(t, i, FORM2, form);
     store(t, i, NUMBER2, number);
 }
 
 // `)`: the way back from an IF is in its own record.
-fn end_row(t: &mut [u16], s: State, w: Walk) -> Walk
-    requires { EndReady t.old s w }
-    ensures { (result ≡ end_walk t.old s w) × (t.new ≡ end_table t.old s w) }
+fn end_row(t: &mut [u16], p: &Place) -> Walk
+    requires { EndReady t.old (state_of p.now.state) p.now.walk }
+    ensures { (result ≡ end_walk t.old (state_of p.now.state) p.now.walk) × (t.new ≡ end_table t.old (state_of p.now.state) p.now.walk) }
 {
-    if is_at(s, Position::InStmts) {
-        if s.depth == 0 {
-            return OUTSIDE;
-        }
-        let i = node_of(w.holder);
-        if s.open_conds % 2 == 1 {
-            end_second(t, i, STMTS_BRANCH, 0);
-        } else {
-            end_first(t, i, STMTS_BRANCH, 0, s.stmts);
-        }
-        return w;
-    }
-    if is_at(s, Position::InCond) {
-        let i = node_of(w.holder);
-        let h = fetch(t, i, HOLDER);
+    let Some(node) = p.walk.holder else {
+        return OUTSIDE;
+    };
+    let i = usize::from(node);
+    if p.state.is_at(Position::InCond) {
+        let holder = fetch(t, i, HOLDER).checked_sub(1);
         let k = fetch(t, i, INDEX);
-        store(t, i, END, s.stmts as u16);
+        store(t, i, END, p.state.stmts as u16);
         return Walk {
-            holder: h,
+            holder,
             index: next_index(k),
         };
     }
-    OUTSIDE
+    if p.state.open_conds % 2 == 1 {
+        end_second(t, i, Branch::Stmts);
+    } else {
+        end_first(t, i, Branch::Stmts, p.state.stmts);
+    }
+    p.walk
 }
 
 // `(to N)`
-fn to_row(t: &mut [u16], s: State, w: Walk, n: u16) -> Walk
-    requires { ToReady t.old s w }
-    ensures { (result ≡ w) × (t.new ≡ branch_stmts t.old (w.holder - 1) (eqb s.branches 1) 2 n s.stmts) }
+fn to_row(t: &mut [u16], p: &Place, n: u16) -> Walk
+    requires { ToReady t.old (state_of p.now.state) p.now.walk }
+    ensures { (result ≡ p.now.walk) × (t.new ≡ to_table t.old (state_of p.now.state) p.now.walk n) }
 {
-    let i = node_of(w.holder);
-    if s.branches == 1 {
-        end_second(t, i, TO_BRANCH, n);
+    let Some(node) = p.walk.holder else {
+        return p.walk;
+    };
+    let i = usize::from(node);
+    if p.state.branches == 1 {
+        end_second(t, i, Branch::To(n));
     } else {
-        end_first(t, i, TO_BRANCH, n, s.stmts);
+        end_first(t, i, Branch::To(n), p.state.stmts);
     }
-    w
+    p.walk
 }
 
 // What is known of a statement at its row.
-fn record_entry(s: State, w: Walk, word: usize, end: usize, g: Given) -> Entry
-    requires { (0 < s.lines) × (s.lines ≤ 1024) × (word ≤ 28) × (end ≤ 4096) × (g.count ≤ 64) }
-    ensures { result ≡ entry_of s w word end g }
+fn record_entry(p: &Place, word: usize, end: usize, g: Given) -> Entry
+    requires { (0 < p.now.state.lines) × (p.now.state.lines ≤ 1024) × (held p.now.walk.holder ≤ 4096) × (word ≤ 28) × (end ≤ 4096) × (g.count ≤ 64) }
+    ensures { result ≡ entry_of (state_of p.now.state) p.now.walk word end g }
 {
     Entry {
         word: word as u16,
-        line: (s.lines - 1) as u16,
-        holder: w.holder,
-        index: w.index,
+        line: (p.state.lines - 1) as u16,
+        holder: holder_number(p.walk.holder),
+        index: p.walk.index,
         end: end as u16,
         count: g.count as u16,
         detail: g.detail,
@@ -125,26 +170,28 @@ fn record_entry(s: State, w: Walk, word: usize, end: usize, g: Given) -> Entry
 }
 
 // The record of a statement that holds none; the next one stands beside it.
-pub(crate) fn add_simple(stmts: &mut [u16], s: State, w: Walk, word: usize, given: Given) -> Walk
-    requires { AddReady stmts.old s w word × (given.count ≤ 64) }
-    ensures { (result ≡ added_walk w) × (stmts.new ≡ add_simple stmts.old s w word given) }
+pub(crate) fn add_simple(stmts: &mut [u16], p: &Place, word: usize, given: Given) -> Walk
+    requires { AddReady stmts.old (state_of p.now.state) p.now.walk word × (given.count ≤ 64) }
+    ensures { (result ≡ added_walk p.now.walk) × (stmts.new ≡ add_simple stmts.old (state_of p.now.state) p.now.walk word given) }
 {
-    append(stmts, s.stmts, record_entry(s, w, word, s.stmts + 1, given));
+    let n = p.state.stmts;
+    append(stmts, n, record_entry(p, word, n + 1, given));
     Walk {
-        holder: w.holder,
-        index: next_index(w.index),
+        holder: p.walk.holder,
+        index: next_index(p.walk.index),
     }
 }
 
 // The record of an IF, whose branches are not read yet; the next statement stands inside it.
-fn add_cond(stmts: &mut [u16], s: State, w: Walk, word: Cond) -> Walk
-    requires { AddReady stmts.old s w (cond_index word + 2) }
-    ensures { (result ≡ inside_walk s) × (stmts.new ≡ add_cond stmts.old s w word) }
+fn add_cond(stmts: &mut [u16], p: &Place, word: Cond) -> Walk
+    requires { AddReady stmts.old (state_of p.now.state) p.now.walk (cond_index word + 2) }
+    ensures { (result ≡ inside_walk (state_of p.now.state)) × (stmts.new ≡ add_cond stmts.old (state_of p.now.state) p.now.walk word) }
 {
-    let k = index_of(word) as usize + 2;
-    append(stmts, s.stmts, record_entry(s, w, k, 0, NO_ARGS));
+    let k = index_of(word) as usize + FIRST_COND;
+    let n = p.state.stmts;
+    append(stmts, n, record_entry(p, k, 0, NO_ARGS));
     Walk {
-        holder: (s.stmts + 1) as u16,
+        holder: Some(n as u16),
         index: 0,
     }
 }
@@ -162,22 +209,21 @@ fn add_line(lines: &mut [u16], at: usize, n: u16) -> Walk
 pub(crate) fn write_row(
     lines: &mut [u16],
     stmts: &mut [u16],
-    s: State,
-    w: Walk,
+    p: &Place,
     row: Row,
     given: Given,
 ) -> Walk
-    requires { Ready lines.old stmts.old s w (Ok row) given }
-    ensures { Wrote lines.old stmts.old s w (Ok row) given lines.new stmts.new result }
+    requires { Ready lines.old stmts.old (state_of p.now.state) p.now.walk (Ok row) given }
+    ensures { Wrote lines.old stmts.old (state_of p.now.state) p.now.walk (Ok row) given lines.new stmts.new result }
 {
     match row {
-        Row::End => end_row(stmts, s, w),
-        Row::Stmts => w,
+        Row::End => end_row(stmts, p),
+        Row::Stmts => p.walk,
         Row::Module(_) => OUTSIDE,
-        Row::Line(n) => add_line(lines, s.lines, n),
-        Row::To(n) => to_row(stmts, s, w, n),
-        Row::Simple { word, count: _ } => add_simple(stmts, s, w, word, given),
-        Row::Cond(word) => add_cond(stmts, s, w, word),
+        Row::Line(n) => add_line(lines, p.state.lines, n),
+        Row::To(n) => to_row(stmts, p, n),
+        Row::Simple { word, count: _ } => add_simple(stmts, p, word, given),
+        Row::Cond(word) => add_cond(stmts, p, word),
     }
 }
 
@@ -197,31 +243,29 @@ fn write_text_row(
     lines: &mut [u16],
     stmts: &mut [u16],
     args: &mut [u64],
-    s: State,
-    w: Walk,
+    p: &Place,
     row: Row,
 ) -> Walk
-    requires { RowReady text.now (Ok row) × RecordReady lines.old stmts.old args.old s w (Ok row) (row_operands text.now (Ok row)) }
-    ensures { Recorded lines.old stmts.old args.old s w (Ok row) (row_operands text.now (Ok row)) lines.new stmts.new args.new result }
+    requires { RowReady text.now (Ok row) × RecordReady lines.old stmts.old args.old (state_of p.now.state) p.now.walk (Ok row) (row_operands text.now (Ok row)) }
+    ensures { Recorded lines.old stmts.old args.old (state_of p.now.state) p.now.walk (Ok row) (row_operands text.now (Ok row)) lines.new stmts.new args.new result }
 {
     let Row::Simple { word, count: _ } = row else {
-        return write_row(lines, stmts, s, w, row, NO_ARGS);
+        return write_row(lines, stmts, p, row, NO_ARGS);
     };
-    let given = put_row_operands(word, text, args, s.stmts);
-    add_simple(stmts, s, w, word, given)
+    let given = put_row_operands(word, text, args, p.state.stmts);
+    add_simple(stmts, p, word, given)
 }
 
 // The rows again, each of which was taken before.
-// Kept: no `split`, as in `judge`: the last piece is no row.
+// Kept: no `split`, as in `judge`: the last piece is no row. Of all pieces of `split_inclusive` std has no law.
 pub(crate) fn fill(text: &[u8], lines: &mut [u16], stmts: &mut [u16], args: &mut [u64])
     requires { Zeroed (meant text.now) lines.old stmts.old args.old }
     ensures { Filled (meant text.now) lines.old stmts.old args.old lines.new stmts.new args.new }
 {
-    let mut s = start_state();
-    let mut w = OUTSIDE;
+    let mut p = Place::start();
     let mut at: usize = 0;
     loop {
-        let e = find(&text[at..], 10);
+        let e = find(&text[at..], b'\n');
         let to = at + e;
         if to == text.len() {
             return;
@@ -229,11 +273,10 @@ pub(crate) fn fill(text: &[u8], lines: &mut [u16], stmts: &mut [u16], args: &mut
         let Ok(row) = accepted_row(&text[at..to]) else {
             return;
         };
-        let Ok(next) = step_row(s, row) else {
+        p.walk = write_text_row(&text[at..to], lines, stmts, args, &p, row);
+        let Ok(()) = p.state.step_row(row) else {
             return;
         };
-        w = write_text_row(&text[at..to], lines, stmts, args, s, w, row);
-        s = next;
         at = to + 1;
     }
 }

@@ -6,7 +6,7 @@ ghost use Rattle.reader.specs.Answer.{by_number, listed_of};
 ghost use Rattle.reader.specs.Inputs.{is_program, bytes_of};
 ghost use Rattle.reader.specs.Filling.{Zeroed, Filled};
 ghost use Rattle.reader.specs.Listed.{Judged as JudgedInput, RecordsWritten};
-ghost use Rattle.reader.specs.FileLoop.{listed_program_of};
+ghost use Rattle.reader.specs.FileLoop.{accepted_counts};
 
 use super::file_rows::fill_program;
 use super::fill::fill;
@@ -31,16 +31,17 @@ pub struct Accepted {
     pub stmts: usize,
 }
 
-// What judging a program answers, as the reader tells it: a program has no handlers.
-fn listed_program(j: Result<Counts, Refusal>) -> Result<Accepted, Refusal>
-    ensures { result ≡ listed_program_of j }
-{
-    let c = j?;
-    Ok(Accepted {
-        handlers: false,
-        lines: c.lines,
-        stmts: c.stmts,
-    })
+// A program has no handlers.
+impl From<Counts> for Accepted {
+    ghost from_gives = { λ c a. a ≡ accepted_counts c };
+
+    fn from(c: Counts) -> Accepted {
+        Accepted {
+            handlers: false,
+            lines: c.lines,
+            stmts: c.stmts,
+        }
+    }
 }
 
 // An input, accepted or refused.
@@ -49,7 +50,7 @@ fn judge_input(input: Input<'_>) -> Result<Accepted, Refusal>
 {
     match input {
         Input::Text(text) => judge(text),
-        Input::Program(file) => listed_program(judge_program(file)),
+        Input::Program(file) => judge_program(file).map(Accepted::from),
     }
 }
 

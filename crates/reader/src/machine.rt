@@ -1,8 +1,8 @@
 // The row machine: where reading stands, and what each row does to it.
-ghost use Rattle.std.specs.Prelude.{◌≡◌, ◌≤◌, ◌<◌, eqb, Ok};
+ghost use Rattle.std.specs.Prelude.{◌≡◌, ◌≤◌, ◌<◌, ◌^◌, eqb, Ok};
 ghost use Rattle.listings.specs.Read.{start};
 ghost use Rattle.reader.specs.CodedRows.{place_number};
-ghost use Rattle.reader.specs.Machine.{as_state, outside, moved, one_more, step_module, ascends, step_line, step_simple, step_cond, may_branch, is_complete, step_stmts, step_to, reason_at, end_of_stmts, step_end, step_row};
+ghost use Rattle.reader.specs.Machine.{deepest, due, room, as_state, outside, moved, one_more, stepped, step_module, ascends, step_line, step_simple, step_cond, may_branch, is_complete, step_stmts, step_to, reason_at, end_of_stmts, step_end, step_row};
 
 use super::rows::{Cond, Misfit, Position, Row, cond_of, index_of};
 use layout::limits::{MAX_ARGS, MAX_DEPTH, MAX_LINES, MAX_STMTS};
@@ -22,145 +22,16 @@ pub(crate) struct State {
     pub(crate) open_conds: u64,
     pub(crate) word: Cond,
     pub(crate) branches: u64,
-}
-
-// Whether the next row stands there.
-pub(crate) fn is_at(s: State, position: Position) -> bool
-    ensures { result ≡ eqb (place_number s.position) (place_number position) }
-{
-    s.position == position
-}
-
-// Before the first row.
-pub(crate) fn start_state() -> State
-    ensures { result ≡ as_state start }
-{
-    State {
-        position: Position::Begin,
-        handlers: false,
-        last: None,
-        lines: 0,
-        stmts: 0,
-        depth: 0,
-        open_conds: 0,
-        word: Cond::If,
-        branches: 0,
-    }
-}
-
-// Outside of all lines.
-fn outside(s: State, position: Position) -> State
-    ensures { result ≡ outside s position }
-{
-    State {
-        position,
-        depth: 0,
-        open_conds: 0,
-        word: Cond::If,
-        branches: 0,
-        ..s
-    }
-}
-
-// At another position, as deep as before.
-fn moved(s: State, position: Position, word: Cond, branches: u64) -> State
-    ensures { result ≡ moved s position word branches }
-{
-    State {
-        position,
-        word,
-        branches,
-        ..s
-    }
-}
-
-// With one statement more.
-fn one_more(s: State, position: Position, word: Cond) -> State
-    requires { s.stmts < 4096 }
-    ensures { result ≡ one_more s position word }
-{
-    State {
-        stmts: s.stmts + 1,
-        ..moved(s, position, word, 0)
-    }
-}
-
-// The module's row comes first, and once.
-fn step_module(s: State, h: bool) -> Result<State, Reason>
-    ensures { result ≡ step_module s h }
-{
-    if !is_at(s, Position::Begin) {
-        return Err(Reason::NotAForm);
-    }
-    Ok(State {
-        handlers: h,
-        ..outside(s, Position::InModule)
-    })
+    pub ghost shallow: { depth ≤ deepest position },
+    pub ghost fits: { open_conds < 8 ^ depth },
+    pub ghost two: { branches ≤ 2 },
 }
 
 // Whether a line's number is above the last one's.
 fn ascends(last: Option<u16>, n: u16) -> bool
     ensures { result ≡ ascends last n }
 {
-    match last {
-        None => true,
-        Some(m) => m < n,
-    }
-}
-
-// A line above the last one; line 1,025 is one too many.
-fn step_line(s: State, n: u16) -> Result<State, Reason>
-    ensures { result ≡ step_line s n }
-{
-    if !is_at(s, Position::InModule) {
-        return Err(Reason::NotAForm);
-    }
-    if !ascends(s.last, n) {
-        return Err(Reason::LineOrder);
-    }
-    if MAX_LINES <= s.lines {
-        return Err(Reason::TooManyLines);
-    }
-    Ok(State {
-        last: Some(n),
-        lines: s.lines + 1,
-        ..outside(s, Position::InStmts)
-    })
-}
-
-// A statement that holds none; the reasons are tested in the order of their numbers.
-fn step_simple(s: State, count: usize) -> Result<State, Reason>
-    ensures { result ≡ step_simple s count }
-{
-    if !is_at(s, Position::InStmts) {
-        return Err(Reason::NotAForm);
-    }
-    if MAX_STMTS <= s.stmts {
-        return Err(Reason::TooManyStatements);
-    }
-    if MAX_DEPTH < s.depth {
-        return Err(Reason::TooDeep);
-    }
-    if MAX_ARGS < count {
-        return Err(Reason::TooWide);
-    }
-    Ok(one_more(s, Position::InStmts, Cond::If))
-}
-
-// An IF opens; its branches are due next.
-fn step_cond(s: State, word: Cond) -> Result<State, Reason>
-    ensures { result ≡ step_cond s word }
-{
-    if !is_at(s, Position::InStmts) {
-        return Err(Reason::NotAForm);
-    }
-    if MAX_STMTS <= s.stmts {
-        return Err(Reason::TooManyStatements);
-    }
-    if MAX_DEPTH < s.depth {
-        return Err(Reason::TooDeep);
-    }
-    Ok(one_more(s, Position::InCond, word))
+    last.is_none_or(|m| m < n)
 }
 
 // May one more branch follow: IF has one, the others two.
@@ -184,85 +55,214 @@ fn is_complete(word: Cond, branches: u64) -> bool
     }
 }
 
-// A branch opens: the IF goes to the packed shape until it ends.
-fn step_stmts(s: State) -> Result<State, Reason>
-    requires { (s.open_conds < 2251799813685248) × (s.branches ≤ 2) × (s.depth ≤ 17) }
-    ensures { result ≡ step_stmts s }
-{
-    if !is_at(s, Position::InCond) || !may_branch(s.word, s.branches) {
-        return Err(Reason::NotAForm);
-    }
-    Ok(State {
-        depth: s.depth + 1,
-        open_conds: index_of(s.word) * 2 + s.branches + 8 * s.open_conds,
-        ..moved(s, Position::InStmts, Cond::If, 0)
-    })
-}
+impl State {
+    ghost use Rattle.reader.specs.States.{state_of};
 
-// A branch that only names a line.
-fn step_to(s: State) -> Result<State, Reason>
-    requires { s.branches ≤ 2 }
-    ensures { result ≡ step_to s }
-{
-    if !is_at(s, Position::InCond) || !may_branch(s.word, s.branches) {
-        return Err(Reason::NotAForm);
+    // Before the first row.
+    pub(crate) fn start() -> State
+        ensures { state_of result ≡ as_state start }
+    {
+        State {
+            position: Position::Begin,
+            handlers: false,
+            last: None,
+            lines: 0,
+            stmts: 0,
+            depth: 0,
+            open_conds: 0,
+            word: Cond::If,
+            branches: 0,
+        }
     }
-    Ok(moved(s, Position::InCond, s.word, s.branches + 1))
-}
 
-// Why a row is refused here: for its own reason where it is due, and there only where a branch may follow. Outside of branches both counts are 0, and one may.
-pub(crate) fn reason_at(s: State, m: Misfit) -> Reason
-    ensures { result ≡ reason_at s m }
-{
-    if !is_at(s, m.due) || !may_branch(s.word, s.branches) {
-        return Reason::NotAForm;
+    // Whether the next row stands there.
+    pub(crate) fn is_at(&self, position: Position) -> bool
+        ensures { result ≡ eqb (place_number self.now.position) (place_number position) }
+    {
+        self.position == position
     }
-    m.reason
-}
 
-// `)` after statements: a line ends, or the innermost IF goes on.
-fn end_of_stmts(s: State) -> Result<State, Reason>
-    ensures { result ≡ end_of_stmts s }
-{
-    if s.depth == 0 {
-        return Ok(outside(s, Position::InModule));
+    // A row is a form only where such a row is due.
+    fn is_due(&self, position: Position) -> Result<(), Reason>
+        ensures { result ≡ due (eqb (place_number self.now.position) (place_number position)) }
+    {
+        if self.is_at(position) {
+            return Ok(());
+        }
+        Err(Reason::NotAForm)
     }
-    let top = s.open_conds % 8;
-    Ok(State {
-        depth: s.depth - 1,
-        open_conds: s.open_conds / 8,
-        ..moved(s, Position::InCond, cond_of(top / 2), top % 2 + 1)
-    })
-}
 
-// A `)`: of statements, of an IF with all its branches, or of the module.
-fn step_end(s: State) -> Result<State, Reason>
-    ensures { result ≡ step_end s }
-{
-    if is_at(s, Position::InStmts) {
-        return end_of_stmts(s);
+    // Whether there is room for one statement more; the reasons in the order of their numbers.
+    fn has_room(&self) -> Result<(), Reason>
+        ensures { result ≡ room (state_of self.now) }
+    {
+        if MAX_STMTS <= self.stmts {
+            return Err(Reason::TooManyStatements);
+        }
+        if MAX_DEPTH < self.depth {
+            return Err(Reason::TooDeep);
+        }
+        Ok(())
     }
-    if is_at(s, Position::InCond) && is_complete(s.word, s.branches) {
-        return Ok(moved(s, Position::InStmts, Cond::If, 0));
-    }
-    if is_at(s, Position::InModule) {
-        return Ok(outside(s, Position::Ended));
-    }
-    Err(Reason::NotAForm)
-}
 
-// Every step keeps what is required here of the state; 2251799813685248 is 8 to the power 17.
-pub(crate) fn step_row(s: State, row: Row) -> Result<State, Reason>
-    requires { (s.open_conds < 2251799813685248) × (s.branches ≤ 2) × (s.depth ≤ 17) }
-    ensures { result ≡ step_row s (Ok row) }
-{
-    match row {
-        Row::End => step_end(s),
-        Row::Stmts => step_stmts(s),
-        Row::Module(h) => step_module(s, h),
-        Row::Line(n) => step_line(s, n),
-        Row::To(_) => step_to(s),
-        Row::Simple { word: _, count } => step_simple(s, count),
-        Row::Cond(word) => step_cond(s, word),
+    // Outside of all lines.
+    fn outside(&mut self, position: Position)
+        ensures { state_of self.new ≡ outside (state_of self.old) position }
+    {
+        self.depth = 0;
+        self.open_conds = 0;
+        self.moved(position, Cond::If, 0);
+    }
+
+    // At another position, as deep as before.
+    fn moved(&mut self, position: Position, word: Cond, branches: u64)
+        requires { (branches ≤ 2) × (self.old.depth ≤ deepest position) }
+        ensures { state_of self.new ≡ moved (state_of self.old) position word branches }
+    {
+        self.position = position;
+        self.word = word;
+        self.branches = branches;
+    }
+
+    // With one statement more.
+    fn one_more(&mut self, position: Position, word: Cond)
+        requires { (self.old.stmts < 4096) × (self.old.depth ≤ deepest position) }
+        ensures { state_of self.new ≡ one_more (state_of self.old) position word }
+    {
+        self.stmts += 1;
+        self.moved(position, word, 0);
+    }
+
+    // The module's row comes first, and once.
+    fn step_module(&mut self, h: bool) -> Result<(), Reason>
+        ensures { stepped result (state_of self.new) ≡ step_module (state_of self.old) h }
+    {
+        self.is_due(Position::Begin)?;
+        self.handlers = h;
+        self.outside(Position::InModule);
+        Ok(())
+    }
+
+    // A line above the last one; line 1,025 is one too many.
+    fn step_line(&mut self, n: u16) -> Result<(), Reason>
+        ensures { stepped result (state_of self.new) ≡ step_line (state_of self.old) n }
+    {
+        self.is_due(Position::InModule)?;
+        if !ascends(self.last, n) {
+            return Err(Reason::LineOrder);
+        }
+        if MAX_LINES <= self.lines {
+            return Err(Reason::TooManyLines);
+        }
+        self.last = Some(n);
+        self.lines += 1;
+        self.outside(Position::InStmts);
+        Ok(())
+    }
+
+    // A statement that holds none.
+    fn step_simple(&mut self, count: usize) -> Result<(), Reason>
+        ensures { stepped result (state_of self.new) ≡ step_simple (state_of self.old) count }
+    {
+        self.is_due(Position::InStmts)?;
+        self.has_room()?;
+        if MAX_ARGS < count {
+            return Err(Reason::TooWide);
+        }
+        self.one_more(Position::InStmts, Cond::If);
+        Ok(())
+    }
+
+    // An IF opens; its branches are due next.
+    fn step_cond(&mut self, word: Cond) -> Result<(), Reason>
+        ensures { stepped result (state_of self.new) ≡ step_cond (state_of self.old) word }
+    {
+        self.is_due(Position::InStmts)?;
+        self.has_room()?;
+        self.one_more(Position::InCond, word);
+        Ok(())
+    }
+
+    // A branch opens: the IF goes to the packed shape until it ends.
+    fn step_stmts(&mut self) -> Result<(), Reason>
+        ensures { stepped result (state_of self.new) ≡ step_stmts (state_of self.old) }
+    {
+        if !self.is_at(Position::InCond) || !may_branch(self.word, self.branches) {
+            return Err(Reason::NotAForm);
+        }
+        let code = index_of(self.word) * 2 + self.branches;
+        self.moved(Position::InStmts, Cond::If, 0);
+        self.depth += 1;
+        self.open_conds = code + 8 * self.open_conds;
+        Ok(())
+    }
+
+    // A branch that only names a line.
+    fn step_to(&mut self) -> Result<(), Reason>
+        ensures { stepped result (state_of self.new) ≡ step_to (state_of self.old) }
+    {
+        if !self.is_at(Position::InCond) || !may_branch(self.word, self.branches) {
+            return Err(Reason::NotAForm);
+        }
+        self.branches += 1;
+        Ok(())
+    }
+
+    // Why a row is refused here: for its own reason where it is due, and there only where a branch may follow. Outside of branches both counts are 0, and one may.
+    pub(crate) fn reason_at(&self, m: Misfit) -> Reason
+        ensures { result ≡ reason_at (state_of self.now) m }
+    {
+        if !self.is_at(m.due) || !may_branch(self.word, self.branches) {
+            return Reason::NotAForm;
+        }
+        m.reason
+    }
+
+    // `)` after statements: a line ends, or the innermost IF goes on.
+    fn end_of_stmts(&mut self)
+        ensures { Ok (state_of self.new) ≡ end_of_stmts (state_of self.old) }
+    {
+        if self.depth == 0 {
+            self.outside(Position::InModule);
+            return;
+        }
+        let top = self.open_conds % 8;
+        self.depth -= 1;
+        self.open_conds /= 8;
+        self.moved(Position::InCond, cond_of(top / 2), top % 2 + 1);
+    }
+
+    // A `)`: of statements, of an IF with all its branches, or of the module.
+    fn step_end(&mut self) -> Result<(), Reason>
+        ensures { stepped result (state_of self.new) ≡ step_end (state_of self.old) }
+    {
+        if self.is_at(Position::InStmts) {
+            self.end_of_stmts();
+            return Ok(());
+        }
+        if self.is_at(Position::InCond) && is_complete(self.word, self.branches) {
+            self.moved(Position::InStmts, Cond::If, 0);
+            return Ok(());
+        }
+        if self.is_at(Position::InModule) {
+            self.outside(Position::Ended);
+            return Ok(());
+        }
+        Err(Reason::NotAForm)
+    }
+
+    // What a row does, whatever it says.
+    pub(crate) fn step_row(&mut self, row: Row) -> Result<(), Reason>
+        ensures { stepped result (state_of self.new) ≡ step_row (state_of self.old) (Ok row) }
+    {
+        match row {
+            Row::End => self.step_end(),
+            Row::Stmts => self.step_stmts(),
+            Row::Module(h) => self.step_module(h),
+            Row::Line(n) => self.step_line(n),
+            Row::To(_) => self.step_to(),
+            Row::Simple { word: _, count } => self.step_simple(count),
+            Row::Cond(word) => self.step_cond(word),
+        }
     }
 }

@@ -1,13 +1,14 @@
 // What a row says, wherever it stands.
-ghost use Rattle.std.specs.Prelude.{◌≡◌, ◌-◌, ◌<◌, ◌≤◌, eqb};
-ghost use Rattle.listings.specs.Rows.{split, module_content, form_row, row_of, content_of};
-ghost use Rattle.tokens.specs.Kinds.{opened_kind};
-ghost use Rattle.reader.specs.CodedRows.{as_row, cond_by, cond_index, is_closed, simple_by, to_by_number, line_by_number, closed_args, opened_args, args_row, closed_bare, opened_bare, bare_row, words_end};
+ghost use Rattle.std.specs.Prelude.{◌≡◌, ◌-◌, ◌<◌, ◌≤◌, eqb, Some};
+ghost use Rattle.listings.specs.Rows.{split, single, module_content, form_row, row_of, content_of};
+ghost use Rattle.tokens.specs.Numbers.{as_number};
+ghost use Rattle.reader.specs.CodedRows.{as_row, cond_by, cond_index, is_closed, simple_by, number_due, closed_args, opened_args, args_row, closed_bare, opened_bare, bare_row, words_end};
 ghost use Rattle.reader.specs.AcceptedRows.{WellFormed, uncounted};
 
 use layout::refusals::Reason;
 use tokens::arguments::{Checked, are_words, check_kind, single_number};
-use tokens::scan::{equal, find};
+use tokens::numbers::flag_of;
+use tokens::scan::{equal, first_word};
 use tokens::words::{Kind, candidate, kind_of, word_of};
 
 // Where a row stands.
@@ -54,6 +55,9 @@ const NO_FORM: Misfit = Misfit {
     due: Position::InStmts,
 };
 
+// The number of IF among the opening words; IFELSE and RCOMP follow.
+pub(crate) const FIRST_COND: usize = 2;
+
 // The word of this number among those with branches.
 pub(crate) fn cond_of(n: u64) -> Cond
     ensures { result ≡ cond_by n }
@@ -87,7 +91,7 @@ enum Bracket {
 fn bracket_of(b: u8) -> Bracket
     ensures { is_closed result ≡ eqb b 41 }
 {
-    if b == 41 {
+    if b == b')' {
         return Bracket::Closed;
     }
     Bracket::Open
@@ -107,40 +111,18 @@ fn simple_row(k: usize, words: Checked) -> Result<Row, Misfit>
     })
 }
 
-// A `to` row by its number.
-fn to_row(n: Result<u16, Reason>) -> Result<Row, Misfit>
-    ensures { result ≡ to_by_number n }
+// The one number of a row that is due there.
+fn due_number(s: &[u8], due: Position) -> Result<u16, Misfit>
+    ensures { result ≡ number_due due (as_number (single (split 32 s.now))) }
 {
-    n.map(Row::To).map_err(|reason| Misfit {
-        reason,
-        due: Position::InCond,
-    })
-}
-
-// A line's row by its number.
-fn line_row(n: Result<u16, Reason>) -> Result<Row, Misfit>
-    ensures { result ≡ line_by_number n }
-{
-    n.map(Row::Line).map_err(|reason| Misfit {
-        reason,
-        due: Position::InModule,
-    })
+    single_number(s).map_err(|reason| Misfit { reason, due })
 }
 
 // `(module H`
 fn module_row(s: &[u8]) -> Result<Row, Misfit>
     ensures { result ≡ as_row (module_content (split 32 s.now)) }
 {
-    if find(s, 32) < s.len() {
-        return Err(NO_FORM);
-    }
-    if equal(b"0", s) {
-        return Ok(Row::Module(false));
-    }
-    if equal(b"1", s) {
-        return Ok(Row::Module(true));
-    }
-    Err(NO_FORM)
+    flag_of(s).map(Row::Module).ok_or(NO_FORM)
 }
 
 // A closed form with words after its opening word.
@@ -148,7 +130,7 @@ fn closed_args(kind: Kind, k: usize, s: &[u8]) -> Result<Row, Misfit>
     ensures { result ≡ closed_args kind k (split 32 s.now) }
 {
     match kind {
-        Kind::To => to_row(single_number(s)),
+        Kind::To => due_number(s, Position::InCond).map(Row::To),
         _ => simple_row(k, check_kind(kind, s)),
     }
 }
@@ -159,16 +141,16 @@ fn opened_args(kind: Kind, s: &[u8]) -> Result<Row, Misfit>
 {
     match kind {
         Kind::Module => module_row(s),
-        Kind::Line => line_row(single_number(s)),
+        Kind::Line => due_number(s, Position::InModule).map(Row::Line),
         _ => Err(NO_FORM),
     }
 }
 
 // A form with words after its opening word.
-fn args_row(k: usize, bracket: Bracket, s: &[u8]) -> Result<Row, Misfit>
-    ensures { result ≡ args_row (opened_kind k) k (is_closed bracket) (split 32 s.now) }
+#[tactic(auto, unfolding(crate::specs::CodedRows::args_row))]
+fn args_row(kind: Kind, k: usize, bracket: Bracket, s: &[u8]) -> Result<Row, Misfit>
+    ensures { result ≡ args_row (Some kind) k (is_closed bracket) (split 32 s.now) }
 {
-    let kind = kind_of(k).ok_or(NO_FORM)?;
     match bracket {
         Bracket::Closed => closed_args(kind, k, s),
         Bracket::Open => opened_args(kind, s),
@@ -180,29 +162,35 @@ fn closed_bare(kind: Kind, k: usize) -> Result<Row, Misfit>
     ensures { result ≡ closed_bare kind k }
 {
     match kind {
-        Kind::To => to_row(Err(Reason::NotAForm)),
+        Kind::To => Err(Misfit {
+            reason: Reason::NotAForm,
+            due: Position::InCond,
+        }),
         Kind::Bare | Kind::Numbers | Kind::Run => Ok(Row::Simple { word: k, count: 0 }),
         _ => Err(NO_FORM),
     }
 }
 
-// One that is not closed on its row. IF, IFELSE and RCOMP are the opening words 2 to 4.
+// One that is not closed on its row.
 fn opened_bare(kind: Kind, k: usize) -> Result<Row, Misfit>
     ensures { result ≡ opened_bare kind k }
 {
     match kind {
-        Kind::Line => line_row(Err(Reason::NotAForm)),
+        Kind::Line => Err(Misfit {
+            reason: Reason::NotAForm,
+            due: Position::InModule,
+        }),
         Kind::Stmts => Ok(Row::Stmts),
-        Kind::Cond => Ok(Row::Cond(cond_of(k.saturating_sub(2) as u64))),
+        Kind::Cond => Ok(Row::Cond(cond_of(k.saturating_sub(FIRST_COND) as u64))),
         _ => Err(NO_FORM),
     }
 }
 
 // A form of its opening word alone.
-fn bare_row(k: usize, bracket: Bracket) -> Result<Row, Misfit>
-    ensures { result ≡ bare_row (opened_kind k) k (is_closed bracket) }
+#[tactic(auto, unfolding(crate::specs::CodedRows::bare_row))]
+fn bare_row(kind: Kind, k: usize, bracket: Bracket) -> Result<Row, Misfit>
+    ensures { result ≡ bare_row (Some kind) k (is_closed bracket) }
 {
-    let kind = kind_of(k).ok_or(NO_FORM)?;
     match bracket {
         Bracket::Closed => closed_bare(kind, k),
         Bracket::Open => opened_bare(kind, k),
@@ -216,13 +204,14 @@ fn form_row(s: &[u8], bracket: Bracket) -> Result<Row, Misfit>
     if !are_words(s) {
         return Err(NO_FORM);
     }
-    let e = find(s, 32);
-    let k = word_of(&s[0..e]).ok_or(NO_FORM)?;
-    if e == s.len() {
-        return bare_row(k, bracket);
-    }
-    let from = e + 1;
-    args_row(k, bracket, &s[from..])
+    let Some((word, words)) = first_word(s) else {
+        let k = word_of(s).ok_or(NO_FORM)?;
+        let kind = kind_of(k).ok_or(NO_FORM)?;
+        return bare_row(kind, k, bracket);
+    };
+    let k = word_of(word).ok_or(NO_FORM)?;
+    let kind = kind_of(k).ok_or(NO_FORM)?;
+    args_row(kind, k, bracket, words)
 }
 
 // Where the words of a row of n bytes end.
@@ -244,7 +233,7 @@ pub(crate) fn row_of(s: &[u8]) -> Result<Row, Misfit>
     if n == 0 {
         return Err(NO_FORM);
     }
-    if s[0] != 40 {
+    if s[0] != b'(' {
         if equal(s, b")") {
             return Ok(Row::End);
         }
@@ -256,16 +245,15 @@ pub(crate) fn row_of(s: &[u8]) -> Result<Row, Misfit>
 }
 
 // A row of an accepted text is in form: its words are not judged again, nor counted.
-fn accepted_args(k: usize, bracket: Bracket, s: &[u8]) -> Result<Row, Misfit>
-    requires { WellFormed (args_row (opened_kind k) k (is_closed bracket) (split 32 s.now)) }
-    ensures { result ≡ uncounted (args_row (opened_kind k) k (is_closed bracket) (split 32 s.now)) }
+fn accepted_args(kind: Kind, k: usize, bracket: Bracket, s: &[u8]) -> Result<Row, Misfit>
+    requires { WellFormed (args_row (Some kind) k (is_closed bracket) (split 32 s.now)) }
+    ensures { result ≡ uncounted (args_row (Some kind) k (is_closed bracket) (split 32 s.now)) }
 {
-    let kind = kind_of(k).ok_or(NO_FORM)?;
     if let Bracket::Open = bracket {
         return opened_args(kind, s);
     }
     match kind {
-        Kind::To => to_row(single_number(s)),
+        Kind::To => due_number(s, Position::InCond).map(Row::To),
         _ => Ok(Row::Simple { word: k, count: 0 }),
     }
 }
@@ -275,13 +263,14 @@ fn accepted_form(s: &[u8], bracket: Bracket) -> Result<Row, Misfit>
     requires { WellFormed (as_row (content_of (form_row (is_closed bracket) (split 32 s.now)))) }
     ensures { result ≡ uncounted (as_row (content_of (form_row (is_closed bracket) (split 32 s.now)))) }
 {
-    let e = find(s, 32);
-    let k = candidate(&s[0..e]);
-    if e == s.len() {
-        return bare_row(k, bracket);
-    }
-    let from = e + 1;
-    accepted_args(k, bracket, &s[from..])
+    let Some((word, words)) = first_word(s) else {
+        let k = candidate(s);
+        let kind = kind_of(k).ok_or(NO_FORM)?;
+        return bare_row(kind, k, bracket);
+    };
+    let k = candidate(word);
+    let kind = kind_of(k).ok_or(NO_FORM)?;
+    accepted_args(kind, k, bracket, words)
 }
 
 // What a row of an accepted text says; nothing is judged again.
@@ -289,7 +278,7 @@ pub(crate) fn accepted_row(s: &[u8]) -> Result<Row, Misfit>
     requires { WellFormed (as_row (content_of (row_of s.now))) }
     ensures { result ≡ uncounted (as_row (content_of (row_of s.now))) }
 {
-    if s[0] != 40 {
+    if s[0] != b'(' {
         return Ok(Row::End);
     }
     let n = s.len();

@@ -1,6 +1,7 @@
 -- Laws of the statement at a path and of a node's, as code goes down a path and up by holders. Assumes nothing.
 use Prim.Native.Nat.{ℕ, zero, suc, ◌+◌, ◌*◌, ◌-◌, ◌/◌, ◌<◌, ◌≤◌}
-use Rattle.std.specs.Prelude.{◌≡◌, Bool, leb, length, drop, cond, Option, Some, None, option_map}
+use Rattle.std.specs.Prelude.{◌≡◌, Bool, leb, length, drop, cond, Option, Some, None, option_map, Result, Ok, Err}
+use Rattle.std.specs.Option.{ok_or}
 use Rattle.std.specs.List.{find, range_with_len}
 use Rattle.std.proofs.Math.Path.{refl, ap}
 use Rattle.std.proofs.Common.{sym, ◌∙◌, add-one}
@@ -36,11 +37,9 @@ module _ (stmts : List ℕ) (line h p i : ℕ) where
         go zero g = refl
         go (suc j) g = absurd (omega arith)
 
-    pub under-if : (j : ℕ) → h ≡ suc j → branching_word (get_or stmts (j * 12 + 0) 0) ≡ stands_at stmts line h p i
-    unfolding stands_at held_in word_of
-    under-if j g =
-        let q : j * 12 + 0 ≡ j * 12 = omega arith in
-        rw (eq-eqb (holder_of stmts i) h e, eq-eqb (index_of stmts i) p f) (ap (λ (k : ℕ). branching_word (get_or stmts k 0)) q ∙ ap (held_in stmts line (line_of stmts i)) (sym g))
+    pub under-if : (j : ℕ) → h ≡ suc j → branching_word (word_of stmts j) ≡ stands_at stmts line h p i
+    unfolding stands_at held_in
+    under-if j g = rw (eq-eqb (holder_of stmts i) h e, eq-eqb (index_of stmts i) p f) (ap (held_in stmts line (line_of stmts i)) (sym g))
 
 -- ---- the first that passes
 
@@ -70,16 +69,13 @@ module _ (t : ℕ → Bool) where
 -- ---- a record
 
 module _ (lines : ℕ) (stmts : List ℕ) (i : ℕ) where
-  at_start : i * 12 + 0 ≡ i * 12
-  at_start = omega arith
+  pub word_outside : no_statement_word (word_of stmts i) ≡ true → true ≡ record_outside lines stmts i
+  unfolding record_outside
+  word_outside e = rw e refl
 
-  pub word_outside : no_statement_word (get_or stmts (i * 12 + 0) 0) ≡ true → true ≡ record_outside lines stmts i
-  unfolding record_outside word_of
-  word_outside e = let q = rw at_start at e in rw q refl
-
-  pub line_outside : (l : ℕ) → no_statement_word (get_or stmts (i * 12 + 0) 0) ≡ false → l ≡ line_of stmts i → leb lines l ≡ record_outside lines stmts i
-  unfolding record_outside word_of
-  line_outside l e f = let q = rw at_start at e in rw (q, f) refl
+  pub line_outside : (l : ℕ) → no_statement_word (word_of stmts i) ≡ false → l ≡ line_of stmts i → leb lines l ≡ record_outside lines stmts i
+  unfolding record_outside
+  line_outside l e f = rw (e, f) refl
 
 -- ---- down a path
 
@@ -125,8 +121,22 @@ module _ (lines : ℕ) (stmts : List ℕ) (n line h : ℕ) where
       pub from_outside : record_outside lines stmts i ≡ true → statement_from lines stmts n line h (drop k ps) ≡ refused 25 0
       from_outside o = by_child ∙ found_some lines stmts r i rest f ∙ ap (λ (x : Bool). pick x (refused 25 0) (rest (suc i))) o
 
-      pub from_next : record_outside lines stmts i ≡ false → statement_from lines stmts n line h (drop k ps) ≡ statement_from lines stmts n line (i + 1) (drop (k + 1) ps)
-      from_next o = by_child ∙ found_some lines stmts r i rest f ∙ ap (λ (x : Bool). pick x (refused 25 0) (rest (suc i))) o ∙ ap rest (sym (add-one i))
+      pub from_next : record_outside lines stmts i ≡ false → statement_from lines stmts n line h (drop k ps) ≡ statement_from lines stmts n line (suc i) (drop (k + 1) ps)
+      from_next o = by_child ∙ found_some lines stmts r i rest f ∙ ap (λ (x : Bool). pick x (refused 25 0) (rest (suc i))) o
+
+-- ---- none is refused by `ok_or` and `?`
+
+pub refused_none : {E : Type 0} (o : Option ℕ) (e x : E) (r : Result ℕ E) → r ≡ ok_or o e → r ≡ Err x → (o ≡ None) × (x ≡ e)
+refused_none None e x r a b = (refl, cc)
+refused_none (Some i) e x r a b = cc
+
+pub passed_some : {E : Type 0} (o : Option ℕ) (e : E) (i : ℕ) (r : Result ℕ E) → r ≡ ok_or o e → r ≡ Ok i → o ≡ Some i
+passed_some None e i r a b = cc
+passed_some (Some j) e i r a b = cc
+
+-- the same of what a search found
+pub passed_found : {E : Type 0} (o : Option ℕ) (e : E) (i : ℕ) (r : Result ℕ E) (f : ℕ) → r ≡ ok_or o e → r ≡ Ok i → one_more o ≡ f → suc i ≡ f
+passed_found o e i r f a b h = ap one_more (sym (passed_some o e i r a b)) ∙ h
 
 -- ---- the statement found
 
@@ -136,11 +146,9 @@ module _ (stmts : List ℕ) where
   no_stmt zero e = refl
   no_stmt (suc i) e = absurd (omega arith)
 
-  pub the_stmt : (at i w : ℕ) → at ≡ suc i → w ≡ get_or stmts (i * 12 + 0) 0 → answer (i, w) ≡ stmt_at stmts at
-  unfolding stmt_at word_of
-  the_stmt at i w f e =
-      let q : i * 12 + 0 ≡ i * 12 = omega arith in
-      rw (f, e, q) refl
+  pub the_stmt : (at i w : ℕ) → at ≡ suc i → w ≡ word_of stmts i → answer (i, w) ≡ stmt_at stmts at
+  unfolding stmt_at
+  the_stmt at i w f e = rw (f, e) refl
 
 module _ (counts stmts : List ℕ) (line : ℕ) (path : List ℕ) (lines n : ℕ) (d : lines ≡ get_or counts 0 0) (e : n ≡ get_or counts 1 0) where
   pub path_rows : length stmts < n * 12 → refused 25 0 ≡ path_statement counts stmts line path
@@ -183,25 +191,21 @@ module _ (lines : ℕ) (stmts : List ℕ) (n : ℕ) where
   climb-outside (suc k) i e o = rw (lt-ltb i n e, o) refl
 
   module _ (i : ℕ) (e : i < n) (o : record_outside lines stmts i ≡ false) where
-    at_word : i * 12 + 0 ≡ i * 12
-    at_word = omega arith
-
     pub climb-deep : (k : ℕ) → k ≡ 0 → climb lines stmts n k (suc i) ≡ 26
     unfolding climb
     climb-deep k z = rw (z, lt-ltb i n e, o) refl
 
-    pub climb_leaf : (k : ℕ) → branching_word (get_or stmts (i * 12 + 0) 0) ≡ false → climb lines stmts n k (suc i) ≡ 26
-    unfolding climb word_of
+    pub climb_leaf : (k : ℕ) → branching_word (word_of stmts i) ≡ false → climb lines stmts n k (suc i) ≡ 26
+    unfolding climb
     climb_leaf zero g = rw (lt-ltb i n e, o) refl
-    climb_leaf (suc k) g = let q = rw at_word at g in rw (lt-ltb i n e, o, q) refl
+    climb_leaf (suc k) g = rw (lt-ltb i n e, o, g) refl
 
-    pub climb_on : (k : ℕ) → (k ≡ 0 → ⊥) → branching_word (get_or stmts (i * 12 + 0) 0) ≡ true → climb lines stmts n k (suc i) ≡ climb lines stmts n (k - 1) (holder_of stmts i)
-    unfolding climb word_of
+    pub climb_on : (k : ℕ) → (k ≡ 0 → ⊥) → branching_word (word_of stmts i) ≡ true → climb lines stmts n k (suc i) ≡ climb lines stmts n (k - 1) (holder_of stmts i)
+    unfolding climb
     climb_on zero z g = absurd (z refl)
     climb_on (suc k) z g =
-        let q = rw at_word at g in
         let a : suc k - 1 ≡ k = omega arith in
-        rw (a, lt-ltb i n e, o, q) refl
+        rw (a, lt-ltb i n e, o, g) refl
 
 module _ (lines : ℕ) (stmts : List ℕ) (n i : ℕ) where
   pub own-outside : record_outside lines stmts i ≡ true → no_statement lines stmts n i ≡ 25
@@ -235,11 +239,9 @@ module _ (counts stmts : List ℕ) (i n : ℕ) (e : n ≡ get_or counts 1 0) whe
     unfolding node_statement if_rows
     node_rows_lem g = rw (← e, lt-ltb i n h, lt-ltb (length stmts) (n * 12) g) refl
 
-    pub by_record : n * 12 ≤ length stmts → (lines : ℕ) → lines ≡ get_or counts 0 0 → unless_refused (no_statement lines stmts n i) (answer (i, get_or stmts (i * 12 + 0) 0)) ≡ node_statement counts stmts i
-    unfolding node_statement if_rows word_of
-    by_record g lines d =
-        let k : i * 12 + 0 ≡ i * 12 = omega arith in
-        rw (k, ← e, ← d, lt-ltb i n h, le-ltb (length stmts) (n * 12) g) refl
+    pub by_record : n * 12 ≤ length stmts → (lines : ℕ) → lines ≡ get_or counts 0 0 → unless_refused (no_statement lines stmts n i) (answer (i, word_of stmts i)) ≡ node_statement counts stmts i
+    unfolding node_statement if_rows
+    by_record g lines d = rw (← e, ← d, lt-ltb i n h, le-ltb (length stmts) (n * 12) g) refl
 
 -- ---- the record of any node
 

@@ -1,5 +1,6 @@
 // The statement at a path, and a node's statement. Nothing is assumed of the tables.
 ghost use Rattle.std.specs.Prelude.{◌≡◌, ◌*◌, ◌≤◌, ◌<◌, length};
+ghost use Rattle.tables.specs.Columns.{holder_of, word_of};
 ghost use Rattle.tables.specs.Told.{told};
 ghost use Rattle.statements.specs.StatementWords.{no_statement_word};
 ghost use Rattle.statements.specs.StatementAt.{branching_word, record_outside, stands_at, one_more, child_at, statement_from, stmt_at, path_statement, climb as climbed, no_statement, no_statement_in, refused_by, node_statement};
@@ -26,7 +27,8 @@ fn no_statement_word(word: u16) -> bool
     matches!(word, MODULE | LINE_WORD | TO | STMTS) || PLAIN < word
 }
 
-// The records of n statements that stand on so many lines: maybe more of them than a graph has nodes.
+// The records of n statements that stand on so many lines.
+// Kept: not `Records`, whose nodes are no more than a graph has: these may be.
 #[derive(Clone, Copy)]
 struct Statements<'a> {
     lines: usize,
@@ -36,17 +38,33 @@ struct Statements<'a> {
 }
 
 impl<'a> Statements<'a> {
+    // The number of node i's opening word.
+    fn word(&self, i: usize) -> u16
+        requires { i < self.now.n }
+        ensures { result ≡ word_of self.now.stmts.now i }
+    {
+        self.stmts[i * STMT_ENTRIES + WORD]
+    }
+
     // Whether the record of node i points outside: its word opens no statement, or its line index is none of the lines.
     fn record_outside(&self, i: usize) -> bool
         requires { i < self.now.n }
         ensures { result ≡ record_outside self.now.lines self.now.stmts.now i }
     {
-        let row = i * STMT_ENTRIES;
-        no_statement_word(self.stmts[row + WORD])
-            || self.lines <= usize::from(self.stmts[row + LINE])
+        no_statement_word(self.word(i))
+            || self.lines <= usize::from(self.stmts[i * STMT_ENTRIES + LINE])
     }
 
-    // Whether node i has that number under its holder, which is one more than an IF, or 0 for the line.
+    // The IF that holds node i, or none.
+    fn holder(&self, i: usize) -> Option<usize>
+        requires { i < self.now.n }
+        ensures { one_more result ≡ holder_of self.now.stmts.now i }
+    {
+        usize::from(self.stmts[i * STMT_ENTRIES + HOLDER]).checked_sub(1)
+    }
+
+    // Whether node i has that number under its holder, as a record says it: one more than an IF, or 0 for the line.
+    // Kept: that number and no `Option`, by which path questions take 1.8 times as many instructions.
     fn stands_at(&self, i: usize, line: usize, holder: usize, index: u16) -> bool
         requires { (i < self.now.n) × (holder ≤ self.now.n) }
         ensures { result ≡ stands_at self.now.stmts.now line holder index i }
@@ -60,62 +78,59 @@ impl<'a> Statements<'a> {
         }
         match holder.checked_sub(1) {
             None => usize::from(self.stmts[row + LINE]) == line,
-            Some(held) => is_branching(self.stmts[held * STMT_ENTRIES + WORD]),
+            Some(held) => is_branching(self.word(held)),
         }
     }
 
     // The first node that stands there.
-    fn find(&self, line: usize, holder: usize, index: u16) -> Option<usize>
-        requires { holder ≤ self.now.n }
-        ensures { one_more result ≡ child_at self.now.stmts.now self.now.n line holder index }
+    fn find(&self, line: usize, holder: Option<usize>, index: u16) -> Option<usize>
+        requires { one_more holder ≤ self.now.n }
+        ensures { one_more result ≡ child_at self.now.stmts.now self.now.n line (one_more holder) index }
     {
-        (0..self.n).find(|&i| self.stands_at(i, line, holder, index))
+        let number = holder.map_or(0, |node| node + 1);
+        (0..self.n).find(|&i| self.stands_at(i, line, number, index))
     }
 
-    // The node `at - 1` and the number of its opening word, if `at` is not 0.
-    fn state(&self, at: usize) -> Result<(usize, usize), Refusal>
-        requires { at ≤ self.now.n }
-        ensures { told result ≡ stmt_at self.now.stmts.now at }
+    // The node, if there is one, and the number of its opening word.
+    fn state(&self, at: Option<usize>) -> Result<(usize, usize), Refusal>
+        requires { one_more at ≤ self.now.n }
+        ensures { told result ≡ stmt_at self.now.stmts.now (one_more at) }
     {
-        match at.checked_sub(1) {
-            None => Err(Reason::NoStatement.at(0)),
-            Some(node) => Ok((node, usize::from(self.stmts[node * STMT_ENTRIES + WORD]))),
-        }
+        let node = at.ok_or(Reason::NoStatement.at(0))?;
+        Ok((node, usize::from(self.word(node))))
     }
 
     // Down from the line, number by number; each record is read before what it holds.
     fn follow(&self, line: usize, path: &[u16]) -> Result<(usize, usize), Refusal>
         ensures { told result ≡ statement_from self.now.lines self.now.stmts.now self.now.n line 0 path.now }
     {
-        let mut at: usize = 0;
+        let mut at = None;
         for &index in path {
-            let Some(node) = self.find(line, at, index) else {
-                return Err(Reason::NoStatement.at(0));
-            };
+            let found = self.find(line, at, index);
+            let node = found.ok_or(Reason::NoStatement.at(0))?;
             if self.record_outside(node) {
                 return Err(Reason::Outside.at(0));
             }
-            at = node + 1;
+            at = Some(node);
         }
         self.state(at)
     }
 
     // Whether a record with that holder gives a path, or the refusal. Up from holder to holder, `MAX_DEPTH` of them at most.
-    // Kept: a `while`, for what it runs over is the holders, each read in the record of the one before.
-    fn climb(&self, holder: usize) -> Result<(), Refusal>
-        ensures { told result ≡ refused_by (climbed self.now.lines self.now.stmts.now self.now.n 16 holder) }
+    // Kept: a `while`: `iter::successors` asks for the next holder before the loop sees whether this one is a node, and has a record.
+    fn climb(&self, holder: Option<usize>) -> Result<(), Refusal>
+        ensures { told result ≡ refused_by (climbed self.now.lines self.now.stmts.now self.now.n 16 (one_more holder)) }
     {
         let mut at = holder;
         let mut left: usize = MAX_DEPTH;
-        while let Some(node) = at.checked_sub(1) {
+        while let Some(node) = at {
             if self.n <= node || self.record_outside(node) {
                 return Err(Reason::Outside.at(0));
             }
-            let row = node * STMT_ENTRIES;
-            if left == 0 || !is_branching(self.stmts[row + WORD]) {
+            if left == 0 || !is_branching(self.word(node)) {
                 return Err(Reason::NoStatement.at(0));
             }
-            at = usize::from(self.stmts[row + HOLDER]);
+            at = self.holder(node);
             left -= 1;
         }
         Ok(())
@@ -129,11 +144,12 @@ impl<'a> Statements<'a> {
         if self.record_outside(node) {
             return Err(Reason::Outside.at(0));
         }
-        self.climb(usize::from(self.stmts[node * STMT_ENTRIES + HOLDER]))
+        self.climb(self.holder(node))
     }
 }
 
 // The statement at a path, a line index and numbers: its node and the number of its opening word.
+// Kept: `count_of`, since std has no conversion from `u32` to `usize` that cannot fail.
 pub fn ask_path(
     counts: &[u32; 6],
     stmts: &[u16],
@@ -153,7 +169,8 @@ pub fn ask_path(
     Statements { lines, stmts, n }.follow(line, path)
 }
 
-// Whether the record of any node of any table is a statement's and has a path: refused 25 where n statements have no record of it there. By division, so that no product can wrap.
+// Whether the record of any node of any table is a statement's and has a path: refused 25 where n statements have no record of it there.
+// By division, so that no product can wrap.
 pub fn no_statement(lines: usize, stmts: &[u16], n: usize, node: usize) -> Result<(), Refusal>
     ensures { told result ≡ refused_by (no_statement_in lines stmts.now n node) }
 {
@@ -164,6 +181,7 @@ pub fn no_statement(lines: usize, stmts: &[u16], n: usize, node: usize) -> Resul
 }
 
 // A node's statement, if its record has a path: the node itself, and the number of its opening word.
+// Kept: `count_of`, since std has no conversion from `u32` to `usize` that cannot fail.
 pub fn ask_statement(
     counts: &[u32; 6],
     stmts: &[u16],
@@ -179,6 +197,7 @@ pub fn ask_statement(
         return Err(Reason::Outside.at(0));
     }
     let lines = count_of(counts[0]);
-    Statements { lines, stmts, n }.check_record(node)?;
-    Ok((node, usize::from(stmts[node * STMT_ENTRIES + WORD])))
+    let statements = Statements { lines, stmts, n };
+    statements.check_record(node)?;
+    Ok((node, usize::from(statements.word(node))))
 }

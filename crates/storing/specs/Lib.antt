@@ -1,4 +1,5 @@
 pub mod AddWithin
+pub mod NodeLists
 pub mod Appending
 pub mod Predecessors
 pub mod PredecessorLists

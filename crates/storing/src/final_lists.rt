@@ -45,7 +45,7 @@ fn write_list(
         return put_list(lists, succ, i, at, &buffer[..count]);
     }
     if is_call(word) {
-        let count = put_jump(g.records.stmts, g.falls, g.links, i, buffer);
+        let count = put_jump(g, i, buffer);
         return put_list(lists, succ, i, at, &buffer[..count]);
     }
     move_list(lists, source.scratch, succ, i, at)

@@ -1,39 +1,17 @@
 // A node's list while it grows, each node once, at the front of a part of any length: what does not fit is left out.
-ghost use Rattle.std.specs.Prelude.{◌≡◌, ◌+◌, ◌*◌, ◌≤◌, length, get_or};
-ghost use Rattle.graph.specs.Lists.{each};
+ghost use Rattle.std.specs.Prelude.{◌≡◌, ◌+◌, ◌*◌, ◌≤◌, ◌<◌, length, take, get_or};
+ghost use Rattle.graph.specs.Lists.{has, each};
 ghost use Rattle.graph_laws.specs.Adding.{decode};
+ghost use Rattle.passes.specs.Closing.{fall_from};
 ghost use Rattle.passes.specs.NodeList.{jump_edges};
 ghost use Rattle.storing.specs.AddWithin.{AddedIn, jump_readable, jump_read};
+ghost use Rattle.storing.specs.NodeLists.{AddedTo, Pushed, Same};
 
 use layout::columns::{ARG_ENTRIES, COUNT, FALL_ENTRIES, STMT_ENTRIES};
 use layout::limits::MAX_ARGS;
 use layout::words::ONGOTO;
 use tables::lists::holds;
-
-// Adds the node t - 1 once behind the first n entries, where t is not 0 and the part is not full; answers how many there are then.
-pub fn add_edge(part: &mut [u16], n: usize, t: u16) -> usize
-    ensures { AddedIn part.old n part.new result (decode t) }
-{
-    let Some(a) = t.checked_sub(1) else {
-        return n;
-    };
-    if part.len() <= n || holds(&part[..n], a) {
-        return n;
-    }
-    part[n] = a;
-    n + 1
-}
-
-// Adds the nodes that a row of entries leads to.
-pub fn add_targets(row: &[u16], part: &mut [u16], n: usize) -> usize
-    ensures { AddedIn part.old n part.new result (each decode row.now) }
-{
-    let mut r = n;
-    for &t in row {
-        r = add_edge(part, r, t);
-    }
-    r
-}
+use tables::nodes::Nodes;
 
 // Whether node i's record, its links and where it falls can be read. By division, so that no i is too large.
 #[tactic(auto, unfolding(crate::specs::AddWithin::jump_readable))]
@@ -46,33 +24,113 @@ fn jump_readable(stmts: &[u16], falls: &[u16], links: &[u16], i: usize) -> bool
         && usize::from(stmts[i * STMT_ENTRIES + COUNT]) <= MAX_ARGS
 }
 
-// The targets of GOTO, GOSUB or ON i, and then where an ON falls. Of tables one by one, since `add_jump` answers for any number of nodes.
-pub(crate) fn put_jump(
-    stmts: &[u16],
-    falls: &[u16],
-    links: &[u16],
-    i: usize,
-    part: &mut [u16],
-) -> usize
-    requires { (i * 12 + 12 ≤ length stmts.now) × (i * 3 + 3 ≤ length falls.now) × (i * 64 + 64 ≤ length links.now) × (get_or stmts.now (i * 12 + 10) 0 ≤ 64) }
-    ensures { AddedIn part.old 0 part.new result (jump_edges stmts.now falls.now links.now i) }
-{
-    let at = i * ARG_ENTRIES;
-    let end = at + usize::from(stmts[i * STMT_ENTRIES + COUNT]);
-    let r = add_targets(&links[at..end], part, 0);
-    if stmts[i * STMT_ENTRIES] < ONGOTO {
-        return r;
-    }
-    add_edge(part, r, falls[i * FALL_ENTRIES])
+// A lent part, and how many of its entries are the list.
+#[derive(Drop)]
+pub struct NodeList<'a> {
+    part: &'a mut [u16],
+    n: usize,
 }
 
-// The same on any tables: nothing where node i cannot be read. A RETURN has no target here.
-#[tactic(auto, unfolding(crate::specs::AddWithin::jump_read, crate::specs::AddWithin::jump_readable))]
-pub fn add_jump(stmts: &[u16], falls: &[u16], links: &[u16], i: usize, part: &mut [u16]) -> usize
-    ensures { AddedIn part.old 0 part.new result (jump_read stmts.now falls.now links.now i) }
-{
-    if jump_readable(stmts, falls, links, i) {
-        return put_jump(stmts, falls, links, i, part);
+impl<'a> NodeList<'a> {
+    pub fn new(part: &'a mut [u16]) -> NodeList<'a>
+        ensures same_reference { result.part.ghost_name ≡ part.entry.ghost_name }
+        ensures empty { (result.part.now ≡ part.old) × (result.n ≡ 0) }
+    {
+        NodeList { part, n: 0 }
     }
-    0
+
+    // How many nodes it has.
+    pub fn len(&self) -> usize
+        ensures { result ≡ self.now.n }
+    {
+        self.n
+    }
+
+    // Whether the node a is one of them.
+    fn has(&self, a: u16) -> bool
+        requires { self.now.n ≤ length self.now.part.now }
+        ensures { result ≡ has a (take self.now.n self.now.part.now) }
+    {
+        holds(&self.part[..self.n], a)
+    }
+
+    // Adds the node a, which is new, where the part is not full.
+    pub fn push(&mut self, a: u16)
+        ensures pushed { self.old.n < length self.old.part.now → Pushed self.old self.new a }
+        ensures full { length self.old.part.now ≤ self.old.n → Same self.old self.new }
+    {
+        if self.n < self.part.len() {
+            self.part[self.n] = a;
+            self.n += 1;
+        }
+    }
+
+    // Adds the node t - 1 once, where t is not 0 and the part is not full.
+    pub fn add_edge(&mut self, t: u16)
+        ensures { AddedTo self.old self.new (decode t) }
+    {
+        let Some(a) = t.checked_sub(1) else {
+            return;
+        };
+        if self.part.len() <= self.n || self.has(a) {
+            return;
+        }
+        self.push(a);
+    }
+
+    // Adds the nodes that a row of entries leads to.
+    pub fn add_targets(&mut self, row: &[u16])
+        ensures { AddedTo self.old self.new (each decode row.now) }
+    {
+        for &t in row {
+            self.add_edge(t);
+        }
+    }
+
+    // Adds where the node t - 1 falls, where t is not 0.
+    pub fn add_fall(&mut self, falls: &[u16], t: u16)
+        ensures { AddedTo self.old self.new (fall_from falls.now t) }
+    {
+        let Some(j) = usize::from(t).checked_sub(1) else {
+            return;
+        };
+        let fall = falls.get(j * FALL_ENTRIES).copied().unwrap_or(0);
+        self.add_edge(fall);
+    }
+
+    // The targets of GOTO, GOSUB or ON i, and then where an ON falls.
+    // Kept: tables one by one, since `add_jump` answers for any number of nodes, and `Nodes` has at most 4,096.
+    fn add_written(&mut self, stmts: &[u16], falls: &[u16], links: &[u16], i: usize)
+        requires { (i * 12 + 12 ≤ length stmts.now) × (i * 3 + 3 ≤ length falls.now) × (i * 64 + 64 ≤ length links.now) × (get_or stmts.now (i * 12 + 10) 0 ≤ 64) }
+        ensures { AddedTo self.old self.new (jump_edges stmts.now falls.now links.now i) }
+    {
+        let at = i * ARG_ENTRIES;
+        let end = at + usize::from(stmts[i * STMT_ENTRIES + COUNT]);
+        self.add_targets(&links[at..end]);
+        if stmts[i * STMT_ENTRIES] < ONGOTO {
+            return;
+        }
+        self.add_edge(falls[i * FALL_ENTRIES]);
+    }
+
+    // The same on any tables: nothing where node i cannot be read. A RETURN has no target here.
+    #[tactic(auto, unfolding(crate::specs::AddWithin::jump_read, crate::specs::AddWithin::jump_readable))]
+    pub fn add_jump(&mut self, stmts: &[u16], falls: &[u16], links: &[u16], i: usize)
+        ensures { AddedTo self.old self.new (jump_read stmts.now falls.now links.now i) }
+    {
+        if jump_readable(stmts, falls, links, i) {
+            self.add_written(stmts, falls, links, i);
+        }
+    }
+}
+
+// The list of a jump alone, in a lent part; answers how many nodes it has.
+// Kept: a part and how many: `list_size` asks for the number alone, and where `write_list` has a RETURN, the same buffer gets a set's members.
+pub(crate) fn put_jump(g: &Nodes<'_>, i: usize, part: &mut [u16]) -> usize
+    requires { (i < g.now.records.n) × (get_or g.now.records.stmts.now (i * 12 + 10) 0 ≤ 64) }
+    ensures { AddedIn part.old 0 part.new result (jump_edges g.now.records.stmts.now g.now.falls.now g.now.links.now i) }
+{
+    let mut list = NodeList::new(part);
+    list.add_written(g.records.stmts, g.falls, g.links, i);
+    list.len()
 }

@@ -1,10 +1,24 @@
-// Lists of nodes.
-ghost use Rattle.std.specs.Prelude.{◌≡◌};
+// Lists of nodes, and where they stand.
+ghost use Rattle.std.specs.Prelude.{◌≡◌, ◌+◌, ◌*◌, get_or};
 ghost use Rattle.graph.specs.Lists.{has};
+
+use crate::nodes::entry;
+use layout::columns::{LIST_ENTRIES, SUCC_COUNT};
 
 // Whether a list has the node a.
 pub fn holds(l: &[u16], a: u16) -> bool
     ensures { result ≡ has a l.now }
 {
     l.contains(&a)
+}
+
+// Where in the edge table node v's list of successors begins and ends, by the node's row; 0 for what the table has not.
+pub fn list_ends(lists: &[u16], v: usize) -> (usize, usize)
+    ensures start { result.0 ≡ get_or lists.now (v * 4) 0 }
+    ensures end { result.1 ≡ get_or lists.now (v * 4) 0 + get_or lists.now (v * 4 + 1) 0 }
+{
+    let row = v.saturating_mul(LIST_ENTRIES);
+    let start = usize::from(entry(lists, row));
+    let count = usize::from(entry(lists, row.saturating_add(SUCC_COUNT)));
+    (start, start + count)
 }

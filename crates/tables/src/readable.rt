@@ -2,7 +2,8 @@
 ghost use Rattle.std.specs.Prelude.{◌≡◌, ◌+◌, ◌*◌, ◌≤◌, ◌<◌, length};
 ghost use Rattle.tables.specs.Readable.{ids_below, list_readable, lists_readable};
 
-use layout::columns::{LIST_ENTRIES, SUCC_COUNT};
+use crate::lists::list_ends;
+use layout::columns::LIST_ENTRIES;
 use layout::limits::MAX_STMTS;
 
 // Whether every id of a list is that of one of n nodes.
@@ -19,11 +20,9 @@ pub fn ids_below(l: &[u16], n: usize) -> bool
 
 // Whether node v's list lies in the edge table and has ids of n nodes only.
 fn list_readable(lists: &[u16], edges: &[u16], n: usize, v: usize) -> bool
-    requires { (v < 4096) × (v * 4 + 4 ≤ length lists.now) }
     ensures { result ≡ list_readable lists.now edges.now n v }
 {
-    let start = usize::from(lists[v * LIST_ENTRIES]);
-    let end = start + usize::from(lists[v * LIST_ENTRIES + SUCC_COUNT]);
+    let (start, end) = list_ends(lists, v);
     end <= edges.len() && ids_below(&edges[start..end], n)
 }
 

@@ -1,7 +1,7 @@
 -- The words after a form's opening word, as the code judges them: why one of them is refused, by the lowest number, and how many there are. Assumes nothing.
-use Rattle.std.specs.Prelude.{ℕ, suc, ◌⊎◌, ◌+◌, ◌-◌, ◌≤◌, ◌<◌, ◌≡◌, refl, List, [], ◌∷◌, Bool, true, false, ◌&&◌, ◌||◌, not, eqb, ltb, length, get_or, take, drop, Result, Ok, Err}
+use Rattle.std.specs.Prelude.{ℕ, suc, ◌⊎◌, ◌+◌, ◌≤◌, ◌<◌, ◌≡◌, refl, List, [], ◌∷◌, Bool, true, false, ◌&&◌, ◌||◌, not, eqb, ltb, length, get_or, take, drop, Result, Ok, Err}
 use Rattle.std.specs.Result.{result_and}
-use Rattle.std.proofs.Common.{sym, ◌∙◌, inl, inr, arith, not-suc-le-zero, add-one, length-drop, drop_of_length-le}
+use Rattle.std.proofs.Common.{sym, ◌∙◌, inl, inr, arith, not-suc-le-zero, add-one, drop_of_length-le}
 use Rattle.std.proofs.Math.Path.{ap}
 use Rattle.std.proofs.Math.Option.{none, some}
 use Rattle.std.proofs.Math.Seq.{drop-cons}
@@ -9,7 +9,7 @@ use borrow.Author.Tests.{ne_eqb, eqb-true, ltb-true, ltb-false, lt-ltb, le-ltb}
 use Rattle.listings.specs.Bytes.{same, pick}
 use Rattle.listings.specs.Listing.{for}
 use Rattle.listings.specs.Rows.{split, on_first, all, is_word, are_words, Parse, malformed, invalid, parsed, refusal_of, map_parse, with_parse, parse_number, parse_numbers, parse_name, parse_slot, parse_slots, parse_tier, parse_mark, single, for_stmt}
-use Rattle.listings.specs.Scan.{index_of, same_sym, split_last, split_more, split-some, rest_all, after, split_alone, split-first}
+use Rattle.listings.specs.Scan.{index_of, same_sym, split_last, split_more, split-some}
 use Rattle.layout.specs.Refusals.{number_of}
 use Rattle.layout.specs.declared.refusals.Reason.{Reason}
 use Rattle.layout.specs.declared.refusals.Reason.TheVariants as reason
@@ -265,33 +265,24 @@ for_two : (w v : List ℕ) → check_for (w ∷ v ∷ []) ≡ checked 0 (lowest 
 unfolding check_for for_stmt
 for_two w v = ap (checked 0) (refusal_with (λ n t. (for n t, 0)) (parse_name w) (parse_tier v))
 
-pub for_alone : (s : List ℕ) (e : ℕ) → e ≡ index_of 32 s → e ≡ length s → check_for (split 32 s) ≡ no_form
-for_alone s e f h = ap check_for (split_alone 32 s e f h) ∙ for_one (take (e - 0) (drop 0 s))
+pub for_alone : (s : List ℕ) → split 32 s ≡ s ∷ [] → check_for (split 32 s) ≡ no_form
+for_alone s p = ap check_for p ∙ for_one s
 
-module _ (s : List ℕ) (e d : ℕ) (found : e ≡ index_of 32 s) (more : e < length s) (found₂ : d ≡ index_of 32 (after s e)) where
-  long : length (after s e) ≡ length s - (e + 1)
-  long = ap length (rest_all s (e + 1)) ∙ length-drop (e + 1) s
-
-  pub for_longer : d < length s - (e + 1) → check_for (split 32 s) ≡ no_form
+module _ (s w v : List ℕ) (cut : split 32 s ≡ w ∷ split 32 v) where
+  pub for_longer : index_of 32 v < length v → check_for (split 32 s) ≡ no_form
   for_longer h =
-      let t = after s e in
-      ap check_for (split-first 32 s e found more ∙ ap (λ (z : List (List ℕ)). take (e - 0) (drop 0 s) ∷ z) (split-first 32 t d found₂ (omega (arith, long))))
-      ∙ for_many (take (e - 0) (drop 0 s)) (take (d - 0) (drop 0 t)) (split 32 (after t d)) (split-some 32 (after t d))
+      let d = index_of 32 v in
+      ap check_for (cut ∙ ap (λ (z : List (List ℕ)). w ∷ z) (split_more 32 v h)) ∙ for_many w (take d v) (split 32 (drop (suc d) v)) (split-some 32 (drop (suc d) v))
 
-  pub for_right : d ≡ length s - (e + 1) → check_for (split 32 s) ≡ checked 0 (lowest (verdict (parse_name (take (e - 0) (drop 0 s)))) (verdict (parse_tier (after s e))))
-  for_right h =
-      let t = after s e in
-      ap check_for (split-first 32 s e found more ∙ ap (λ (z : List (List ℕ)). take (e - 0) (drop 0 s) ∷ z) (split_last 32 t (sym found₂ ∙ h ∙ sym long)))
-      ∙ for_two (take (e - 0) (drop 0 s)) t
+  pub for_right : index_of 32 v ≡ length v → check_for (split 32 s) ≡ checked 0 (lowest (verdict (parse_name w)) (verdict (parse_tier v)))
+  for_right h = ap check_for (cut ∙ ap (λ (z : List (List ℕ)). w ∷ z) (split_last 32 v h)) ∙ for_two w v
 
 -- ---- a mark and slots
 
-module _ (s : List ℕ) (e : ℕ) (found : e ≡ index_of 32 s) where
-  pub next_alone : e ≡ length s → check_next (split 32 s) ≡ checked 0 (verdict (parse_mark (take (e - 0) (drop 0 s))))
-  unfolding check_next lowest_of
-  next_alone h = ap check_next (split_alone 32 s e found h) ∙ ap (checked 0) (lowest_of_none (verdict (parse_mark (take (e - 0) (drop 0 s)))))
+pub next_alone : (s : List ℕ) → split 32 s ≡ s ∷ [] → check_next (split 32 s) ≡ checked 0 (verdict (parse_mark s))
+unfolding check_next lowest_of
+next_alone s p = ap check_next p ∙ ap (checked 0) (lowest_of_none (verdict (parse_mark s)))
 
-  pub next_slots : e < length s
-      → check_next (split 32 s) ≡ checked (length (split 32 (after s e))) (lowest (verdict (parse_mark (take (e - 0) (drop 0 s)))) (lowest_of (refusal_by true) (split 32 (after s e))))
-  unfolding check_next
-  next_slots h = ap check_next (split-first 32 s e found h)
+pub next_slots : (s w v : List ℕ) → split 32 s ≡ w ∷ split 32 v → check_next (split 32 s) ≡ checked (length (split 32 v)) (lowest (verdict (parse_mark w)) (lowest_of (refusal_by true) (split 32 v)))
+unfolding check_next
+next_slots s w v p = ap check_next p

@@ -1,6 +1,9 @@
 -- The kinds of forms, by the numbers of their opening words. Assumes nothing.
-use Rattle.std.specs.Prelude.{ℕ, zero, suc, ◌<◌, ◌≤◌, ◌≡◌, refl, List, [], ◌∷◌, map, length, get_or, Option, Some, None, Bool, true, false, ltb}
-use Rattle.std.proofs.Common.{arith, not-suc-le-zero, le_of_suc-le-suc}
+use Rattle.std.specs.Prelude.{ℕ, zero, suc, ◌<◌, ◌≤◌, ◌≡◌, refl, List, [], ◌∷◌, map, length, get_or, option_map, slice_get, Option, Some, None, Bool, true, false, ltb}
+use Rattle.std.specs.Option.{unwrap_or}
+use Rattle.std.specs.Slice.{IsItemAt}
+use denote.Ref.{Bor}
+use Rattle.std.proofs.Common.{ap, arith, not-suc-le-zero, le_of_suc-le-suc}
 use Rattle.std.proofs.Math.Option as M
 use Rattle.std.proofs.Math.Option.{none, some}
 use Rattle.std.proofs.Math.ListN.{get_elem?}
@@ -45,12 +48,46 @@ pub found_none : (w : List ℕ) → 28 ≡ word_index w → word_found w ≡ Non
 unfolding word_found
 found_none w e = rw (← e)
 
-pub opened_row : (hs : List Form) (k : ℕ) (d : Kind) → k < length hs → Some (get_or (map form_kind hs) k d) ≡ kind_found (get_elem? hs k)
-opened_row [] k d h = absurd (not-suc-le-zero h)
-opened_row (h ∷ hs) zero d q = refl
-opened_row (h ∷ hs) (suc k) d q = opened_row hs k d (le_of_suc-le-suc q)
+-- ---- the code's table: each word with the kind of its form
 
-pub opened_none : (hs : List Form) (k : ℕ) → length hs ≤ k → kind_found (get_elem? hs k) ≡ None
+abbrev pub Rows : Type 0
+Rows = List (Bor (List ℕ) × Kind)
+
+-- row k of a table, or none
+unfoldable pub row_at : Rows → ℕ → Option (Bor (List ℕ) × Kind)
+row_at ds k = slice_get ds k
+
+row_none : (ds : Rows) (k : ℕ) → length ds ≤ k → None ≡ row_at ds k
+unfolding row_at
+row_none [] k h = refl
+row_none (d ∷ ds) zero h = absurd (omega arith)
+row_none (d ∷ ds) (suc k) h = row_none ds k (le_of_suc-le-suc h)
+
+row_some : (ds : Rows) (k : ℕ) (d : Bor (List ℕ) × Kind) → k < length ds → d ≡ get_or ds k d → Some d ≡ row_at ds k
+unfolding row_at
+row_some [] k d h e = absurd (not-suc-le-zero h)
+row_some (x ∷ ds) zero d h e = ap Some e
+row_some (x ∷ ds) (suc k) d h e = row_some ds k d (le_of_suc-le-suc h) e
+
+pub get_row : (ds : Rows) (k : ℕ) (r : Option (Bor (Bor (List ℕ) × Kind))) → IsItemAt ds k r → option_map (λ x. x.now) r ≡ row_at ds k
+get_row ds k None h = row_none ds k h.3
+get_row ds k (Some x) h = row_some ds k x.now h.3.0 h.1
+
+pub kind_row : (ds : Rows) (hs : List Form) (k : ℕ) → map {B = Kind} (λ d. d.1) ds ≡ map form_kind hs → option_map (λ (d : Bor (List ℕ) × Kind). d.1) (row_at ds k) ≡ kind_found (get_elem? hs k)
+unfolding row_at
+kind_row [] [] k e = refl
+kind_row [] (h ∷ hs) k e = cc
+kind_row (d ∷ ds) [] k e = cc
+kind_row (d ∷ ds) (h ∷ hs) zero e = let q : d.1 ≡ form_kind h = cc in ap Some q
+kind_row (d ∷ ds) (h ∷ hs) (suc k) e = kind_row ds hs k (let q : map {B = Kind} (λ (x : Bor (List ℕ) × Kind). x.1) ds ≡ map form_kind hs = cc in q)
+
+pub word_row : (ds : Rows) (k : ℕ) → unwrap_or (option_map (λ (d : Bor (List ℕ) × Kind). d.0.now) (row_at ds k)) [] ≡ get_or (map {B = List ℕ} (λ d. d.0.now) ds) k []
+unfolding row_at
+word_row [] k = refl
+word_row (d ∷ ds) zero = refl
+word_row (d ∷ ds) (suc k) = word_row ds k
+
+opened_none : (hs : List Form) (k : ℕ) → length hs ≤ k → kind_found (get_elem? hs k) ≡ None
 opened_none [] zero h = refl
 opened_none [] (suc k) h = refl
 opened_none (h ∷ hs) zero q = absurd (omega arith)

@@ -1,4 +1,5 @@
 pub mod ListWords
+pub mod Scan
 pub mod Numbers
 pub mod Names
 pub mod Kinds

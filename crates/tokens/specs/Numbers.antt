@@ -1,8 +1,9 @@
 -- A word as a number, as the code finds it. Assumes nothing.
-use Rattle.std.specs.Prelude.{ℕ, suc, ◌+◌, ◌*◌, ◌-◌, ◌≤◌, ◌<◌, ◌≡◌, refl, List, [], ◌∷◌, Bool, true, false, not, eqb, leb, length, get_or, drop, Result, Ok, Err}
+use Rattle.std.specs.Prelude.{ℕ, suc, ◌+◌, ◌*◌, ◌-◌, ◌≤◌, ◌<◌, ◌≡◌, refl, List, [], ◌∷◌, Bool, true, false, not, eqb, leb, length, get_or, drop, Option, Some, None, Result, Ok, Err}
+use Rattle.std.specs.Option.{ok_or}
 use Rattle.std.proofs.Common.{arith, drop-cons}
-use borrow.Author.Tests.{leb-false, le-leb, lt-leb}
-use Rattle.listings.specs.Bytes.{pick}
+use borrow.Author.Tests.{le-leb, lt-leb}
+use Rattle.listings.specs.Bytes.{bytes, same, pick}
 use Rattle.listings.specs.Rows.{Parse, malformed, invalid, parsed, all, is_digit, no_leading_zero, value, parse_number}
 use Rattle.layout.specs.declared.refusals.Reason.{Reason}
 use Rattle.layout.specs.declared.refusals.Reason.TheVariants as reason
@@ -13,9 +14,9 @@ as_number malformed = Err reason.NotAForm
 as_number invalid = Err reason.BadWord
 as_number (parsed n) = Ok n
 
--- the value of digits, or 65536 for any above 65535
-unfoldable pub capped_value : List ℕ → ℕ
-capped_value w = pick (leb (value 0 w) 65535) (value 0 w) 65536
+-- the value of digits, if it is at most 65535
+unfoldable pub small_value : List ℕ → Option ℕ
+small_value w = pick (leb (value 0 w) 65535) (Some (value 0 w)) None
 
 -- ---- the value
 
@@ -28,29 +29,13 @@ pub value_next : (a : ℕ) (l : List ℕ) (i : ℕ) → i < length l → value a
 unfolding value
 value_next a l i h = rw (drop-cons l i 0 h)
 
-pub capped_big : (l : List ℕ) → 65535 < value 0 l → capped_value l ≡ 65536
-unfolding capped_value
-capped_big l h = rw (lt-leb (value 0 l) 65535 h)
+pub small_none : (l : List ℕ) → 65535 < value 0 l → small_value l ≡ None
+unfolding small_value
+small_none l h = rw (lt-leb (value 0 l) 65535 h)
 
-pub capped_small : (l : List ℕ) → value 0 l ≤ 65535 → capped_value l ≡ value 0 l
-unfolding capped_value
-capped_small l h = rw (le-leb (value 0 l) 65535 h)
-
-capped_above : (l : List ℕ) → 65535 < capped_value l → 65535 < value 0 l
-unfolding capped_value
-capped_above l h = go (leb (value 0 l) 65535) refl h
-  where
-    go : (t : Bool) → leb (value 0 l) 65535 ≡ t → 65535 < pick t (value 0 l) 65536 → 65535 < value 0 l
-    go true e b = b
-    go false e b = leb-false (value 0 l) 65535 e
-
-capped_within : (l : List ℕ) → capped_value l ≤ 65535 → value 0 l ≤ 65535
-unfolding capped_value
-capped_within l h = go (leb (value 0 l) 65535) refl h
-  where
-    go : (t : Bool) → leb (value 0 l) 65535 ≡ t → pick t (value 0 l) 65536 ≤ 65535 → value 0 l ≤ 65535
-    go true e b = b
-    go false e b = absurd (omega arith)
+pub small_some : (l : List ℕ) → value 0 l ≤ 65535 → small_value l ≡ Some (value 0 l)
+unfolding small_value
+small_some l h = rw (le-leb (value 0 l) 65535 h)
 
 -- ---- no leading zero
 
@@ -77,10 +62,16 @@ module _ (l : List ℕ) (digits : all is_digit l ≡ true) where
   unfolding parse_number
   number_zero k = rw (digits, k)
 
-  pub number_big : no_leading_zero l ≡ true → 65535 < capped_value l → parse_number l ≡ invalid
-  unfolding parse_number
-  number_big k b = rw (digits, k, lt-leb (value 0 l) 65535 (capped_above l b))
+  pub number_value : no_leading_zero l ≡ true → as_number (parse_number l) ≡ ok_or (small_value l) reason.BadWord
+  unfolding parse_number small_value
+  number_value k = rw (digits, k) (go (leb (value 0 l) 65535))
+    where
+      go : (t : Bool) → as_number (pick t (parsed (value 0 l)) invalid) ≡ ok_or (pick t (Some (value 0 l)) None) reason.BadWord
+      go true = refl
+      go false = refl
 
-  pub number_is : no_leading_zero l ≡ true → capped_value l ≤ 65535 → parse_number l ≡ parsed (capped_value l)
-  unfolding parse_number
-  number_is k b = rw (digits, k, capped_small l (capped_within l b), le-leb (value 0 l) 65535 (capped_within l b))
+-- ---- a flag
+
+unfoldable pub flag_of : List ℕ → Option Bool
+unfolding bytes
+flag_of w = pick (same (bytes "0") w) (Some false) (pick (same (bytes "1") w) (Some true) None)

@@ -6,7 +6,7 @@ ghost use Rattle.tokens.specs.Arguments.{are_slots, checked, verdict, refusal_by
 
 use super::names::is_name;
 use super::numbers::number;
-use super::scan::{equal, find};
+use super::scan::{equal, first_word};
 use super::words::Kind;
 use layout::refusals::Reason;
 
@@ -120,6 +120,7 @@ pub fn lower<A: Drop, B: Drop>(a: Result<A, Reason>, b: Result<B, Reason>) -> Re
 }
 
 // All words are judged, those past the 64th too: a later word may have a lower number.
+// Kept: counted by hand; the count is answered, and `enumerate` leaves no number behind its loop.
 pub fn check_all(s: &[u8], arguments: Arguments) -> Checked
     ensures { result ≡ checked (length (split 32 s.now)) (lowest_of (refusal_by (are_slots arguments)) (split 32 s.now)) }
 {
@@ -136,7 +137,7 @@ pub fn check_all(s: &[u8], arguments: Arguments) -> Checked
 pub fn single_number(s: &[u8]) -> Result<u16, Reason>
     ensures { result ≡ as_number (single (split 32 s.now)) }
 {
-    if find(s, 32) < s.len() {
+    if s.contains(&b' ') {
         return Err(Reason::NotAForm);
     }
     number(s)
@@ -146,17 +147,15 @@ pub fn single_number(s: &[u8]) -> Result<u16, Reason>
 fn check_for(s: &[u8]) -> Checked
     ensures { result ≡ check_for (split 32 s.now) }
 {
-    let e = find(s, 32);
-    if e == s.len() {
+    let Some((name, tier)) = first_word(s) else {
         return NO_FORM;
-    }
-    let tier = &s[e + 1..];
-    if find(tier, 32) < tier.len() {
+    };
+    if tier.contains(&b' ') {
         return NO_FORM;
     }
     Checked {
         count: 0,
-        verdict: lower(name_refusal(&s[0..e]), tier_refusal(tier)),
+        verdict: lower(name_refusal(name), tier_refusal(tier)),
     }
 }
 
@@ -164,15 +163,14 @@ fn check_for(s: &[u8]) -> Checked
 fn check_next(s: &[u8]) -> Checked
     ensures { result ≡ check_next (split 32 s.now) }
 {
-    let e = find(s, 32);
-    let mark = mark_refusal(&s[0..e]);
-    if e == s.len() {
+    let Some((mark, words)) = first_word(s) else {
         return Checked {
             count: 0,
-            verdict: mark,
+            verdict: mark_refusal(s),
         };
-    }
-    let slots = check_all(&s[e + 1..], Arguments::Slots);
+    };
+    let mark = mark_refusal(mark);
+    let slots = check_all(words, Arguments::Slots);
     Checked {
         count: slots.count,
         verdict: lower(mark, slots.verdict),

@@ -3,6 +3,7 @@ ghost use Rattle.std.specs.Prelude.{◌≡◌, ◌≤◌, ◌==◌, length};
 ghost use Rattle.std.specs.List.{position};
 ghost use Rattle.listings.specs.Bytes.{same};
 ghost use Rattle.listings.specs.Scan.{index_of};
+ghost use Rattle.tokens.specs.Scan.{FirstWord};
 
 // Where the first b stands.
 fn place_of(s: &[u8], b: u8) -> Option<usize>
@@ -16,6 +17,14 @@ pub fn find(s: &[u8], b: u8) -> usize
     ensures { (result ≡ index_of b s.now) × (result ≤ length s.now) }
 {
     place_of(s, b).unwrap_or(s.len())
+}
+
+// The first word, and the words after it; none where there is no other.
+pub fn first_word(s: &[u8]) -> Option<(&[u8], &[u8])>
+    ensures { FirstWord s.now result }
+{
+    let e = place_of(s, b' ')?;
+    Some((&s[..e], &s[e + 1..]))
 }
 
 // The same bytes.

@@ -2,15 +2,9 @@
 ghost use Rattle.std.specs.Prelude.{◌≡◌, [], ◌<◌, length, get_or};
 ghost use Rattle.listings.specs.WordTable.{words};
 ghost use Rattle.listing_laws.specs.WordSlots.{candidate_of};
-ghost use Rattle.tokens.specs.Kinds.{word_found, opened_kind};
+ghost use Rattle.tokens.specs.Kinds.{row_at, word_found, opened_kind};
 
 use super::scan::equal;
-
-static WORDS: [&[u8]; 28] = [
-    b"module", b"line", b"if", b"ifelse", b"rcomp", b"to", b"stmts", b"goto", b"gosub", b"return",
-    b"run", b"ongoto", b"ongosub", b"for", b"next", b"repeat", b"loop", b"until", b"endloop",
-    b"exit", b"exitif", b"doif", b"else", b"done", b"clr", b"stop", b"any", b"plain",
-];
 
 // For each slot the number of the opening word that has it, or 0.
 const SLOTS: [u8; 64] = [
@@ -35,46 +29,50 @@ pub enum Kind {
     Next,
 }
 
-// By the opening words' numbers.
-static KINDS: [Kind; 28] = [
-    Kind::Module,
-    Kind::Line,
-    Kind::Cond,
-    Kind::Cond,
-    Kind::Cond,
-    Kind::To,
-    Kind::Stmts,
-    Kind::Number,
-    Kind::Number,
-    Kind::Bare,
-    Kind::Run,
-    Kind::Numbers,
-    Kind::Numbers,
-    Kind::For,
-    Kind::Next,
-    Kind::Bare,
-    Kind::Bare,
-    Kind::Bare,
-    Kind::Bare,
-    Kind::Bare,
-    Kind::Bare,
-    Kind::Bare,
-    Kind::Bare,
-    Kind::Bare,
-    Kind::Bare,
-    Kind::Bare,
-    Kind::Bare,
-    Kind::Bare,
+// The opening words by their numbers, and the kinds of form that they open.
+static FORMS: [(&[u8], Kind); 28] = [
+    (b"module", Kind::Module),
+    (b"line", Kind::Line),
+    (b"if", Kind::Cond),
+    (b"ifelse", Kind::Cond),
+    (b"rcomp", Kind::Cond),
+    (b"to", Kind::To),
+    (b"stmts", Kind::Stmts),
+    (b"goto", Kind::Number),
+    (b"gosub", Kind::Number),
+    (b"return", Kind::Bare),
+    (b"run", Kind::Run),
+    (b"ongoto", Kind::Numbers),
+    (b"ongosub", Kind::Numbers),
+    (b"for", Kind::For),
+    (b"next", Kind::Next),
+    (b"repeat", Kind::Bare),
+    (b"loop", Kind::Bare),
+    (b"until", Kind::Bare),
+    (b"endloop", Kind::Bare),
+    (b"exit", Kind::Bare),
+    (b"exitif", Kind::Bare),
+    (b"doif", Kind::Bare),
+    (b"else", Kind::Bare),
+    (b"done", Kind::Bare),
+    (b"clr", Kind::Bare),
+    (b"stop", Kind::Bare),
+    (b"any", Kind::Bare),
+    (b"plain", Kind::Bare),
 ];
 
+// Row k of a table.
+fn row<'a>(table: &[(&'a [u8], Kind)], k: usize) -> Option<(&'a [u8], Kind)>
+    ensures { result ≡ row_at table.now k }
+{
+    table.get(k).copied()
+}
+
 // Opening word k, without letters where there is no such word.
-fn word(k: usize) -> &'static [u8]
+pub fn word(k: usize) -> &'static [u8]
     ensures { result.now ≡ get_or words k [] }
 {
-    if k < 28 {
-        return WORDS[k];
-    }
-    b""
+    row(&FORMS, k).map_or(b"", |(word, _)| word)
 }
 
 // The length of opening word k, 0 where there is no such word.
@@ -88,11 +86,7 @@ pub fn word_length(k: usize) -> usize
 pub fn word_letter(k: usize, j: usize) -> u8
     ensures { result ≡ get_or (get_or words k []) j 0 }
 {
-    let letters = word(k);
-    if j < letters.len() {
-        return letters[j];
-    }
-    0
+    word(k).get(j).copied().unwrap_or(0)
 }
 
 // The only opening word that w can be, by its first and last letters and its length.
@@ -112,18 +106,12 @@ pub fn word_of(w: &[u8]) -> Option<usize>
     ensures { result ≡ word_found w.now }
 {
     let k = candidate(w);
-    if equal(word(k), w) {
-        return Some(k);
-    }
-    None
+    equal(word(k), w).then_some(k)
 }
 
 // The kind of form that opening word k opens.
 pub fn kind_of(k: usize) -> Option<Kind>
     ensures { result ≡ opened_kind k }
 {
-    if k < 28 {
-        return Some(KINDS[k]);
-    }
-    None
+    row(&FORMS, k).map(|(_, kind)| kind)
 }

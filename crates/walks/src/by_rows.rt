@@ -1,14 +1,14 @@
 // Where each RETURN goes back to, by rows of bits: regions by closed rows in place of walks.
-ghost use Rattle.std.specs.Prelude.{◌≡◌, ◌*◌, ◌≤◌, ◌<◌, length};
+ghost use Rattle.std.specs.Prelude.{◌≡◌, ◌*◌, ◌≤◌, ◌<◌, length, take};
 ghost use Rattle.passes.specs.WalkTables.{CallsRead};
 ghost use Rattle.passes.specs.ByRows.{EntryByRows, EntriesByRows, ByRowsReady, ByRowsAnswered};
 
 use crate::clearing::clear_returns;
 use crate::closure::{close_rows, list_row};
 use crate::readable::calls_readable;
-use crate::regions::{join_region, list_calls};
+use crate::regions::join_region;
 use crate::sets::Sets;
-use crate::spans::{Calls, SPANS_LENGTH, span_calls};
+use crate::spans::Calls;
 use layout::limits::MAX_STMTS;
 use layout::zeroing::all_of;
 use tables::nodes::{Nodes, Records};
@@ -18,12 +18,12 @@ use tables::nodes::{Nodes, Records};
 // which a walk does not read.
 fn join_by_rows(
     g: &Nodes<'_>,
-    calls: &Calls<'_>,
+    calls: &Calls,
     e: usize,
     work: &mut [u16; MAX_STMTS],
     rows: &mut [u64],
 )
-    requires { ByRowsReady g.now.records.stmts.now g.now.falls.now g.now.links.now g.now.records.n calls.now.list.now calls.now.spans.now rows.old × (e < g.now.records.n) }
+    requires { ByRowsReady g.now.records.stmts.now g.now.falls.now g.now.links.now g.now.records.n (take calls.now.count calls.now.list) calls.now.spans rows.old × (e < g.now.records.n) }
     ensures { EntryByRows g.now.records.stmts.now g.now.falls.now g.now.links.now g.now.records.n e rows.old rows.new }
 {
     let Some(called) = calls.of_entry(e) else {
@@ -42,13 +42,9 @@ fn join_by_rows(
 }
 
 // All called entries.
-fn join_entries_by_rows(
-    g: &Nodes<'_>,
-    calls: &Calls<'_>,
-    work: &mut [u16; MAX_STMTS],
-    rows: &mut [u64],
-)
-    requires { ByRowsReady g.now.records.stmts.now g.now.falls.now g.now.links.now g.now.records.n calls.now.list.now calls.now.spans.now rows.old }
+// Kept: alike with regions::join_entries is the `for` alone; a closure in place of the call would hold `work` and `rows`, which are written.
+fn join_entries_by_rows(g: &Nodes<'_>, calls: &Calls, work: &mut [u16; MAX_STMTS], rows: &mut [u64])
+    requires { ByRowsReady g.now.records.stmts.now g.now.falls.now g.now.links.now g.now.records.n (take calls.now.count calls.now.list) calls.now.spans rows.old }
     ensures { EntriesByRows g.now.records.stmts.now g.now.falls.now g.now.links.now g.now.records.n g.now.records.n rows.old rows.new }
 {
     for e in 0..g.records.n {
@@ -61,14 +57,9 @@ fn join_regions_by_rows(g: &Nodes<'_>, rows: &mut [u64])
     requires { CallsRead g.now.records.stmts.now g.now.falls.now g.now.links.now g.now.records.n × (g.now.records.n * 64 ≤ length rows.old) }
     ensures { EntriesByRows g.now.records.stmts.now g.now.falls.now g.now.links.now g.now.records.n g.now.records.n rows.old rows.new }
 {
-    let mut buffer = all_of::<u16, MAX_STMTS>(0);
-    let count = list_calls(&g.records, &mut buffer);
-    let list = &buffer[..count];
-    let mut table = all_of::<u16, SPANS_LENGTH>(0);
-    span_calls(g, list, &mut table);
-    let spans = &table;
+    let calls = Calls::of(g);
     let mut work = all_of::<u16, MAX_STMTS>(0);
-    join_entries_by_rows(g, &Calls { list, spans }, &mut work, rows);
+    join_entries_by_rows(g, &calls, &mut work, rows);
 }
 
 // A row of bits for each of n nodes says where it leads; that of a RETURN becomes its set, where it goes back to, and any other all that can be

@@ -3,19 +3,18 @@ ghost use Rattle.std.specs.Prelude.{◌+◌, ◌*◌, ◌≤◌, ◌<◌, length
 ghost use Rattle.passes.specs.Clearing.{SetCleared, SetsCleared, ClearAnswered};
 
 use crate::readable::sets_fit;
-use layout::columns::ARG_ENTRIES;
+use crate::sets::words_of;
 use layout::words::RETURN;
 use tables::nodes::Records;
 
 // Clears the set of node i, where that is a RETURN.
+// Kept: here and below sets with their bound in the contract: they are written, so a struct of them would hold a `&mut`.
 fn clear_set(records: &Records<'_>, i: usize, sets: &mut [u64])
     requires { (i < records.now.n) × (i * 64 + 64 ≤ length sets.old) }
     ensures { SetCleared records.now.stmts.now i sets.old sets.new }
 {
     if records.word(i) == RETURN {
-        let start = i * ARG_ENTRIES;
-        let end = start + 64;
-        sets[start..end].fill(0);
+        sets[words_of(i)].fill(0);
     }
 }
 

@@ -1,22 +1,25 @@
 // Rows of bits, 64 words a node, as sets have them: where each node leads, and, once they are closed, all that it can reach (Warshall).
-ghost use Rattle.std.specs.Prelude.{◌≡◌, ◌+◌, ◌*◌, ◌≤◌, ◌<◌, length, take};
+ghost use Rattle.std.specs.Prelude.{◌≡◌, ◌+◌, ◌*◌, ◌≤◌, ◌<◌, eqb, length, take};
 ghost use Rattle.passes.specs.Sets.{bit};
 ghost use Rattle.passes.specs.ReturnSets.{set_of};
 ghost use Rattle.passes.specs.Closure.{Closed, RowJoined, RowsJoined, RowReached, RowListed};
 
-use crate::sets::{Sets, insert, join, no_words, put_members, set_at};
+use crate::sets::{Sets, insert, join, no_words, put_members, set_at, words_of};
 use layout::columns::ARG_ENTRIES;
 use layout::limits::MAX_STMTS;
 use layout::words::RETURN;
 
-// 1 where row i has node j, else 0.
+// Whether row i has node j.
 #[tactic(auto, using(passes::specs::ClosureLaws::row_bit))]
-fn row_bit(rows: &[u64], i: usize, j: usize) -> u64
+fn row_bit(rows: &[u64], i: usize, j: usize) -> bool
     requires { (i < 4096) × (i * 64 + 64 ≤ length rows.now) × (j < 4096) }
-    ensures { result ≡ bit (set_of rows.now i) j }
+    ensures { result ≡ eqb (bit (set_of rows.now i) j) 1 }
 {
-    (rows[i * ARG_ENTRIES + j / 64] >> (j % 64)) % 2
+    (rows[i * ARG_ENTRIES + j / 64] >> (j % 64)) % 2 == 1
 }
+
+// Kept: here and below rows with their bound in the contract: they are written, so a struct of them would hold a `&mut`; a `Sets` of them,
+// for the two that only read, would be made anew at each of n * n steps.
 
 // Row i as a set of its own, so that the rows can change meanwhile.
 #[tactic(auto, unfolding(passes::specs::ReturnSets::set_of))]
@@ -35,10 +38,8 @@ fn close_row(rows: &mut [u64], i: usize, k: usize, row: &[u64; 64])
     requires { (i < 4096) × (i * 64 + 64 ≤ length rows.old) × (k < 4096) }
     ensures { RowJoined k row.now i rows.old rows.new }
 {
-    if row_bit(rows, i, k) == 1 {
-        let start = i * ARG_ENTRIES;
-        let end = start + 64;
-        join(&mut rows[start..end], row);
+    if row_bit(rows, i, k) {
+        join(&mut rows[words_of(i)], row);
     }
 }
 
@@ -79,6 +80,7 @@ fn row_region(rows: &Sets<'_>, from: usize) -> [u64; 64]
 }
 
 // Lists these, ascending, and answers how many.
+// Kept: a list and how many, as `region` does, so that one worklist serves all entries.
 pub(crate) fn list_row(rows: &Sets<'_>, from: usize, work: &mut [u16; MAX_STMTS]) -> usize
     requires { from < rows.now.records.n }
     ensures { (result ≤ length work.new) × RowListed rows.now.records.stmts.now rows.now.words.now rows.now.records.n from (take result work.new) }

@@ -4,6 +4,7 @@
 pub mod by_rows;
 pub mod clearing;
 pub mod closure;
+pub mod lists;
 pub mod readable;
 pub mod regions;
 pub mod return_sets;

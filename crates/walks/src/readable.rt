@@ -18,7 +18,7 @@ pub fn sets_fit(stmts: &[u16], sets: &[u64], n: usize) -> bool
 }
 
 // Whether the targets of call c are few, and these and where it falls are among the nodes.
-#[tactic(auto, using(passes::specs::RegionLaws::target_part), unfolding(passes::specs::WalkTables::call_readable))]
+#[tactic(auto, using(passes::specs::RegionLaws::targets_row), unfolding(passes::specs::WalkTables::call_readable))]
 fn call_readable(g: &Nodes<'_>, c: usize) -> bool
     requires { c < g.now.records.n }
     ensures { result ≡ call_readable g.now.records.stmts.now g.now.falls.now g.now.links.now g.now.records.n c }
@@ -26,8 +26,7 @@ fn call_readable(g: &Nodes<'_>, c: usize) -> bool
     let n = g.records.n;
     let count = g.records.count(c);
     let fall = usize::from(g.fall(c));
-    let at = c * ARG_ENTRIES;
-    count <= MAX_ARGS && fall <= n && ids_below(&g.links[at..at + count], n + 1)
+    count <= MAX_ARGS && fall <= n && ids_below(g.targets(c), n + 1)
 }
 
 // Of a node that is no call nothing is asked.

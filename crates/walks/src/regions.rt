@@ -1,50 +1,22 @@
 // Where RETURNs go back to without handlers: one walk for each entry that is called, and the continuations of its calls joined into
 // the set of each RETURN that the walk lists.
-ghost use Rattle.std.specs.Prelude.{◌≡◌, ◌+◌, ◌*◌, ◌≤◌, ◌<◌, length};
+ghost use Rattle.std.specs.Prelude.{◌≡◌, ◌+◌, ◌*◌, ◌≤◌, ◌<◌, length, take};
 ghost use Rattle.listings.specs.Every.{All};
 ghost use Rattle.graph.specs.Lists.{each};
 ghost use Rattle.graph_laws.specs.Adding.{decode};
-ghost use Rattle.passes.specs.Sets.{one_if, Put};
-ghost use Rattle.tables.specs.Columns.{call_word, word_of};
-ghost use Rattle.passes.specs.Regions.{calls_below, back_from, CallFits, EntryCalls, SetAdded, ListedJoined, RegionJoined, RegionsJoined, SetsFound, EntriesReady};
+ghost use Rattle.passes.specs.Regions.{back_from, CallFits, EntryCalls, SetAdded, ListedJoined, RegionJoined, RegionsJoined, SetsFound, EntriesReady};
 ghost use Rattle.passes.specs.Walk.{Stored, stored_list};
 ghost use Rattle.passes.specs.WalkTables.{CallsRead, RegionsAnswered};
 
 use crate::readable::walks_readable;
 use crate::return_sets::join_returns;
 use crate::sets::{insert, no_words};
-use crate::spans::{Calls, SPANS_LENGTH, span_calls};
+use crate::spans::Calls;
 use crate::walk::Listed;
-use layout::columns::{ARG_ENTRIES, COUNT, FALL_ENTRIES, STMT_ENTRIES};
 use layout::limits::MAX_STMTS;
 use layout::zeroing::all_of;
-use tables::calls::is_call;
 use tables::lists::holds;
 use tables::nodes::{Nodes, Records};
-
-// Puts node i behind the first m entries, if it is a call.
-fn list_call(records: &Records<'_>, i: usize, calls: &mut [u16], m: usize) -> usize
-    requires { (i < records.now.n) × (m < length calls.old) }
-    ensures { Put calls.old m calls.new result (one_if (call_word (word_of records.now.stmts.now i)) i) }
-{
-    if is_call(records.word(i)) {
-        calls[m] = i as u16;
-        return m + 1;
-    }
-    m
-}
-
-// Lists the calls, ascending, and answers how many: later loops run over these alone.
-pub(crate) fn list_calls(records: &Records<'_>, calls: &mut [u16]) -> usize
-    requires { records.now.n ≤ length calls.old }
-    ensures { Put calls.old 0 calls.new result (calls_below records.now.stmts.now records.now.n) }
-{
-    let mut m: usize = 0;
-    for i in 0..records.n {
-        m = list_call(records, i, calls, m);
-    }
-    m
-}
 
 // Inserts the node t - 1, where t is not 0.
 fn insert_some(set: &mut [u64; 64], t: u16)
@@ -61,10 +33,8 @@ fn add_back(g: &Nodes<'_>, c: usize, e: usize, backs: &mut [u64; 64])
     requires { CallFits g.now.records.stmts.now g.now.falls.now g.now.links.now c × (e < 4096) }
     ensures { SetAdded backs.old backs.new (back_from g.now.records.stmts.now g.now.falls.now g.now.links.now e c) }
 {
-    let at = c * ARG_ENTRIES;
-    let end = at + usize::from(g.records.stmts[c * STMT_ENTRIES + COUNT]);
-    if holds(&g.links[at..end], (e + 1) as u16) {
-        insert_some(backs, g.falls[c * FALL_ENTRIES]);
+    if holds(g.targets(c), (e + 1) as u16) {
+        insert_some(backs, g.fall(c));
     }
 }
 
@@ -79,6 +49,7 @@ fn add_backs(g: &Nodes<'_>, calls: &[u16], e: usize, backs: &mut [u64; 64])
 }
 
 // For the entry e, with its calls and a list of its region: the continuations of the calls are joined into the set of each RETURN there.
+// Kept: here and below sets with their bound in the contract, as in clearing.rt.
 pub(crate) fn join_region(g: &Nodes<'_>, calls: &[u16], e: usize, list: &[u16], sets: &mut [u64])
     requires { EntryCalls g.now.records.stmts.now g.now.falls.now g.now.links.now g.now.records.n e calls.now × (e < g.now.records.n) × (g.now.records.n * 64 ≤ length sets.old) }
     ensures { ListedJoined g.now.records.stmts.now g.now.falls.now g.now.links.now g.now.records.n e list.now sets.old sets.new }
@@ -91,12 +62,12 @@ pub(crate) fn join_region(g: &Nodes<'_>, calls: &[u16], e: usize, list: &[u16], 
 // The entry e, if it is called: its region by the stored lists, listed in `work`.
 fn join_called(
     w: &Listed<'_>,
-    calls: &Calls<'_>,
+    calls: &Calls,
     e: usize,
     work: &mut [u16; MAX_STMTS],
     sets: &mut [u64],
 )
-    requires { let g = w.now.nodes in EntriesReady g.records.stmts.now g.falls.now g.links.now w.now.lists.now w.now.edges.now g.records.n calls.now.list.now calls.now.spans.now sets.old × (e < g.records.n) }
+    requires { let g = w.now.nodes in EntriesReady g.records.stmts.now g.falls.now g.links.now w.now.lists.now w.now.edges.now g.records.n (take calls.now.count calls.now.list) calls.now.spans sets.old × (e < g.records.n) }
     ensures { let g = w.now.nodes in RegionJoined g.records.stmts.now g.falls.now g.links.now (stored_list w.now.lists.now w.now.edges.now) g.records.n e sets.old sets.new }
 {
     let Some(called) = calls.of_entry(e) else {
@@ -107,8 +78,8 @@ fn join_called(
 }
 
 // All called entries.
-fn join_entries(w: &Listed<'_>, calls: &Calls<'_>, work: &mut [u16; MAX_STMTS], sets: &mut [u64])
-    requires { let g = w.now.nodes in EntriesReady g.records.stmts.now g.falls.now g.links.now w.now.lists.now w.now.edges.now g.records.n calls.now.list.now calls.now.spans.now sets.old }
+fn join_entries(w: &Listed<'_>, calls: &Calls, work: &mut [u16; MAX_STMTS], sets: &mut [u64])
+    requires { let g = w.now.nodes in EntriesReady g.records.stmts.now g.falls.now g.links.now w.now.lists.now w.now.edges.now g.records.n (take calls.now.count calls.now.list) calls.now.spans sets.old }
     ensures { let g = w.now.nodes in RegionsJoined g.records.stmts.now g.falls.now g.links.now (stored_list w.now.lists.now w.now.edges.now) g.records.n g.records.n sets.old sets.new }
 {
     for e in 0..w.nodes.records.n {
@@ -121,14 +92,9 @@ fn join_regions(w: &Listed<'_>, sets: &mut [u64])
     requires { let g = w.now.nodes in CallsRead g.records.stmts.now g.falls.now g.links.now g.records.n × Stored w.now.lists.now w.now.edges.now g.records.n (stored_list w.now.lists.now w.now.edges.now) × (g.records.n * 64 ≤ length sets.old) }
     ensures { let g = w.now.nodes in SetsFound g.records.stmts.now g.falls.now g.links.now (stored_list w.now.lists.now w.now.edges.now) g.records.n sets.old sets.new }
 {
-    let mut buffer = all_of::<u16, MAX_STMTS>(0);
-    let count = list_calls(&w.nodes.records, &mut buffer);
-    let list = &buffer[..count];
-    let mut table = all_of::<u16, SPANS_LENGTH>(0);
-    span_calls(&w.nodes, list, &mut table);
-    let spans = &table;
+    let calls = Calls::of(&w.nodes);
     let mut work = all_of::<u16, MAX_STMTS>(0);
-    join_entries(w, &Calls { list, spans }, &mut work, sets);
+    join_entries(w, &calls, &mut work, sets);
 }
 
 // Where each RETURN goes back to comes into its set, 64 words in its own row of `sets`, by walks over the stored lists. Answers whether the tables

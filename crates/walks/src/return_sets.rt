@@ -2,20 +2,18 @@
 ghost use Rattle.std.specs.Prelude.{◌≡◌, [], ◌∷◌, ◌*◌, ◌≤◌, length};
 ghost use Rattle.passes.specs.ReturnSets.{ReturnsJoined};
 
-use crate::sets::join;
-use layout::columns::ARG_ENTRIES;
+use crate::sets::{join, words_of};
 use layout::words::RETURN;
 use tables::nodes::Records;
 
 // Joins `backs` into the set of node i, where that is a RETURN.
+// Kept: here and below sets with their bound in the contract, as in clearing.rt.
 fn join_return(records: &Records<'_>, i: usize, backs: &[u64; 64], sets: &mut [u64])
     requires { records.now.n * 64 ≤ length sets.old }
     ensures { ReturnsJoined records.now.stmts.now records.now.n (i ∷ []) backs.now sets.old sets.new }
 {
     if i < records.n && records.word(i) == RETURN {
-        let start = i * ARG_ENTRIES;
-        let end = start + 64;
-        join(&mut sets[start..end], backs);
+        join(&mut sets[words_of(i)], backs);
     }
 }
 

@@ -41,6 +41,7 @@ fn sum_returns(handlers: bool, sets: &Sets<'_>, targets: usize) -> usize
 }
 
 // How many edges the RETURNs among n nodes have, of which there are at most 4,096, with at most so many targets; 0 where the tables are too short.
+// Kept: 0 and no `Option`, which stood before: its caller made the tables, and knows how long they are.
 // Kept: `handlers`, as above.
 #[tactic(auto, unfolding(passes::specs::ReturnTotals::return_total, passes::specs::WalkTables::sets_fit))]
 pub fn count_returns<'a>(

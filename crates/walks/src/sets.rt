@@ -6,19 +6,29 @@ ghost use Rattle.passes.specs.ReturnSets.{set_of};
 
 use layout::columns::ARG_ENTRIES;
 use layout::zeroing::all_of;
+use std::ops::Range;
 use tables::nodes::Records;
 
 // The words of a set.
 const WORDS: usize = 64;
 
-// The set of node i, of a table with one for each node.
+// The set of node i, of a table with one for each node; where the table ends before it has 64 words, what there is of it.
 pub fn set_at(sets: &[u64], i: usize) -> &[u64]
-    requires { i * 64 + 64 ≤ length sets.now }
     ensures is_set { result.now ≡ set_of sets.now i }
-    ensures whole { length result.now ≡ 64 }
+    ensures whole { i * 64 + 64 ≤ length sets.now → length result.now ≡ 64 }
+{
+    let start = i.saturating_mul(ARG_ENTRIES).min(sets.len());
+    let end = start.saturating_add(WORDS).min(sets.len());
+    &sets[start..end]
+}
+
+// Where the words of node i's set stand in a table with one for each node.
+pub(crate) fn words_of(i: usize) -> Range<usize>
+    requires { i < 4096 }
+    ensures { (result.start ≡ i * 64) × (result.end ≡ i * 64 + 64) }
 {
     let start = i * ARG_ENTRIES;
-    &sets[start..start + WORDS]
+    start..start + WORDS
 }
 
 // n nodes and a set for each, which are only read.
@@ -30,11 +40,10 @@ pub struct Sets<'a> {
 }
 
 impl<'a> Sets<'a> {
-    // The set of node i.
+    // The set of node i, as `set_at`.
     pub fn of(&self, i: usize) -> &'a [u64]
-        requires { i < self.now.records.n }
         ensures is_set { result.now ≡ set_of self.now.words.now i }
-        ensures whole { length result.now ≡ 64 }
+        ensures whole { i < self.now.records.n → length result.now ≡ 64 }
     {
         set_at(self.words, i)
     }
@@ -65,7 +74,8 @@ pub fn insert(set: &mut [u64], id: usize)
     }
 }
 
-// All of `more` goes into `set`. By places, since no clause says what a chain over `iter_mut` leaves in the set.
+// All of `more` goes into `set`.
+// Kept: by places, since no clause says what a chain over `iter_mut` leaves in the set.
 pub(crate) fn join(set: &mut [u64], more: &[u64])
     requires { length more.now ≡ length set.old }
     ensures { set.new ≡ joined set.old more.now }
@@ -97,6 +107,7 @@ pub(crate) fn count_members(set: &[u64]) -> usize
 }
 
 // How many members a set of 64 words has; 0 where it has not so many words.
+// Kept: 0 and no `Option`, here and in `members`: both stood before, and their callers know the length.
 #[tactic(auto, unfolding(passes::specs::Sets::size_of))]
 pub fn size_of(set: &[u64]) -> usize
     ensures { result ≡ size_of set.now }
@@ -107,20 +118,9 @@ pub fn size_of(set: &[u64]) -> usize
     count_members(set)
 }
 
-// Puts the id i behind the first n entries where its bit b is 1.
-fn put_if(part: &mut [u16], n: usize, i: usize, b: u64) -> usize
-    requires { (i < 65536) × (n + length (one_if (eqb b 1) i) ≤ length part.old) }
-    ensures { Put part.old n part.new result (one_if (eqb b 1) i) }
-{
-    if b != 1 {
-        return n;
-    }
-    part[n] = i as u16;
-    n + 1
-}
-
-// Puts the members of a word, whose lowest bit is the id `base`.
-// Kept: a `while` that halves the word, as its definition does, and ends behind the highest one; a range would ask all 64 bits of each word.
+// Puts the members of a word, whose lowest bit is the id `base`, behind n.
+// Kept: a part and how many: a word's members go behind those of the words before, and the part may be any caller's.
+// Kept: a `while`, which goes from one to one: a range would ask all 64 bits of each word.
 fn put_word(part: &mut [u16], n: usize, base: usize, word: u64) -> usize
     requires { (base ≤ 4096) × (n + length (word_members base word 64) ≤ length part.old) }
     ensures { Put part.old n part.new result (word_members base word 64) }
@@ -129,8 +129,11 @@ fn put_word(part: &mut [u16], n: usize, base: usize, word: u64) -> usize
     let mut j: usize = 0;
     let mut k = n;
     while w != 0 {
-        k = put_if(part, k, base + j, w % 2);
-        w /= 2;
+        let zeros = w.trailing_zeros();
+        j += zeros as usize;
+        part[k] = (base + j) as u16;
+        k += 1;
+        w = (w >> zeros) >> 1;
         j += 1;
     }
     k

@@ -5,40 +5,19 @@ ghost use Rattle.listings.specs.Every.{All};
 ghost use Rattle.graph.specs.Lists.{each};
 ghost use Rattle.graph_laws.specs.Adding.{decode};
 ghost use Rattle.passes.specs.Prepared.{link_entries};
-ghost use Rattle.passes.specs.Regions.{TargetsFit};
+ghost use Rattle.passes.specs.Regions.{calls_below, TargetsFit, CallsReady};
+ghost use Rattle.passes.specs.Sets.{Put};
 ghost use Rattle.passes.specs.Spans.{SpansTo, SpansGrow, Spanned, first_of};
+ghost use Rattle.passes.specs.WalkTables.{CallsRead};
 
-use layout::columns::{ARG_ENTRIES, COUNT, STMT_ENTRIES};
+use crate::lists::list_where;
 use layout::limits::MAX_STMTS;
-use tables::nodes::Nodes;
+use layout::zeroing::all_of;
+use tables::calls::is_call;
+use tables::nodes::{Nodes, Records};
 
 // How many entries the spans of all nodes have.
-pub(crate) const SPANS_LENGTH: usize = MAX_STMTS * 2;
-
-// The calls among the nodes, and where in this list those of each entry stand.
-#[derive(Clone, Copy)]
-pub(crate) struct Calls<'a> {
-    pub list: &'a [u16],
-    pub spans: &'a [u16; SPANS_LENGTH],
-    ghost within: { SpansTo spans.now (length list.now) },
-}
-
-impl<'a> Calls<'a> {
-    // The part of the list with all calls that have the entry e among their targets, if there is one.
-    pub(crate) fn of_entry(&self, e: usize) -> Option<&'a [u16]>
-        requires { e < 4096 }
-        ensures uncalled { IfNone result (get_or self.now.spans.now (e * 2 + 1) 0 ≡ 0) }
-        ensures called { IfSome result (λ l. l.now ≡ take (get_or self.now.spans.now (e * 2 + 1) 0 - get_or self.now.spans.now (e * 2) 0) (drop (get_or self.now.spans.now (e * 2) 0) self.now.list.now)) }
-    {
-        let at = e * 2;
-        let end = usize::from(self.spans[at + 1]);
-        if end == 0 {
-            return None;
-        }
-        let start = usize::from(self.spans[at]);
-        Some(&self.list[start..end])
-    }
-}
+const SPANS_LENGTH: usize = MAX_STMTS * 2;
 
 // Where a span begins that gets place k.
 #[tactic(auto, unfolding(passes::specs::Spans::first_of))]
@@ -75,17 +54,63 @@ fn span_call(g: &Nodes<'_>, c: usize, k: u16, spans: &mut [u16; SPANS_LENGTH])
     requires { TargetsFit g.now.records.stmts.now g.now.links.now c × (k < 4096) }
     ensures { SpansGrow k (link_entries g.now.records.stmts.now g.now.links.now c) spans.old spans.new }
 {
-    let at = c * ARG_ENTRIES;
-    let end = at + usize::from(g.records.stmts[c * STMT_ENTRIES + COUNT]);
-    span_row(&g.links[at..end], k, spans);
+    span_row(g.targets(c), k, spans);
 }
 
 // The spans of all calls of a list.
-pub(crate) fn span_calls(g: &Nodes<'_>, calls: &[u16], spans: &mut [u16; SPANS_LENGTH])
+fn span_calls(g: &Nodes<'_>, calls: &[u16], spans: &mut [u16; SPANS_LENGTH])
     requires { All (TargetsFit g.now.records.stmts.now g.now.links.now) calls.now × (length calls.now ≤ 4096) × (spans.old ≡ replicate 8192 0) }
     ensures { Spanned g.now.records.stmts.now g.now.links.now calls.now (length calls.now) spans.new }
 {
     for (k, &c) in calls.iter().enumerate() {
         span_call(g, usize::from(c), k as u16, spans);
+    }
+}
+
+// Lists the calls, ascending, and answers how many: later loops run over these alone.
+fn list_calls(records: &Records<'_>, calls: &mut [u16; MAX_STMTS]) -> usize
+    ensures { Put calls.old 0 calls.new result (calls_below records.now.stmts.now records.now.n) }
+{
+    list_where(records, |i| is_call(records.word(i)), calls)
+}
+
+// The calls among the nodes, the first `count` of the list, and where in it those of each entry stand.
+#[derive(Drop)]
+pub(crate) struct Calls {
+    pub list: [u16; MAX_STMTS],
+    pub count: usize,
+    pub spans: [u16; SPANS_LENGTH],
+    ghost few: { count ≤ 4096 },
+    ghost within: { SpansTo spans count },
+}
+
+impl Calls {
+    // Those of these nodes. Inlined, so that the arrays are made where they stay.
+    #[inline(always)]
+    pub(crate) fn of(g: &Nodes<'_>) -> Calls
+        requires { CallsRead g.now.records.stmts.now g.now.falls.now g.now.links.now g.now.records.n }
+        ensures ready { CallsReady g.now.records.stmts.now g.now.falls.now g.now.links.now g.now.records.n (take result.count result.list) }
+        ensures spanned { let l = take result.count result.list in Spanned g.now.records.stmts.now g.now.links.now l (length l) result.spans }
+    {
+        let mut list = all_of::<u16, MAX_STMTS>(0);
+        let count = list_calls(&g.records, &mut list);
+        let mut spans = all_of::<u16, SPANS_LENGTH>(0);
+        span_calls(g, &list[..count], &mut spans);
+        Calls { list, count, spans }
+    }
+
+    // The part of the list with all calls that have the entry e among their targets, if there is one.
+    pub(crate) fn of_entry(&self, e: usize) -> Option<&[u16]>
+        requires { e < 4096 }
+        ensures uncalled { IfNone result (get_or self.now.spans (e * 2 + 1) 0 ≡ 0) }
+        ensures called { IfSome result (λ l. l.now ≡ take (get_or self.now.spans (e * 2 + 1) 0 - get_or self.now.spans (e * 2) 0) (drop (get_or self.now.spans (e * 2) 0) (take self.now.count self.now.list))) }
+    {
+        let at = e * 2;
+        let end = usize::from(self.spans[at + 1]);
+        if end == 0 {
+            return None;
+        }
+        let start = usize::from(self.spans[at]);
+        Some(&self.list[..self.count][start..end])
     }
 }

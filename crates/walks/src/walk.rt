@@ -2,13 +2,14 @@
 ghost use Rattle.std.specs.Prelude.{◌≡◌, false, ◌<◌, ◌≤◌, length, replicate};
 ghost use Rattle.passes.specs.Walk.{Stored, stored_list, RegionListed, Markable, ListMarked};
 
-use layout::columns::{LIST_ENTRIES, SUCC_COUNT};
 use layout::limits::MAX_STMTS;
 use layout::zeroing::all_of;
+use tables::lists::list_ends;
 use tables::nodes::Nodes;
 
 // Marks the nodes of a list, and puts those that had no mark behind the `count` nodes of `work`. A node comes there with its mark, so the
 // free marks leave room.
+// Kept: a list and how many of it, of which the rest is the room that the walk fills: what is listed is read while it grows.
 pub(crate) fn mark_all(
     list: &[u16],
     marks: &mut [bool; MAX_STMTS],
@@ -61,8 +62,7 @@ impl<'a> Listed<'a> {
         while done < count {
             let v = usize::from(work[done]);
             done += 1;
-            let start = usize::from(self.lists[v * LIST_ENTRIES]);
-            let end = start + usize::from(self.lists[v * LIST_ENTRIES + SUCC_COUNT]);
+            let (start, end) = list_ends(self.lists, v);
             count = mark_all(&self.edges[start..end], &mut marks, work, count);
         }
         count

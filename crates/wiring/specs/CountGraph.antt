@@ -34,9 +34,9 @@ use Rattle.passes.specs.Connecting.{no}
 -- ---- the RETURNs' sets
 
 -- own: how many edges the other nodes have; their lists are stored where these are few
-pub record ReturnsReady (own : ℕ) (stmts args entries falls links frames dispatched : List ℕ) (lines n d : ℕ) (lists scratch : List ℕ) (room : ℕ) : Type 0 where
+pub record ReturnsReady (own : ℕ) (stmts args entries falls links frames dispatched : List ℕ) (lines n : ℕ) (lists scratch : List ℕ) (room : ℕ) : Type 0 where
   pub listing : Listing
-  pub prepared : Prepared listing stmts args entries falls links frames dispatched lines n d
+  pub prepared : Prepared listing stmts args entries falls links frames dispatched lines n
   pub stored : own ≤ 32768 → Stored lists scratch n (skip_steps (wire listing))
   pub buffer : n ≤ room
 
@@ -45,25 +45,25 @@ pub record FoundReturns (L : Listing) (handlers : Bool) (own : ℕ) (stmts : Lis
   pub members : handlers ≡ false → (r : ℕ) → r < n → get_or stmts (r * 12) 0 ≡ 9 → members_of (set_of args' r) ≡ region_return_edges (wire L) r
   pub kept : own ≤ 32768 → ReturnRowsOnly stmts n args args'
 
-abbrev pub ReturnsFound : (handlers : Bool) (own : ℕ) (stmts args entries falls links frames dispatched : List ℕ) (lines n d : ℕ) (lists scratch args' : List ℕ) → Type 0
-ReturnsFound h own stmts args entries falls links frames dispatched lines n d lists scratch args' =
-    (L : Listing) → Prepared L stmts args entries falls links frames dispatched lines n d → (own ≤ 32768 → Stored lists scratch n (skip_steps (wire L))) → FoundReturns L h own stmts n args args'
+abbrev pub ReturnsFound : (handlers : Bool) (own : ℕ) (stmts args entries falls links frames dispatched : List ℕ) (lines n : ℕ) (lists scratch args' : List ℕ) → Type 0
+ReturnsFound h own stmts args entries falls links frames dispatched lines n lists scratch args' =
+    (L : Listing) → Prepared L stmts args entries falls links frames dispatched lines n → (own ≤ 32768 → Stored lists scratch n (skip_steps (wire L))) → FoundReturns L h own stmts n args args'
 
-module _ {own : ℕ} {stmts args entries falls links frames dispatched : List ℕ} {lines n d : ℕ} {lists scratch : List ℕ} where
-  pub returns_through : (h : Bool) → h ≡ true → ReturnsFound h own stmts args entries falls links frames dispatched lines n d lists scratch args
+module _ {own : ℕ} {stmts args entries falls links frames dispatched : List ℕ} {lines n : ℕ} {lists scratch : List ℕ} where
+  pub returns_through : (h : Bool) → h ≡ true → ReturnsFound h own stmts args entries falls links frames dispatched lines n lists scratch args
   returns_through true e L p s = record { size = refl; members = λ q. no q; kept = λ q x z. refl }
   returns_through false e L p s = no (sym e)
 
-  pub regions_found : {args' : List ℕ} {r : Bool} (h : Bool) → own ≤ 32768 → RegionsAnswered stmts falls links lists scratch n args args' r → ReturnsFound h own stmts args entries falls links frames dispatched lines n d lists scratch args'
+  pub regions_found : {args' : List ℕ} {r : Bool} (h : Bool) → own ≤ 32768 → RegionsAnswered stmts falls links lists scratch n args args' r → ReturnsFound h own stmts args entries falls links frames dispatched lines n lists scratch args'
   regions_found {args'} {r} h few f L p s =
       let w = answered_graph stmts falls links lists scratch n args args' r (wire L) (prepared_roles p) (s few) p.args_fit (λ i lt e j g. return_row p i lt e j g) f in
       record { size = w.size; members = λ q r lt e. w.members r lt e; kept = λ q x z. w.others x (λ y. z y.0 y.1) }
 
-  pub by_rows_ready : {room : ℕ} → ReturnsReady own stmts args entries falls links frames dispatched lines n d lists scratch room → FillReady stmts args entries falls links frames dispatched lines n d room
+  pub by_rows_ready : {room : ℕ} → ReturnsReady own stmts args entries falls links frames dispatched lines n lists scratch room → FillReady stmts args entries falls links frames dispatched lines n room
   by_rows_ready r = let p = r.prepared in record { listing = r.listing; prepared = p; roles = prepared_roles p; room_for = r.buffer }
 
-  pub by_rows_found : {args' : List ℕ} (h : Bool) → (own ≤ 32768 → ⊥) → ReturnsByRows stmts args entries falls links frames dispatched lines n d args'
-      → ReturnsFound h own stmts args entries falls links frames dispatched lines n d lists scratch args'
+  pub by_rows_found : {args' : List ℕ} (h : Bool) → (own ≤ 32768 → ⊥) → ReturnsByRows stmts args entries falls links frames dispatched lines n args'
+      → ReturnsFound h own stmts args entries falls links frames dispatched lines n lists scratch args'
   by_rows_found h many f L p s = record { size = f.size; members = λ q r lt e. f.members L p (prepared_roles p) r lt e; kept = λ q. absurd (many q) }
 
 -- ---- no graph has many edges
@@ -78,10 +78,10 @@ edges_few L h = omega (arith, edges-joined L, joined_few (successors L) (node_co
 
 -- ---- the whole count
 
-pub record CountReady (handlers : Bool) (stmts args entries falls links frames dispatched : List ℕ) (lines n d : ℕ) (lists scratch returns : List ℕ) (room : ℕ) : Type 0 where
+pub record CountReady (handlers : Bool) (stmts args entries falls links frames dispatched : List ℕ) (lines n : ℕ) (lists scratch returns : List ℕ) (room : ℕ) : Type 0 where
   pub listing : Listing
   pub handled : handlers ≡ listing.handlers
-  pub prepared : Prepared listing stmts args entries falls links frames dispatched lines n d
+  pub prepared : Prepared listing stmts args entries falls links frames dispatched lines n
   pub rows : n * 4 ≤ length lists
   pub returns_fit : n ≤ length returns
   pub zero_lists : lists ≡ replicate (length lists) 0
@@ -89,21 +89,21 @@ pub record CountReady (handlers : Bool) (stmts args entries falls links frames d
   pub scratch_size : length scratch ≡ 36864
   pub buffer_size : room ≡ 4096
 
-pub record GraphCounted (L : Listing) (handlers : Bool) (stmts args entries falls links frames dispatched : List ℕ) (lines n d : ℕ) (args' lists' scratch' returns' : List ℕ) (edges targets : ℕ) : Type 0 where
+pub record GraphCounted (L : Listing) (handlers : Bool) (stmts args entries falls links frames dispatched : List ℕ) (lines n : ℕ) (args' lists' scratch' returns' : List ℕ) (edges targets : ℕ) : Type 0 where
   pub edges_are : edges ≡ edge_count L
   pub targets_are : targets ≡ length (return_targets (wire L))
   pub returns_are : returns' ≡ padded (length returns') (return_targets (wire L))
-  pub tables : edges ≤ 32768 → FinalTables L args handlers stmts args' entries falls links frames dispatched lines n d returns' targets
+  pub tables : edges ≤ 32768 → FinalTables L args handlers stmts args' entries falls links frames dispatched lines n returns' targets
   pub held : edges ≤ 32768 → SkipsStored (wire L) n lists' scratch'
 
-abbrev pub CountedTo : (handlers : Bool) (stmts args entries falls links frames dispatched : List ℕ) (lines n d : ℕ) (args' lists' scratch' returns' : List ℕ) (edges targets : ℕ) → Type 0
-CountedTo h stmts args entries falls links frames dispatched lines n d args' lists' scratch' returns' edges targets =
-    (L : Listing) → h ≡ L.handlers → Prepared L stmts args entries falls links frames dispatched lines n d
-    → GraphCounted L h stmts args entries falls links frames dispatched lines n d args' lists' scratch' returns' edges targets
+abbrev pub CountedTo : (handlers : Bool) (stmts args entries falls links frames dispatched : List ℕ) (lines n : ℕ) (args' lists' scratch' returns' : List ℕ) (edges targets : ℕ) → Type 0
+CountedTo h stmts args entries falls links frames dispatched lines n args' lists' scratch' returns' edges targets =
+    (L : Listing) → h ≡ L.handlers → Prepared L stmts args entries falls links frames dispatched lines n
+    → GraphCounted L h stmts args entries falls links frames dispatched lines n args' lists' scratch' returns' edges targets
 
-module _ {handlers : Bool} {stmts args entries falls links frames dispatched : List ℕ} {lines n d : ℕ} {lists scratch returns : List ℕ} {room : ℕ}
-    (c : CountReady handlers stmts args entries falls links frames dispatched lines n d lists scratch returns room) where
-  pub count_skips : (buffer : List ℕ) → length buffer ≡ room → SkipsReady stmts args entries falls links frames dispatched lines n d lists scratch buffer
+module _ {handlers : Bool} {stmts args entries falls links frames dispatched : List ℕ} {lines n : ℕ} {lists scratch returns : List ℕ} {room : ℕ}
+    (c : CountReady handlers stmts args entries falls links frames dispatched lines n lists scratch returns room) where
+  pub count_skips : (buffer : List ℕ) → length buffer ≡ room → SkipsReady stmts args entries falls links frames dispatched lines n lists scratch buffer
   count_skips buffer e =
       record { listing = c.listing; prepared = c.prepared; roles = prepared_roles c.prepared; rows = c.rows; scratch_size = c.scratch_size; buffer_size = e ∙ c.buffer_size }
 
@@ -111,16 +111,16 @@ module _ {handlers : Bool} {stmts args entries falls links frames dispatched : L
   count_targets = let p = c.prepared in ((p.few, p.stmts_fit, p.falls_fit, c.returns_fit), roles_falls (prepared_roles p))
 
   module _ {own : ℕ} {lists' scratch' : List ℕ} where
-    stored_walk : (L : Listing) → Prepared L stmts args entries falls links frames dispatched lines n d → SkipTable (wire L) n lists lists' scratch scratch' own → own ≤ 32768 → Stored lists' scratch' n (skip_steps (wire L))
+    stored_walk : (L : Listing) → Prepared L stmts args entries falls links frames dispatched lines n → SkipTable (wire L) n lists lists' scratch scratch' own → own ≤ 32768 → Stored lists' scratch' n (skip_steps (wire L))
     stored_walk L p t few = skips_walk L p.nodes_are c.rows (t.stored few)
 
-    pub count_found : SkipTable (wire c.listing) n lists lists' scratch scratch' own → (m : ℕ) → m ≡ room → ReturnsReady own stmts args entries falls links frames dispatched lines n d lists' scratch' m
+    pub count_found : SkipTable (wire c.listing) n lists lists' scratch scratch' own → (m : ℕ) → m ≡ room → ReturnsReady own stmts args entries falls links frames dispatched lines n lists' scratch' m
     count_found t m e =
         record { listing = c.listing; prepared = c.prepared; stored = stored_walk c.listing c.prepared t; buffer = omega (arith, e, c.buffer_size, c.prepared.few) }
 
-    module _ {args' returns' : List ℕ} {targets back : ℕ} (t : (L : Listing) → Prepared L stmts args entries falls links frames dispatched lines n d → Roles (wire L) stmts falls links n → SkipTable (wire L) n lists lists' scratch scratch' own)
-        (l : TargetsListed stmts falls n returns returns' targets) (f : ReturnsFound handlers own stmts args entries falls links frames dispatched lines n d lists' scratch' args')
-        (b : back ≡ return_total handlers stmts args' n targets) (L : Listing) (h : handlers ≡ L.handlers) (p : Prepared L stmts args entries falls links frames dispatched lines n d) where
+    module _ {args' returns' : List ℕ} {targets back : ℕ} (t : (L : Listing) → Prepared L stmts args entries falls links frames dispatched lines n → Roles (wire L) stmts falls links n → SkipTable (wire L) n lists lists' scratch scratch' own)
+        (l : TargetsListed stmts falls n returns returns' targets) (f : ReturnsFound handlers own stmts args entries falls links frames dispatched lines n lists' scratch' args')
+        (b : back ≡ return_total handlers stmts args' n targets) (L : Listing) (h : handlers ≡ L.handlers) (p : Prepared L stmts args entries falls links frames dispatched lines n) where
       table : SkipTable (wire L) n lists lists' scratch scratch' own
       table = t L p (prepared_roles p)
 
@@ -155,7 +155,7 @@ module _ {handlers : Bool} {stmts args entries falls links frames dispatched : L
       left : length returns - targets ≡ length returns' - length (return_targets (wire L))
       left = omega (arith, l.size, many)
 
-      pub graph_counted : GraphCounted L handlers stmts args entries falls links frames dispatched lines n d args' lists' scratch' returns' (own + back) targets
+      pub graph_counted : GraphCounted L handlers stmts args entries falls links frames dispatched lines n args' lists' scratch' returns' (own + back) targets
       unfolding padded
       graph_counted =
           record {
@@ -176,8 +176,8 @@ module _ {handlers : Bool} {stmts args entries falls links frames dispatched : L
             held = λ few. record { skips = record { at = table.at; lists₀ = lists; scratch₀ = scratch; stored = table.stored (omega arith) }; zero-rows = c.zero_lists };
           }
 
-    pub count_fits : {args' returns' : List ℕ} {targets back : ℕ} → ((L : Listing) → Prepared L stmts args entries falls links frames dispatched lines n d → Roles (wire L) stmts falls links n → SkipTable (wire L) n lists lists' scratch scratch' own)
-        → TargetsListed stmts falls n returns returns' targets → ReturnsFound handlers own stmts args entries falls links frames dispatched lines n d lists' scratch' args'
+    pub count_fits : {args' returns' : List ℕ} {targets back : ℕ} → ((L : Listing) → Prepared L stmts args entries falls links frames dispatched lines n → Roles (wire L) stmts falls links n → SkipTable (wire L) n lists lists' scratch scratch' own)
+        → TargetsListed stmts falls n returns returns' targets → ReturnsFound handlers own stmts args entries falls links frames dispatched lines n lists' scratch' args'
         → back ≡ return_total handlers stmts args' n targets → own + back ≤ 16777216
     count_fits t l f b =
         let p = c.prepared in

@@ -35,9 +35,9 @@ abbrev pub ReturnRowsOnly : (stmts : List ℕ) (n : ℕ) (ks args : List ℕ) �
 ReturnRowsOnly stmts n ks args = (e : ℕ) → (e / 64 < n → get_or stmts ((e / 64) * 12) 0 ≡ return_word → ⊥) → get_or args e 0 ≡ get_or ks e 0
 
 -- the tables of a listing whose arguments were ks, and its return targets or sets
-pub record FinalTables (L : Listing) (ks : List ℕ) (handlers : Bool) (stmts args entries falls links frames dispatched : List ℕ) (lines n d : ℕ) (returns : List ℕ) (targets : ℕ) : Type 0 where
+pub record FinalTables (L : Listing) (ks : List ℕ) (handlers : Bool) (stmts args entries falls links frames dispatched : List ℕ) (lines n : ℕ) (returns : List ℕ) (targets : ℕ) : Type 0 where
   pub handled : L.handlers ≡ handlers
-  pub prepared : Prepared L stmts ks entries falls links frames dispatched lines n d
+  pub prepared : Prepared L stmts ks entries falls links frames dispatched lines n
   pub roles : Roles (wire L) stmts falls links n
   pub kept : ReturnRowsOnly stmts n ks args
   pub args_size : length args ≡ length ks
@@ -61,8 +61,8 @@ pub record SkipsHeld (W : Wired) (n : ℕ) (lists scratch : List ℕ) : Type 0 w
 -- ---- one node
 
 -- which list is node i's
-module _ {L : Listing} {ks : List ℕ} {handlers : Bool} {stmts args entries falls links frames dispatched : List ℕ} {lines n d : ℕ} {returns : List ℕ} {targets : ℕ}
-    (t : FinalTables L ks handlers stmts args entries falls links frames dispatched lines n d returns targets) (i : ℕ) (h : i < n) where
+module _ {L : Listing} {ks : List ℕ} {handlers : Bool} {stmts args entries falls links frames dispatched : List ℕ} {lines n : ℕ} {returns : List ℕ} {targets : ℕ}
+    (t : FinalTables L ks handlers stmts args entries falls links frames dispatched lines n returns targets) (i : ℕ) (h : i < n) where
   return_is : get_or stmts (i * 12) 0 ≡ 9 → return_list handlers args i returns targets ≡ successors L i
   unfolding return_list return_edges word_of
   return_is w =
@@ -122,8 +122,8 @@ place_now {W} {n} {lists} {scratch} k i h =
       part = stored_part k.stored i g ∙ l;
     }
 
-module _ {L : Listing} {ks : List ℕ} {handlers : Bool} {stmts args entries falls links frames dispatched : List ℕ} {lines n d : ℕ} {returns : List ℕ} {targets : ℕ} {lists scratch : List ℕ}
-    (t : FinalTables L ks handlers stmts args entries falls links frames dispatched lines n d returns targets) (k : SkipsHeld (wire L) n lists scratch) where
+module _ {L : Listing} {ks : List ℕ} {handlers : Bool} {stmts args entries falls links frames dispatched : List ℕ} {lines n : ℕ} {returns : List ℕ} {targets : ℕ} {lists scratch : List ℕ}
+    (t : FinalTables L ks handlers stmts args entries falls links frames dispatched lines n returns targets) (k : SkipsHeld (wire L) n lists scratch) where
   -- the lists by the tables are the graph's
   pub finals_are : final_lists handlers stmts args falls links n lists scratch returns targets ≡ all_successors L
   unfolding final_lists

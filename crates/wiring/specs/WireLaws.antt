@@ -16,15 +16,15 @@ use Rattle.storing.specs.StoredGraph.{GraphAnswered}
 
 -- ---- the graph
 
-module _ {handlers : Bool} {c n d : ℕ} {counts stmts args entries falls links frames dispatched succ pred : List ℕ} {args₁ lists₁ scratch₁ returns₁ : List ℕ} {edges targets : ℕ}
-    (g : CountedTo handlers stmts args entries falls links frames dispatched c n d args₁ lists₁ scratch₁ returns₁ edges targets)
-    (m : FramesMade stmts falls frames dispatched n d) where
+module _ {handlers : Bool} {c n : ℕ} {counts stmts args entries falls links frames dispatched succ pred : List ℕ} {args₁ lists₁ scratch₁ returns₁ : List ℕ} {edges targets : ℕ}
+    (g : CountedTo handlers stmts args entries falls links frames dispatched c n args₁ lists₁ scratch₁ returns₁ edges targets)
+    (m : FramesMade stmts falls frames dispatched n) where
   counted : {L : Listing} → WireHeld L handlers c n counts stmts args entries falls links succ pred
-      → GraphCounted L handlers stmts args entries falls links frames dispatched c n d args₁ lists₁ scratch₁ returns₁ edges targets
+      → GraphCounted L handlers stmts args entries falls links frames dispatched c n args₁ lists₁ scratch₁ returns₁ edges targets
   counted {L} w = g L w.handlers_are (with_frames w.prepared m)
 
   pub write_held : {L : Listing} → WireHeld L handlers c n counts stmts args entries falls links succ pred → n * 4 ≤ length lists₁ → EdgesFit edges (length succ) (length pred)
-      → WriteHeld L args handlers stmts args₁ entries falls links frames dispatched c n d counts lists₁ scratch₁ returns₁ targets succ pred
+      → WriteHeld L args handlers stmts args₁ entries falls links frames dispatched c n counts lists₁ scratch₁ returns₁ targets succ pred
   write_held {L} w rows f =
       let q = counted w in
       let e = q.edges_are in
@@ -68,10 +68,10 @@ module _ {handlers : Bool} {c n d : ℕ} {counts stmts args entries falls links 
         graph = λ e. cc;
       }
 
-module _ {handlers : Bool} {c n d : ℕ} {counts stmts args entries falls links frames dispatched lists returns succ pred : List ℕ}
-    (r : WireReady handlers c n counts stmts args entries falls links lists returns succ pred) (m : FramesMade stmts falls frames dispatched n d) where
+module _ {handlers : Bool} {c n : ℕ} {counts stmts args entries falls links frames dispatched lists returns succ pred : List ℕ}
+    (r : WireReady handlers c n counts stmts args entries falls links lists returns succ pred) (m : FramesMade stmts falls frames dispatched n) where
   pub ready_count : (scratch : List ℕ) (k : ℕ) → scratch ≡ replicate k 0 → k ≡ 36864 → (buffer : List ℕ) (j : ℕ) → buffer ≡ replicate j 0 → j ≡ 4096
-      → CountReady handlers stmts args entries falls links frames dispatched c n d lists scratch returns (length buffer)
+      → CountReady handlers stmts args entries falls links frames dispatched c n lists scratch returns (length buffer)
   ready_count scratch k es ek buffer j eb ej =
       record {
         listing = r.listing;

@@ -34,8 +34,8 @@ pub record SkipsStored (W : Wired) (n : ℕ) (lists scratch : List ℕ) : Type 0
   pub zero-rows : skips.lists₀ ≡ replicate (length skips.lists₀) 0
 
 -- what the lists of L need
-pub record EdgesHeld (L : Listing) (ks : List ℕ) (handlers : Bool) (stmts args entries falls links frames dispatched : List ℕ) (lines n d : ℕ) (lists scratch returns : List ℕ) (targets : ℕ) (succ pred : List ℕ) : Type 0 where
-  pub tables : FinalTables L ks handlers stmts args entries falls links frames dispatched lines n d returns targets
+pub record EdgesHeld (L : Listing) (ks : List ℕ) (handlers : Bool) (stmts args entries falls links frames dispatched : List ℕ) (lines n : ℕ) (lists scratch returns : List ℕ) (targets : ℕ) (succ pred : List ℕ) : Type 0 where
+  pub tables : FinalTables L ks handlers stmts args entries falls links frames dispatched lines n returns targets
   pub held : SkipsStored (wire L) n lists scratch
   pub rows : n * 4 ≤ length lists
   pub few_edges : edge_count L ≤ 32768
@@ -45,8 +45,8 @@ pub record EdgesHeld (L : Listing) (ks : List ℕ) (handlers : Bool) (stmts args
   pub zero_pred : pred ≡ replicate (length pred) 0
 
 -- what the whole stage needs
-pub record WriteHeld (L : Listing) (ks : List ℕ) (handlers : Bool) (stmts args entries falls links frames dispatched : List ℕ) (lines n d : ℕ) (counts lists scratch returns : List ℕ) (targets : ℕ) (succ pred : List ℕ) : Type 0 where
-  pub edges : EdgesHeld L ks handlers stmts args entries falls links frames dispatched lines n d lists scratch returns targets succ pred
+pub record WriteHeld (L : Listing) (ks : List ℕ) (handlers : Bool) (stmts args entries falls links frames dispatched : List ℕ) (lines n : ℕ) (counts lists scratch returns : List ℕ) (targets : ℕ) (succ pred : List ℕ) : Type 0 where
+  pub edges : EdgesHeld L ks handlers stmts args entries falls links frames dispatched lines n lists scratch returns targets succ pred
   pub counts_are : counts ≡ padded 6 (counts_of L)
   pub returns_are : returns ≡ padded (length returns) (return_targets (wire L))
   pub targets_are : targets ≡ length (return_targets (wire L))
@@ -69,8 +69,8 @@ edges_are L = edges-joined L ∙ ap (λ (k : List (List ℕ)). length (joined_li
 
 -- ---- the arguments
 
-args_back : {L : Listing} {ks : List ℕ} {handlers : Bool} {stmts args entries falls links frames dispatched : List ℕ} {lines n d : ℕ} {returns args' : List ℕ} {targets : ℕ}
-    → FinalTables L ks handlers stmts args entries falls links frames dispatched lines n d returns targets → SetsCleared stmts n args args' → args' ≡ ks
+args_back : {L : Listing} {ks : List ℕ} {handlers : Bool} {stmts args entries falls links frames dispatched : List ℕ} {lines n : ℕ} {returns args' : List ℕ} {targets : ℕ}
+    → FinalTables L ks handlers stmts args entries falls links frames dispatched lines n returns targets → SetsCleared stmts n args args' → args' ≡ ks
 args_back {ks = ks} {stmts = stmts} {args = args} {n = n} {args' = args'} t s = ext_get_or 0 args' ks (s.size ∙ t.args_size) (λ e _. at e (lt-or (e / 64) n) (eq-or (get_or stmts ((e / 64) * 12) 0) 9))
   where
     at : (e : ℕ) → (e / 64 < n) ⊎ (n ≤ e / 64) → (get_or stmts ((e / 64) * 12) 0 ≡ 9) ⊎ (get_or stmts ((e / 64) * 12) 0 ≡ 9 → ⊥) → get_or args' e 0 ≡ get_or ks e 0
@@ -94,8 +94,8 @@ counts-written L counts counts' edges targets rows c e t r p = p ∙ ap (λ (x :
 
 -- ---- the whole stage
 
-module _ {L : Listing} {ks : List ℕ} {handlers : Bool} {stmts args entries falls links frames dispatched : List ℕ} {lines n d : ℕ} {counts lists scratch returns : List ℕ} {targets : ℕ} {succ pred : List ℕ}
-    (q : WriteHeld L ks handlers stmts args entries falls links frames dispatched lines n d counts lists scratch returns targets succ pred) where
+module _ {L : Listing} {ks : List ℕ} {handlers : Bool} {stmts args entries falls links frames dispatched : List ℕ} {lines n : ℕ} {counts lists scratch returns : List ℕ} {targets : ℕ} {succ pred : List ℕ}
+    (q : WriteHeld L ks handlers stmts args entries falls links frames dispatched lines n counts lists scratch returns targets succ pred) where
   abbrev ls : List (List ℕ)
   ls = final_lists handlers stmts args falls links n lists scratch returns targets
 

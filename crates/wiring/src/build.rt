@@ -76,17 +76,15 @@ fn graph_of(
         rows: entries,
         count,
     };
-    match wire_graph(
+    let wired = wire_graph(
         &r, &w, falls, links, handlers, counts, args, lists, returns, succ, pred,
-    ) {
-        Ok(()) => Ok(()),
-        Err(refusal) => {
-            clear_records(counts, lines, stmts, args);
-            clear_links(entries, falls, links);
-            clear_lists(lists, returns, succ, pred);
-            Err(refusal)
-        }
+    );
+    if wired.is_err() {
+        clear_records(counts, lines, stmts, args);
+        clear_links(entries, falls, links);
+        clear_lists(lists, returns, succ, pred);
     }
+    wired
 }
 
 // Reads the input, a saved program or a text, and writes the graph of the listing that it means: counts (lines, statements, handlers, edges, return targets, entry rows), the reader's records, and what docs/DECISIONS.md

@@ -1,61 +1,47 @@
 // What later nodes add to a node's list: where the closer of its frame falls, and where the ELSEs of a DOIF fall.
 ghost use Rattle.std.specs.Prelude.{◌≡◌, length, ◌<◌};
-ghost use Rattle.graph_laws.specs.Adding.{Added};
-ghost use Rattle.passes.specs.Closing.{FitsPart, fall_from, FallFitsFrom, ElsesFit, ElsesAdded, DoifFits, DoifAdded, closer_from, CloserFits, joins_word, ClosingReady, ClosingAdded};
+ghost use Rattle.passes.specs.Closing.{ElsesFit, DoifFits, joins_word, CloserFits, ClosingReady};
+ghost use Rattle.wiring.specs.OnLists.{Fits, ElsesMade, DoifMade, CloserMade, ClosingMade};
 
 use crate::leads::Leads;
 use layout::columns::{CLOSER, ELSE_LINK, FALL_ENTRIES, FRAME_ENTRIES};
 use layout::words::{DOIF, ELSE, EXIT, EXITIF};
-use storing::growing::add_edge;
-
-// Adds where the node c - 1 falls, where c is not 0.
-fn add_fall(falls: &[u16], c: usize, part: &mut [u16], n: usize) -> usize
-    requires { FitsPart part.old n × FallFitsFrom falls.now (length part.old) c }
-    ensures { Added part.old n part.new result (fall_from falls.now c) × FitsPart part.new result }
-{
-    let Some(j) = c.checked_sub(1) else {
-        return n;
-    };
-    add_edge(part, n, falls[j * FALL_ENTRIES])
-}
+use storing::growing::NodeList;
 
 // Adds where the ELSEs fall that are linked from the ELSE first - 1 on.
-fn add_elses(falls: &[u16], frames: &[u16], first: usize, part: &mut [u16], n: usize) -> usize
-    requires { FitsPart part.old n × ElsesFit frames.now falls.now (length part.old) first }
-    ensures { ElsesAdded falls.now frames.now first part.old n part.new result × FitsPart part.new result }
+fn add_elses(list: &mut NodeList<'_>, falls: &[u16], frames: &[u16], first: usize)
+    requires { Fits list.old × ElsesFit frames.now falls.now (length list.old.part.now) first }
+    ensures { ElsesMade falls.now frames.now first list.old list.new }
 {
-    let mut r = n;
     let mut c = first;
     while let Some(j) = c.checked_sub(1) {
-        r = add_edge(part, r, falls[j * FALL_ENTRIES]);
+        list.add_edge(falls[j * FALL_ENTRIES]);
         c = usize::from(frames[j * FRAME_ENTRIES + ELSE_LINK]);
     }
-    r
 }
 
 // A DOIF goes to where its ELSEs fall; where its DONE falls if it has none.
-fn add_doif(falls: &[u16], frames: &[u16], i: usize, part: &mut [u16], n: usize) -> usize
-    requires { FitsPart part.old n × DoifFits falls.now frames.now (length part.old) i }
-    ensures { DoifAdded falls.now frames.now i part.old n part.new result × FitsPart part.new result }
+fn add_doif(list: &mut NodeList<'_>, falls: &[u16], frames: &[u16], i: usize)
+    requires { Fits list.old × DoifFits falls.now frames.now (length list.old.part.now) i }
+    ensures { DoifMade falls.now frames.now i list.old list.new }
 {
     let first = usize::from(frames[i * FRAME_ENTRIES + ELSE_LINK]);
     if first != 0 {
-        return add_elses(falls, frames, first, part, n);
+        add_elses(list, falls, frames, first);
+        return;
     }
-    let closer = usize::from(frames[i * FRAME_ENTRIES + CLOSER]);
-    add_fall(falls, closer, part, n)
+    list.add_fall(falls, frames[i * FRAME_ENTRIES + CLOSER]);
 }
 
 // Where the closer of the frame of opener met - 1 falls, where met is not 0.
-fn add_closer(falls: &[u16], frames: &[u16], met: usize, part: &mut [u16], n: usize) -> usize
-    requires { FitsPart part.old n × CloserFits falls.now frames.now (length part.old) met }
-    ensures { Added part.old n part.new result (closer_from falls.now frames.now met) × FitsPart part.new result }
+fn add_closer(list: &mut NodeList<'_>, falls: &[u16], frames: &[u16], met: usize)
+    requires { Fits list.old × CloserFits falls.now frames.now (length list.old.part.now) met }
+    ensures { CloserMade falls.now frames.now met list.old list.new }
 {
     let Some(opener) = met.checked_sub(1) else {
-        return n;
+        return;
     };
-    let closer = usize::from(frames[opener * FRAME_ENTRIES + CLOSER]);
-    add_fall(falls, closer, part, n)
+    list.add_fall(falls, frames[opener * FRAME_ENTRIES + CLOSER]);
 }
 
 // The words that go to where the closer of their frame falls.
@@ -66,19 +52,19 @@ fn joins_frame(word: u16) -> bool
     matches!(word, EXIT | EXITIF | ELSE)
 }
 
-// Adds what later nodes add to node i's list, which is the first n entries.
-pub(crate) fn add_closing(g: &Leads<'_, '_>, i: usize, part: &mut [u16], n: usize) -> usize
+// Adds what later nodes add to node i's list.
+pub(crate) fn add_closing(list: &mut NodeList<'_>, g: &Leads<'_, '_>, i: usize)
     requires in_bounds { i < g.now.nodes.records.n }
-    requires ready { FitsPart part.old n × ClosingReady g.now.nodes.records.stmts.now g.now.nodes.falls.now g.now.frames.now i (length part.old) }
-    ensures { ClosingAdded g.now.nodes.records.stmts.now g.now.nodes.falls.now g.now.frames.now i part.old n part.new result × FitsPart part.new result }
+    requires ready { Fits list.old × ClosingReady g.now.nodes.records.stmts.now g.now.nodes.falls.now g.now.frames.now i (length list.old.part.now) }
+    ensures { ClosingMade g.now.nodes.records.stmts.now g.now.nodes.falls.now g.now.frames.now i list.old list.new }
 {
     let word = g.nodes.records.word(i);
     match word {
-        DOIF => add_doif(g.nodes.falls, g.frames, i, part, n),
+        DOIF => add_doif(list, g.nodes.falls, g.frames, i),
         _ if joins_frame(word) => {
             let met = usize::from(g.opener(i));
-            add_closer(g.nodes.falls, g.frames, met, part, n)
+            add_closer(list, g.nodes.falls, g.frames, met)
         }
-        _ => n,
+        _ => {}
     }
 }

@@ -1,8 +1,9 @@
 // Where statements fall and where branches lead.
-ghost use Rattle.std.specs.Prelude.{◌≡◌, true, false, [], ◌∷◌, ◌+◌, ◌*◌, ◌≤◌, ◌<◌, length};
+ghost use Rattle.std.specs.Prelude.{◌≡◌, true, false, [], ◌∷◌, ◌+◌, ◌*◌, ◌≤◌, ◌<◌, length, IfErr};
 ghost use Rattle.std.proofs.lemmas.List.Edits.{sets};
 ghost use Rattle.passes.specs.Falls.{target_of, BranchLed, RowConnected, StmtConnected, BranchConnected, LinesConnected, AllLines};
 ghost use Rattle.passes.specs.Connecting.{Begins};
+ghost use Rattle.layout.specs.Refusals.{refusal_at};
 ghost use Rattle.wiring.specs.Found.{all_found};
 
 use crate::entries::Entries;
@@ -183,7 +184,8 @@ pub(crate) fn connect_lines(
     falls: &mut [u16],
 ) -> Result<(), Refusal>
     requires { r.now.n * 3 ≤ length falls.old }
-    ensures { LinesConnected w.now.rows.now r.now.stmts.now w.now.count r.now.n falls.old falls.new (all_found result) }
+    ensures connected { LinesConnected w.now.rows.now r.now.stmts.now w.now.count r.now.n falls.old falls.new (all_found result) }
+    ensures not_found { IfErr result (λ e. e ≡ refusal_at Reason.NotFound 0) }
 {
     if connect_top_level(w, r, falls) {
         Ok(())

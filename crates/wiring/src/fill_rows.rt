@@ -26,6 +26,7 @@ fn put_set(row: &mut [u64], list: &[u16])
 }
 
 // Where a skipping path steps from node i: from a call where it falls, from a RETURN nowhere, else to its list.
+// Kept: a part and how many, as `list_of` answers.
 fn skip_list(g: &Leads<'_, '_>, args: &[u64], i: usize, part: &mut [u16]) -> usize
     requires in_bounds { i < g.now.nodes.records.n }
     requires ready { SkipReadyFrom g.now args.now i (length part.old) }

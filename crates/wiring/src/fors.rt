@@ -4,15 +4,19 @@ ghost use Rattle.passes.specs.ListedNodes.{SlotsCounted, AllCounted};
 ghost use Rattle.passes.specs.FrameStacks.{HoldsBelow, top_mark};
 ghost use Rattle.passes.specs.ForStack.{moves_fors, Sought, SlotFound, ForPushed, SlotsPopped, NodeLinked};
 ghost use Rattle.passes.specs.Sets.{bit};
-ghost use Rattle.passes.specs.NotedKeys.{note_of, KeysNoted};
+ghost use Rattle.passes.specs.NotedKeys.{note_of};
 ghost use Rattle.passes.specs.ForLinks.{ForsLinked};
-ghost use Rattle.passes.specs.Dispatched.{is_dispatched, DispatchedTo, DispatchedOne};
+ghost use Rattle.passes.specs.Dispatched.{is_dispatched, DispatchedTo};
+ghost use Rattle.wiring.specs.Places.{one_more};
+ghost use Rattle.wiring.specs.NotedFors.{Noted};
 
-use crate::stacks::FrameStack;
-use layout::columns::{ARG_ENTRIES, DETAIL, DISPATCHED, FALL_ENTRIES, STMT_ENTRIES};
+use crate::stacks::{FrameStack, number_of};
+use layout::columns::{ARG_ENTRIES, DISPATCHED};
+use layout::limits::MAX_STMTS;
 use layout::words::{FOR, NEXT};
 use layout::zeroing::{all_of, fill_behind};
-use tables::nodes::Records;
+use tables::nodes::{Nodes, Records};
+use walks::lists::list_where;
 use walks::sets::insert;
 
 // The keys of FORs are noted by their remainders: by a prime, so that names that are alike seldom share one.
@@ -28,29 +32,20 @@ fn note_of(key: u64) -> usize
     (key % REMAINDERS) as usize
 }
 
-// Whether a FOR of the name with that key may be open.
-#[tactic(auto, unfolding(passes::specs::Sets::bit))]
-fn is_noted(notes: &[u64; NOTES], key: u64) -> bool
-    ensures { result ≡ eqb (bit notes.now (note_of key)) 1 }
-{
-    let n = note_of(key);
-    (notes[n / 64] >> (n % 64)) % 2 == 1
-}
-
-// One more than the newest open FOR whose name has the key v, or 0; top is one more than the newest of all.
-fn seek(args: &[u64], s: &FrameStack, top: usize, v: u64) -> usize
+// The newest open FOR whose name has the key v; top is the newest of all.
+fn seek(args: &[u64], s: &FrameStack, top: Option<usize>, v: u64) -> Option<usize>
     requires holds_below { HoldsBelow s.now.words (length args.now / 64) }
-    requires top_value { top ≡ top_mark s.now.words }
-    ensures { Sought args.now v s.now.words result }
+    requires top_value { one_more top ≡ top_mark s.now.words }
+    ensures { Sought args.now v s.now.words (one_more result) }
 {
     let mut t = top;
-    while let Some(k) = t.checked_sub(1) {
+    while let Some(k) = t {
         if args[k * ARG_ENTRIES] == v {
             return t;
         }
         t = s.below(k);
     }
-    0
+    None
 }
 
 // FOR i: its own older frame and all above are dropped first.
@@ -59,75 +54,10 @@ fn push_for(args: &[u64], s: FrameStack, i: usize) -> FrameStack
     requires holds_below { HoldsBelow s.words i }
     ensures { ForPushed args.now i s.words result.words }
 {
-    let t = seek(args, &s, s.newest(i), args[i * ARG_ENTRIES]);
-    let Some(older) = t.checked_sub(1) else {
-        return s.push(i);
-    };
-    let p = s.pop_to(older);
-    p.stack.push(i)
-}
-
-// FOR i. If its key is not noted, none of its name is open, and nothing is looked for.
-fn open_for(args: &[u64], s: FrameStack, i: usize, notes: &mut [u64; NOTES]) -> FrameStack
-    requires i_bound { (i < 4096) × (i * 64 < length args.now) }
-    requires holds_below { HoldsBelow s.words i }
-    requires keys_noted { KeysNoted args.now notes.old s.words }
-    ensures for_pushed { ForPushed args.now i s.words result.words }
-    ensures keys_noted_2 { KeysNoted args.now notes.new result.words }
-{
-    let key = args[i * ARG_ENTRIES];
-    if is_noted(notes, key) {
-        return push_for(args, s, i);
+    match seek(args, &s, s.newest(i), args[i * ARG_ENTRIES]) {
+        Some(older) => s.pop_to(older).push(i),
+        None => s.push(i),
     }
-    insert(notes, note_of(key));
-    s.push(i)
-}
-
-// One more than the FOR that a slot of a NEXT pops, or 0: key 0 asks for the newest, the key of a name for the newest of that name.
-fn slot_frame(args: &[u64], s: &FrameStack, notes: &[u64; NOTES], top: usize, key: u64) -> usize
-    requires holds_below { HoldsBelow s.now.words (length args.now / 64) }
-    requires keys_noted { KeysNoted args.now notes.now s.now.words }
-    requires top_value { top ≡ top_mark s.now.words }
-    ensures { SlotFound args.now key s.now.words result }
-{
-    match key {
-        0 => top,
-        _ if is_noted(notes, key) => seek(args, s, top, key),
-        _ => 0,
-    }
-}
-
-// The slots of NEXT i in order; row gets what each pops: one more than the FOR, or 0. With no FOR open the slots that are left pop nothing.
-fn pop_slots(
-    args: &[u64],
-    keys: &[u64],
-    mut s: FrameStack,
-    notes: &[u64; NOTES],
-    i: usize,
-    row: &mut [u16],
-) -> FrameStack
-    requires i_bound { (i < 4096) × (i * 64 ≤ length args.now) × (length keys.now ≡ length row.old) }
-    requires holds_below { HoldsBelow s.words i }
-    requires keys_noted { KeysNoted args.now notes.now s.words }
-    ensures { SlotsPopped args.now keys.now s.words result.words row.new }
-{
-    let mut top = s.newest(i);
-    for j in 0..row.len() {
-        if top == 0 {
-            fill_behind(row, j, 0);
-            return s;
-        }
-        let f = slot_frame(args, &s, notes, top, keys[j]);
-        if let Some(id) = f.checked_sub(1) {
-            top = s.below(id);
-            let p = s.pop_to(id);
-            row[j] = p.frame as u16;
-            s = p.stack;
-        } else {
-            row[j] = 0;
-        }
-    }
-    s
 }
 
 // Whether a statement with that word pushes or pops FORs.
@@ -138,29 +68,94 @@ fn moves_fors(word: u16) -> bool
     matches!(word, FOR | NEXT)
 }
 
-// What node i, a FOR or a NEXT, does to the FOR stack, and to its row of links.
-fn link_node(
-    r: &Records<'_>,
-    args: &[u64],
-    s: FrameStack,
-    notes: &mut [u64; NOTES],
-    i: usize,
-    links: &mut [u16],
-) -> FrameStack
-    requires i_bound { (i < r.now.n) × (i * 64 + 64 ≤ length args.now) × (i * 64 + 64 ≤ length links.old) }
-    requires i_value { moves_fors (get_or r.now.stmts.now (i * 12) 0) ≡ true }
-    requires slots_counted { SlotsCounted r.now.stmts.now i }
-    requires holds_below { HoldsBelow s.words i }
-    requires keys_noted { KeysNoted args.now notes.old s.words }
-    ensures keys_noted_2 { KeysNoted args.now notes.new result.words }
-    ensures node_linked { NodeLinked r.now.stmts.now args.now i s.words result.words links.old links.new }
-{
-    if r.word(i) == FOR {
-        return open_for(args, s, i, notes);
+// The open FORs, whose keys are in the arguments, and the notes, in which each of these keys is.
+#[derive(Drop)]
+struct Fors<'a> {
+    pub args: &'a [u64],
+    pub stack: FrameStack,
+    pub notes: [u64; NOTES],
+    pub ghost noted: { Noted args.now notes stack.words },
+}
+
+impl<'a> Fors<'a> {
+    // Whether a FOR of the name with that key may be open.
+    #[tactic(auto, unfolding(passes::specs::Sets::bit))]
+    fn is_noted(&self, key: u64) -> bool
+        ensures { result ≡ eqb (bit self.now.notes (note_of key)) 1 }
+    {
+        let n = note_of(key);
+        (self.notes[n / 64] >> (n % 64)) % 2 == 1
     }
-    let at = i * ARG_ENTRIES;
-    let end = at + r.count(i);
-    pop_slots(args, &args[at..end], s, notes, i, &mut links[at..end])
+
+    // FOR i. If its key is not noted, none of its name is open, and nothing is looked for.
+    fn open_for(&mut self, i: usize)
+        requires i_bound { (i < 4096) × (i * 64 < length self.old.args.now) }
+        requires holds_below { HoldsBelow self.old.stack.words i }
+        ensures same_args { self.new.args.now ≡ self.old.args.now }
+        ensures for_pushed { ForPushed self.old.args.now i self.old.stack.words self.new.stack.words }
+    {
+        let key = self.args[i * ARG_ENTRIES];
+        if self.is_noted(key) {
+            self.stack = push_for(self.args, self.stack, i);
+            return;
+        }
+        insert(&mut self.notes, note_of(key));
+        self.stack = self.stack.push(i);
+    }
+
+    // The FOR that a slot of a NEXT pops: key 0 asks for the newest, the key of a name for the newest of that name.
+    fn slot_frame(&self, top: Option<usize>, key: u64) -> Option<usize>
+        requires holds_below { HoldsBelow self.now.stack.words (length self.now.args.now / 64) }
+        requires top_value { one_more top ≡ top_mark self.now.stack.words }
+        ensures { SlotFound self.now.args.now key self.now.stack.words (one_more result) }
+    {
+        match key {
+            0 => top,
+            _ if self.is_noted(key) => seek(self.args, &self.stack, top, key),
+            _ => None,
+        }
+    }
+
+    // The slots of NEXT i in order; row gets what each pops: one more than the FOR, or 0. With no FOR open the slots that are left pop nothing.
+    fn pop_slots(&mut self, keys: &[u64], i: usize, row: &mut [u16])
+        requires i_bound { (i < 4096) × (i * 64 ≤ length self.old.args.now) × (length keys.now ≡ length row.old) }
+        requires holds_below { HoldsBelow self.old.stack.words i }
+        ensures same_args { self.new.args.now ≡ self.old.args.now }
+        ensures slots_popped { SlotsPopped self.old.args.now keys.now self.old.stack.words self.new.stack.words row.new }
+    {
+        let mut top = self.stack.newest(i);
+        for j in 0..row.len() {
+            if top.is_none() {
+                fill_behind(row, j, 0);
+                return;
+            }
+            let f = self.slot_frame(top, keys[j]);
+            row[j] = number_of(f);
+            if let Some(id) = f {
+                top = self.stack.below(id);
+                self.stack = self.stack.pop_to(id);
+            }
+        }
+    }
+
+    // What node i, a FOR or a NEXT, does to the FOR stack, and to its row of links.
+    fn link_node(&mut self, r: &Records<'_>, i: usize, links: &mut [u16])
+        requires i_bound { (i < r.now.n) × (i * 64 + 64 ≤ length self.old.args.now) × (i * 64 + 64 ≤ length links.old) }
+        requires i_value { moves_fors (get_or r.now.stmts.now (i * 12) 0) ≡ true }
+        requires slots_counted { SlotsCounted r.now.stmts.now i }
+        requires holds_below { HoldsBelow self.old.stack.words i }
+        ensures same_args { self.new.args.now ≡ self.old.args.now }
+        ensures node_linked { NodeLinked r.now.stmts.now self.old.args.now i self.old.stack.words self.new.stack.words links.old links.new }
+    {
+        if r.word(i) == FOR {
+            self.open_for(i);
+            return;
+        }
+        let at = i * ARG_ENTRIES;
+        let end = at + r.count(i);
+        let args = self.args;
+        self.pop_slots(&args[at..end], i, &mut links[at..end]);
+    }
 }
 
 // In reading order, what each slot of each NEXT pops; the rows of other nodes stay.
@@ -169,46 +164,29 @@ pub(crate) fn link_fors(r: &Records<'_>, args: &[u64], links: &mut [u16])
     requires all_counted { AllCounted r.now.stmts.now r.now.n }
     ensures { ForsLinked r.now.stmts.now args.now r.now.n links.old links.new }
 {
-    let mut s = FrameStack::new();
-    let mut notes = all_of::<u64, NOTES>(0);
+    let mut fors = Fors {
+        args,
+        stack: FrameStack::new(),
+        notes: all_of::<u64, NOTES>(0),
+    };
     for i in 0..r.n {
         if moves_fors(r.word(i)) {
-            s = link_node(r, args, s, &mut notes, i, links);
+            fors.link_node(r, i, links);
         }
     }
 }
 
 // Whether node i is a dispatched FOR that has a body.
 #[tactic(auto, using(std::proofs::lemmas::Bool::Decides::nat_tests), unfolding(passes::specs::Dispatched::is_dispatched))]
-fn is_dispatched(r: &Records<'_>, falls: &[u16], i: usize) -> bool
-    requires { (i < r.now.n) × (i * 3 < length falls.now) }
-    ensures { result ≡ is_dispatched r.now.stmts.now falls.now i }
+fn is_dispatched(g: &Nodes<'_>, i: usize) -> bool
+    ensures { result ≡ is_dispatched g.now.records.stmts.now g.now.falls.now i }
 {
-    r.word(i) == FOR
-        && r.stmts[i * STMT_ENTRIES + DETAIL] == DISPATCHED
-        && falls[i * FALL_ENTRIES] != 0
-}
-
-// Node i goes to the end of the list of d entries, if it is a dispatched FOR that has a body.
-fn list_one(r: &Records<'_>, falls: &[u16], i: usize, dispatched: &mut [u16], d: usize) -> usize
-    requires { (i < r.now.n) × (i * 3 < length falls.now) × (d < length dispatched.old) }
-    ensures { DispatchedOne r.now.stmts.now falls.now i dispatched.old d dispatched.new result }
-{
-    if is_dispatched(r, falls, i) {
-        dispatched[d] = i as u16;
-        return d + 1;
-    }
-    d
+    g.records.word(i) == FOR && g.records.detail(i) == DISPATCHED && g.fall(i) != 0
 }
 
 // The dispatched FORs that have a body, in reading order; answers how many.
-pub(crate) fn list_dispatched(r: &Records<'_>, falls: &[u16], dispatched: &mut [u16]) -> usize
-    requires { (r.now.n * 3 ≤ length falls.now) × (r.now.n ≤ length dispatched.old) }
-    ensures { DispatchedTo r.now.stmts.now falls.now r.now.n dispatched.old dispatched.new result }
+pub(crate) fn list_dispatched(g: &Nodes<'_>, dispatched: &mut [u16; MAX_STMTS]) -> usize
+    ensures { DispatchedTo g.now.records.stmts.now g.now.falls.now g.now.records.n dispatched.old dispatched.new result }
 {
-    let mut d: usize = 0;
-    for i in 0..r.n {
-        d = list_one(r, falls, i, dispatched, d);
-    }
-    d
+    list_where(&g.records, |i| is_dispatched(g, i), dispatched)
 }

@@ -4,7 +4,7 @@ ghost use Rattle.passes.specs.FrameStacks.{HoldsBelow};
 ghost use Rattle.passes.specs.Frames.{Framed};
 ghost use Rattle.passes.specs.FramePass.{move_of, moves_stack, Stepped, AllZero, MetFrames, linked};
 
-use crate::stacks::FrameStack;
+use crate::stacks::{FrameStack, number_of};
 use layout::columns::{CLOSER, ELSE_LINK, FRAME_ENTRIES};
 use layout::words::{ELSE, EXIT, EXITIF};
 use passes::moves::{FrameMove, do_move, loop_move, moves};
@@ -18,7 +18,7 @@ fn join_frame(s: &FrameStack, m: FrameMove, i: usize, frames: &mut [u16])
     ensures { Stepped (move_of m) i s.now.words s.now.words frames.old frames.new }
 {
     if let FrameMove::Joins = m {
-        frames[i * FRAME_ENTRIES] = s.newest(i) as u16;
+        frames[i * FRAME_ENTRIES] = number_of(s.newest(i));
     }
 }
 
@@ -33,7 +33,7 @@ fn move_stack(s: FrameStack, m: FrameMove, i: usize, frames: &mut [u16]) -> Fram
         FrameMove::Opens => s.push(i),
         FrameMove::Closes => {
             let p = s.pop(i);
-            frames[i * FRAME_ENTRIES] = p.frame as u16;
+            frames[i * FRAME_ENTRIES] = number_of(p.frame);
             p.stack
         }
         _ => s,

@@ -1,10 +1,12 @@
 // The return targets: where the calls continue, in the order in which the calls stand, each once.
 ghost use Rattle.std.specs.Prelude.{◌≡◌, ◌+◌, ◌*◌, ◌≤◌, ◌<◌, length};
 ghost use Rattle.graph_laws.specs.Adding.{decode};
-ghost use Rattle.passes.specs.ReturnTargets.{continuation_number, FallsFit, Marking, TargetsAdded, TargetsListed};
+ghost use Rattle.passes.specs.ReturnTargets.{continuation_number, FallsFit, Marking, TargetsListed};
+ghost use Rattle.wiring.specs.OnLists.{TargetsPut, TargetsMade};
 
 use crate::leads::Leads;
 use layout::limits::MAX_STMTS;
+use storing::growing::NodeList;
 use tables::calls::is_call;
 use walks::walk::no_marks;
 
@@ -19,36 +21,34 @@ fn continuation(g: &Leads<'_, '_>, i: usize) -> u16
     0
 }
 
-// Puts the node t - 1, where t is not 0, behind the first k targets, unless its mark says that it is one of them.
-fn put_target(t: u16, marks: &mut [bool; MAX_STMTS], returns: &mut [u16], k: usize) -> usize
-    requires { (t ≤ 4096) × (k < length returns.old) × Marking 4096 marks.old returns.old k }
-    ensures { TargetsAdded 4096 (decode t) returns.old k marks.new returns.new result }
+// Puts the node t - 1, where t is not 0, behind the targets, unless its mark says that it is one of them.
+fn put_target(list: &mut NodeList<'_>, t: u16, marks: &mut [bool; MAX_STMTS])
+    requires { (t ≤ 4096) × (list.old.n < length list.old.part.now) × Marking 4096 marks.old list.old.part.now list.old.n }
+    ensures { TargetsPut (decode t) marks.new list.old list.new }
 {
     let Some(a) = t.checked_sub(1) else {
-        return k;
+        return;
     };
     let x = usize::from(a);
     if marks[x] {
-        return k;
+        return;
     }
     marks[x] = true;
-    returns[k] = a;
-    k + 1
+    list.push(a);
 }
 
 // From no marks and no target. A call adds at most one, so there is room for each.
-fn put_targets(g: &Leads<'_, '_>, marks: &mut [bool; MAX_STMTS], returns: &mut [u16]) -> usize
-    requires n_bound { g.now.nodes.records.n ≤ length returns.old }
+fn put_targets(list: &mut NodeList<'_>, g: &Leads<'_, '_>, marks: &mut [bool; MAX_STMTS])
+    requires n_bound { g.now.nodes.records.n ≤ length list.old.part.now }
     requires falls_fit { FallsFit g.now.nodes.falls.now g.now.nodes.records.n }
-    requires marking { Marking 4096 marks.old returns.old 0 }
-    ensures { TargetsListed g.now.nodes.records.stmts.now g.now.nodes.falls.now g.now.nodes.records.n returns.old returns.new result }
+    requires fresh { list.old.n ≡ 0 }
+    requires marking { Marking 4096 marks.old list.old.part.now list.old.n }
+    ensures { TargetsMade g.now list.old list.new }
 {
-    let mut k: usize = 0;
     for i in 0..g.nodes.records.n {
         let t = continuation(g, i);
-        k = put_target(t, marks, returns, k);
+        put_target(list, t, marks);
     }
-    k
 }
 
 // Writes the return targets of all nodes and answers how many; the rest of the table stays.
@@ -57,6 +57,8 @@ pub(crate) fn list_return_targets(g: &Leads<'_, '_>, returns: &mut [u16]) -> usi
     requires falls_fit { FallsFit g.now.nodes.falls.now g.now.nodes.records.n }
     ensures { TargetsListed g.now.nodes.records.stmts.now g.now.nodes.falls.now g.now.nodes.records.n returns.old returns.new result }
 {
+    let mut list = NodeList::new(returns);
     let mut marks = no_marks();
-    put_targets(g, &mut marks, returns)
+    put_targets(&mut list, g, &mut marks);
+    list.len()
 }

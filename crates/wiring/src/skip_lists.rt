@@ -19,6 +19,7 @@ struct Edges {
 }
 
 // Where node i falls goes to the front of the part.
+// Kept: a part and how many, as `list_of` answers.
 pub(crate) fn put_fall(g: &Leads<'_, '_>, i: usize, part: &mut [u16]) -> usize
     requires { (i < g.now.nodes.records.n) × (0 < length part.old) }
     ensures { ListIs (fall_entry g.now.nodes.falls.now i) part.old part.new result }
@@ -31,6 +32,7 @@ pub(crate) fn put_fall(g: &Leads<'_, '_>, i: usize, part: &mut [u16]) -> usize
 }
 
 // From node i's list, the first count entries of the buffer, to what skipping paths follow: from a call only where it falls.
+// Kept: a part and how many, as above.
 fn skip_list(g: &Leads<'_, '_>, i: usize, buffer: &mut [u16], count: usize) -> usize
     requires { (i < g.now.nodes.records.n) × (count ≤ length buffer.old) × (0 < length buffer.old) }
     ensures { ListIs (skip_list g.now.nodes.records.stmts.now g.now.nodes.falls.now i (take count buffer.old)) buffer.old buffer.new result }

@@ -1,44 +1,48 @@
 // A stack of frames by value. The openers of the frames ascend, so that a stack is a set of marks and its top the highest mark.
-ghost use Rattle.std.specs.Prelude.{◌≡◌, suc, ◌-◌, ◌≤◌, ◌<◌, length};
-ghost use Rattle.std.specs.Int.Count.{count_leading_zeros};
+ghost use Rattle.std.specs.Prelude.{◌≡◌, ◌≤◌, ◌<◌, length};
 ghost use Rattle.passes.specs.FrameStacks.{no_frames, pushed, highest_mark, top_mark, popped, under, HoldsBelow, Room};
+ghost use Rattle.wiring.specs.Places.{one_more};
 
 use layout::zeroing::fill_behind;
 use walks::sets::{bit, no_words};
 
 // The frame of opener i is bit i % 64 of word i / 64.
 // Kept: push and pop hand the changed stack back, a form that the project asks for.
-#[derive(Drop)]
+// Kept: contracts ask that all openers are below the node at hand (`HoldsBelow`): it ties the stack to an argument. Tried as a ghost field: the check sees no proposition in it, and behind `∥ ∥₁` each proof that reads it would have to open it.
+#[derive(Clone, Copy)]
 pub(crate) struct FrameStack {
     pub(crate) words: [u64; 64],
 }
 
-// The stack that a pop leaves, and the popped frame: one more than its opener, or 0.
-#[derive(Drop)]
+// The stack that a pop leaves, and the opener of the popped frame.
+#[derive(Clone, Copy)]
 pub(crate) struct Popped {
     pub(crate) stack: FrameStack,
-    pub(crate) frame: usize,
+    pub(crate) frame: Option<usize>,
 }
 
-// The place above the highest bit of a word.
-fn height(w: u64) -> usize
-    ensures { result ≡ 64 - count_leading_zeros 64 w }
+// A frame as a table has it: one more than its opener, or 0.
+pub(crate) fn number_of(frame: Option<usize>) -> u16
+    requires { one_more frame ≤ 4096 }
+    ensures { result ≡ one_more frame }
 {
-    64 - w.leading_zeros() as usize
+    match frame {
+        Some(id) => (id + 1) as u16,
+        None => 0,
+    }
 }
 
-// One more than the highest mark in the first n words, or 0.
-fn highest(words: &[u64; 64], n: usize) -> usize
+// The highest mark in the first n words.
+fn highest(words: &[u64; 64], n: usize) -> Option<usize>
     requires { n ≤ 64 }
-    ensures { result ≡ highest_mark words.now n }
+    ensures { one_more result ≡ highest_mark words.now n }
 {
     for q in (0..n).rev() {
-        let w = words[q];
-        if w != 0 {
-            return q * 64 + height(w);
+        if let Some(h) = words[q].checked_ilog2() {
+            return Some(q * 64 + h as usize);
         }
     }
-    0
+    None
 }
 
 impl FrameStack {
@@ -50,27 +54,27 @@ impl FrameStack {
         FrameStack { words: no_words() }
     }
 
-    // One more than the newest opener, or 0, as a table has it. All are below i: no word above that of i is looked at.
-    pub(crate) fn newest(&self, i: usize) -> usize
+    // The newest opener. All are below i: no word above that of i is looked at.
+    pub(crate) fn newest(&self, i: usize) -> Option<usize>
         requires i_bound { i < 4096 }
         requires holds_below { HoldsBelow self.now.words i }
-        ensures { result ≡ top_mark self.now.words }
+        ensures { one_more result ≡ top_mark self.now.words }
     {
         highest(&self.words, i / 64 + 1)
     }
 
-    // One more than the highest mark below mark id, or 0: the frame under the frame of opener id.
-    pub(crate) fn below(&self, id: usize) -> usize
-        requires { (id < 4096) × (length self.now.words ≡ 64) }
-        ensures { (result ≤ id) × (result ≡ top_mark (under self.now.words id)) }
+    // The highest mark below mark id: the frame under the frame of opener id.
+    pub(crate) fn below(&self, id: usize) -> Option<usize>
+        requires { id < 4096 }
+        ensures { (one_more result ≤ id) × (one_more result ≡ top_mark (under self.now.words id)) }
     {
         let q = id / 64;
         let b = bit(id);
         let w = self.words[q] % b;
-        if w != 0 {
-            return q * 64 + height(w);
+        match w.checked_ilog2() {
+            Some(h) => Some(q * 64 + h as usize),
+            None => highest(&self.words, q),
         }
-        highest(&self.words, q)
     }
 
     // The frame of opener id goes on top.
@@ -88,31 +92,25 @@ impl FrameStack {
     pub(crate) fn pop(mut self, i: usize) -> Popped
         requires i_bound { i < 4096 }
         requires holds_below { HoldsBelow self.words i }
-        ensures { (result.frame ≡ top_mark self.words) × (result.stack.words ≡ popped self.words) }
+        ensures { (one_more result.frame ≡ top_mark self.words) × (result.stack.words ≡ popped self.words) }
     {
-        let t = self.newest(i);
-        if let Some(id) = t.checked_sub(1) {
+        let frame = self.newest(i);
+        if let Some(id) = frame {
             let b = bit(id);
             self.words[id / 64] -= b;
         }
-        Popped {
-            stack: self,
-            frame: t,
-        }
+        Popped { stack: self, frame }
     }
 
     // Pops down to the frame of opener id: it and all above it go.
-    pub(crate) fn pop_to(mut self, id: usize) -> Popped
+    pub(crate) fn pop_to(mut self, id: usize) -> FrameStack
         requires { id < 4096 }
-        ensures { (result.frame ≡ suc id) × (result.stack.words ≡ under self.words id) }
+        ensures { result.words ≡ under self.words id }
     {
         let q = id / 64;
         let b = bit(id);
         self.words[q] %= b;
         fill_behind(&mut self.words, q + 1, 0);
-        Popped {
-            stack: self,
-            frame: id + 1,
-        }
+        self
     }
 }

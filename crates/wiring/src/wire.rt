@@ -157,22 +157,22 @@ pub(crate) fn wire_graph<'a>(
     ensures { WiredTo handlers w.now.count r.now.n r.now.stmts.now args.old w.now.rows.now falls.now links.now counts.old succ.old pred.old counts.new args.new lists.new returns.new succ.new pred.new result }
 {
     let mut frames = all_of::<u16, FRAMES>(0);
-    let mut dispatched = all_of::<u16, MAX_STMTS>(0);
+    let mut buffer = all_of::<u16, MAX_STMTS>(0);
     stack_frames(r, &mut frames);
-    let d = list_dispatched(r, falls, &mut dispatched);
     let records = *r;
     let nodes = Nodes {
         records,
         falls,
         links,
     };
+    let d = list_dispatched(&nodes, &mut buffer);
+    let dispatched = &buffer[..d];
     let entries = *w;
     let leads = Leads {
         nodes,
         entries,
         frames: &frames,
-        dispatched: &dispatched,
-        d,
+        dispatched,
     };
     wire_lists(&leads, handlers, counts, args, lists, returns, succ, pred)
 }

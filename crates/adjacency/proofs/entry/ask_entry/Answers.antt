@@ -1,6 +1,5 @@
 -- `ask_entry`: the four answers in the order of the tests. Assumes nothing.
-use Rattle.std.proofs.Common.{suc, ◌≡◌, ◌∙◌, ap, arith}
-use Rattle.tables.specs.Columns.{entry_node}
+use Rattle.std.proofs.Common.{arith}
 use Rattle.adjacency.specs.EntryAtLaws.{rows-outside, entered_nowhere, entry_outside, entered_node}
 use Rattle.adjacency.proofs.entry.ask_entry.Goals as goal
 
@@ -8,16 +7,11 @@ pub returns-then-entries-n : goal.returns-then-entries-n
 returns-then-entries-n c = rw c.at.ensures (rows-outside _ _ _ _ c.count_of-n.ensures.0 c.if-entries-n.true)
 
 pub returns-in-None : goal.returns-in-None
-returns-in-None c =
-    let z : c.from.result ≡ 0 = omega (arith, c.in-None.ensures) in
-    entered_nowhere _ _ _ _ c.count_of-n.ensures.0 c.if-entries-n.false _ (ap entry_node c.from.ensures ∙ c.first_entry.ensures) z
+returns-in-None c = entered_nowhere _ _ _ _ c.count_of-n.ensures.0 c.if-entries-n.false _ c.first_entry.ensures c.in-None.is
 
 pub returns-in-Some : goal.returns-in-Some
-returns-in-Some c =
-    let z : c.from.result ≡ suc c.in-Some.id = omega (arith, c.in-Some.ensures) in
-    entered_node _ _ _ _ c.count_of-n.ensures.0 c.if-entries-n.false _ (ap entry_node c.from.ensures ∙ c.first_entry.ensures) _ z _ c.count_of.ensures.0 c.if-id-count_of.true
+returns-in-Some c = entered_node _ _ _ _ c.count_of-n.ensures.0 c.if-entries-n.false _ c.first_entry.ensures _ c.in-Some.is _ c.count_of.ensures.0 c.if-id-count_of.true
 
 pub returns-in-Some-2 : goal.returns-in-Some-2
 returns-in-Some-2 c =
-    let z : c.from.result ≡ suc c.in-Some-2.field-0 = omega (arith, c.in-Some-2.ensures) in
-    rw c.at-in-Some-2.ensures (entry_outside _ _ _ _ c.count_of-n.ensures.0 c.if-entries-n.false _ (ap entry_node c.from.ensures ∙ c.first_entry.ensures) _ z _ c.count_of.ensures.0 (omega (arith, c.if-id-count_of.false)))
+    rw c.at-in-Some-2.ensures (entry_outside _ _ _ _ c.count_of-n.ensures.0 c.if-entries-n.false _ c.first_entry.ensures _ c.in-Some.is _ c.count_of.ensures.0 (omega (arith, c.if-id-count_of.false)))

@@ -10,7 +10,7 @@ pub returns-then-lists-nodes : goal.returns-then-lists-nodes
 returns-then-lists-nodes c = rw c.at-then-lists-nodes.ensures (asked-count _ _ _ _ _ _ _ c.count_of-nodes.ensures.0 (omega arith) c.if-lists-nodes.true)
 
 pub returns-then-size-start : goal.returns-then-size-start
-returns-then-size-start c = rw c.at-then-size-start.ensures (asked_record _ _ _ _ _ _ _ c.count_of-nodes.ensures.0 c.if-nodes-node.false c.if-lists-nodes.false _ _ c.from-start.ensures c.from-count.ensures c.if-size-start.true)
+returns-then-size-start c = rw (c.at-then-size-start.ensures, ← c.column-first.ensures.value) (asked_record _ _ _ _ _ _ _ c.count_of-nodes.ensures.0 c.if-nodes-node.false c.if-lists-nodes.false _ _ c.from-start.ensures c.from-count.ensures c.if-size-start.true)
 
 pub returns : goal.returns
-returns c = asked_part _ _ _ _ _ _ _ c.count_of-nodes.ensures.0 c.if-nodes-node.false c.if-lists-nodes.false _ _ c.from-start.ensures c.from-count.ensures c.if-size-start.false
+returns c = rw (← c.column-first.ensures.value) (asked_part _ _ _ _ _ _ _ c.count_of-nodes.ensures.0 c.if-nodes-node.false c.if-lists-nodes.false _ _ c.from-start.ensures c.from-count.ensures c.if-size-start.false)

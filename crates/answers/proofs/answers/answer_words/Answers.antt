@@ -1,24 +1,35 @@
 -- `answer_words`: each kind of question in turn. Assumes nothing.
-use Rattle.formatting.specs.Pages.{wrote_is}
-use Rattle.answers.specs.AnswerLaws.{refused_on, by_path_lem, by_frame_lem, number_refused, number_answered}
+use Rattle.std.proofs.Common.{ℕ, rules, arith, ◌≡◌, refl, Result, Ok, Err}
+use Rattle.listings.specs.Rows.{split}
+use Rattle.listings.specs.Read.{or_refused}
+use Rattle.layout.specs.declared.refusals.Reason.{Reason}
+use Rattle.layout.specs.Refusals.{refusal_at}
+use Rattle.answers.specs.Flowask.{form_question, short, outcome_row}
+use Rattle.answers.specs.AnswersAt.{answer_of, Answered, answered_is}
+use Rattle.answers.specs.QuestionWords.{form_at}
+use Rattle.answers.specs.AnswerLaws.{number_refused, number_answered}
 use Rattle.answers.proofs.answers.answer_words.Goals as goal
 
 pub returns-in-Path : goal.returns-in-Path
-returns-in-Path c = let a = c.args in rw c.in-Path.is (wrote_is (by_path_lem a.g.now.counts.now a.g.now.stmts.now a.g.now.args.now a.g.now.entries.now a.g.now.falls.now a.g.now.lists.now a.g.now.succ.now a.g.now.pred.now a.k a.s.now) c.answer_path.ensures)
+unfolding form_question
+returns-in-Path c = rw c.in-Path.is c.answer_path.ensures
 
 pub returns-in-Frame : goal.returns-in-Frame
-returns-in-Frame c = let a = c.args in rw c.in-Frame.is (wrote_is (by_frame_lem a.g.now.counts.now a.g.now.stmts.now a.g.now.args.now a.g.now.entries.now a.g.now.falls.now a.g.now.lists.now a.g.now.succ.now a.g.now.pred.now a.k a.s.now) c.answer_frame.ensures)
+unfolding form_question
+returns-in-Frame c = rw c.in-Frame.is c.answer_frame.ensures
 
-pub returns-in-Err : goal.returns-in-Err
-returns-in-Err c =
-    let a = c.args in
-    refused_on _ a.k _ c.at.ensures
-    (number_refused a.g.now.counts.now a.g.now.stmts.now a.g.now.args.now a.g.now.entries.now a.g.now.falls.now a.g.now.lists.now a.g.now.succ.now a.g.now.pred.now a.k a.s.now a.form c.in_default.not-Path c.in_default.not-Frame c.single_number.result _ c.single_number.ensures c.in-Err.is)
-    c.put_refusal.ensures
+pub returns-in_err-n-in-Number : goal.returns-in_err-n-in-Number
+returns-in_err-n-in-Number c = go c.single_number.result refl
+  where
+    go : (x : Result ℕ Reason) → c.single_number.result ≡ x
+        → Answered c.args.page.now c.args.page.now c.from_residual.result (outcome_row (answer_of c.args.g.now) c.args.k (or_refused (form_question (form_at c.args.form) (split 32 c.args.s.now)) short))
+    go (Ok n) h = absurd (grind arith)
+    go (Err n) h =
+        let e : c.from_residual.result ≡ Err (refusal_at n c.args.k) = search rules in
+        rw (e, c.in-Number.is) (refl, number_refused (answer_of c.args.g.now) c.args.k c.args.s.now c.in-Number.word c.single_number.result n c.single_number.ensures h)
 
-pub returns-in-Ok : goal.returns-in-Ok
-returns-in-Ok c =
-    let a = c.args in
-    wrote_is
-    (number_answered a.g.now.counts.now a.g.now.stmts.now a.g.now.args.now a.g.now.entries.now a.g.now.falls.now a.g.now.lists.now a.g.now.succ.now a.g.now.pred.now a.k a.s.now a.form c.in_default.not-Path c.in_default.not-Frame c.single_number.result _ c.single_number.ensures c.in-Ok.is)
-    c.put_by_number.ensures
+pub returns-in_ok-n-in-Number : goal.returns-in_ok-n-in-Number
+returns-in_ok-n-in-Number c =
+    rw c.in-Number.is
+    (answered_is _ _ c.put_by_number.result (number_answered (answer_of c.args.g.now) c.args.k c.args.s.now c.in-Number.word c.single_number.result _ c.single_number.ensures (grind arith))
+    c.put_by_number.ensures)

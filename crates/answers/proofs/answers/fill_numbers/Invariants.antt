@@ -1,12 +1,8 @@
--- `fill_numbers`: each turn writes the number of one word. Assumes nothing.
-use Prim.Native.Nat.{suc, ◌-◌, ◌≤◌}
-use mathlib.Core.Bool.{false}
-use lib.ListN.{length}
-use Rattle.reader.specs.Operands.{entry_by, Filling}
+-- `fill_numbers`: the numbers of the words so far stand at the front. Assumes nothing.
+use Rattle.std.proofs.Common.{◌≡◌, false, ◌++◌, map, length, take, drop}
+use Rattle.listings.specs.Rows.{split}
+use Rattle.reader.specs.Operands.{entry_by}
 use Rattle.answers.proofs.answers.fill_numbers.Given as goal
 
-abbrev pub invariant-loop-at : goal.invariant-loop-at
-invariant-loop-at l = (l.at ≤ length l.s) × (l.n ≤ l.at) × Filling (entry_by false) l.s l.initial.part l.part l.at l.n
-
-abbrev pub decreases-loop-at : goal.decreases-loop-at
-decreases-loop-at l = suc (length l.s) - l.at
+abbrev pub invariant-loop-n : goal.invariant-loop-n
+invariant-loop-n l = l.part ≡ take (length l.yielded) (map (entry_by false) (split 32 l.s)) ++ drop (length l.yielded) l.initial.part

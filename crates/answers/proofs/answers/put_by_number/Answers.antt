@@ -1,29 +1,70 @@
 -- `put_by_number`: each opening word in turn. Assumes nothing.
-use Rattle.std.proofs.Common.{ap, ◌∙◌}
-use Rattle.statements.specs.StatementAt.{node_statement}
-use Rattle.adjacency.specs.EntryAt.{entry_at}
+use Rattle.std.proofs.Common.{rules, ◌≡◌, refl, ap, ◌∙◌, Err}
+use Rattle.listings.specs.Bytes.{bytes}
+use Rattle.graph.specs.Lists.{list}
+use Rattle.adjacency.specs.EntryAt.{node_of}
 use Rattle.formatting.specs.Pages.{wrote_is}
-use Rattle.answers.specs.AnswersAt.{successors_answer, predecessors_answer, statement_answer, entry_answer, number_else, stated_row_lem, entered_row_lem}
+use Rattle.answers.specs.Flowask.{list_row}
+use Rattle.answers.specs.AnswersAt.{answer_at, numbered_row, successors_answer, predecessors_answer, statement_answer, entry_answer, successors_inside, predecessors_inside, list_is, no_list, row_is, no_row, entry_row_is}
 use Rattle.answers.proofs.answers.put_by_number.Goals as goal
 
-pub returns-in-Successors : goal.returns-in-Successors
-returns-in-Successors c = let a = c.args in rw c.in-Successors.is (wrote_is (ap (successors_answer a.g.now.counts.now a.g.now.lists.now a.g.now.succ.now) c.from-node.ensures) c.put_successors.ensures)
+pub returns-in_err-start-in-Successors : goal.returns-in_err-start-in-Successors
+unfolding bytes answer_at successors_answer
+returns-in_err-start-in-Successors c =
+    let g = c.args.g.now in
+    let e : c.from_residual.result ≡ Err c.in_err-start-in-Successors.field-0.0 = search rules in
+    rw (e, c.in-Successors.is)
+    (refl, no_list (bytes "(successors") g.succ.now _ _ c.in_err-start-in-Successors.ensures ∙ ap (successors_answer g.counts.now g.lists.now g.succ.now) c.from-node.ensures)
 
-pub returns-in-Predecessors : goal.returns-in-Predecessors
-returns-in-Predecessors c = let a = c.args in rw c.in-Predecessors.is (wrote_is (ap (predecessors_answer a.g.now.counts.now a.g.now.lists.now a.g.now.pred.now) c.from-node.ensures) c.put_predecessors.ensures)
+pub put_part-requires : goal.put_part-requires
+put_part-requires c = successors_inside _ _ _ _ _ _ c.in_ok-start-in-Successors.ensures
 
-pub returns-in-Statement : goal.returns-in-Statement
-unfolding statement_answer
-returns-in-Statement c =
-    let a = c.args in
-    rw c.in-Statement.is
-    (wrote_is (stated_row_lem (node_statement a.g.now.counts.now a.g.now.stmts.now c.from-node.result) _ c.stmt_at.ensures ∙ ap (statement_answer a.g.now.counts.now a.g.now.stmts.now) c.from-node.ensures) c.put_stated.ensures)
+pub returns-in_ok-start-in-Successors : goal.returns-in_ok-start-in-Successors
+unfolding bytes answer_at successors_answer
+returns-in_ok-start-in-Successors c =
+    let g = c.args.g.now in
+    rw c.in-Successors.is
+    (wrote_is (list_is (bytes "(successors") g.succ.now _ _ c.in_ok-start-in-Successors.ensures ∙ ap (successors_answer g.counts.now g.lists.now g.succ.now) c.from-node.ensures) c.put_part.ensures)
 
-pub returns-in_default : goal.returns-in_default
-unfolding entry_answer
-returns-in_default c =
-    let a = c.args in
-    wrote_is
-    (entered_row_lem (entry_at a.g.now.counts.now a.g.now.entries.now a.n) _ c.line_first.ensures
-    ∙ number_else a.g.now.counts.now a.g.now.stmts.now a.g.now.entries.now a.g.now.lists.now a.g.now.succ.now a.g.now.pred.now a.form a.n c.in_default.not-Successors c.in_default.not-Predecessors c.in_default.not-Statement)
-    c.put_entered.ensures
+pub returns-in_err-start-in-Predecessors : goal.returns-in_err-start-in-Predecessors
+unfolding bytes answer_at predecessors_answer
+returns-in_err-start-in-Predecessors c =
+    let g = c.args.g.now in
+    let e : c.from_residual-in_err-start-in-Predecessors.result ≡ Err c.in_err-start-in-Predecessors.field-0.0 = search rules in
+    rw (e, c.in-Predecessors.is)
+    (refl, no_list (bytes "(predecessors") g.pred.now _ _ c.in_err-start-in-Predecessors.ensures ∙ ap (predecessors_answer g.counts.now g.lists.now g.pred.now) c.from-node.ensures)
+
+pub put_part-requires-in-Predecessors : goal.put_part-requires-in-Predecessors
+put_part-requires-in-Predecessors c = predecessors_inside _ _ _ _ _ _ c.in_ok-start-in-Predecessors.ensures
+
+pub returns-in_ok-start-in-Predecessors : goal.returns-in_ok-start-in-Predecessors
+unfolding bytes answer_at predecessors_answer
+returns-in_ok-start-in-Predecessors c =
+    let g = c.args.g.now in
+    rw c.in-Predecessors.is
+    (wrote_is (list_is (bytes "(predecessors") g.pred.now _ _ c.in_ok-start-in-Predecessors.ensures ∙ ap (predecessors_answer g.counts.now g.lists.now g.pred.now) c.from-node.ensures) c.put_part-in-Predecessors.ensures)
+
+pub returns-in_err-node-in-Statement : goal.returns-in_err-node-in-Statement
+unfolding answer_at statement_answer
+returns-in_err-node-in-Statement c =
+    let g = c.args.g.now in
+    let e : c.from_residual-in_err-node-in-Statement.result ≡ Err c.in_err-node-in-Statement.field-0.0 = search rules in
+    rw (e, c.in-Statement.is) (refl, no_row (λ d. d) numbered_row _ _ c.in_err-node-in-Statement.ensures ∙ ap (statement_answer g.counts.now g.stmts.now) c.from-node.ensures)
+
+pub returns-in_ok-node-in-Statement : goal.returns-in_ok-node-in-Statement
+unfolding answer_at statement_answer numbered_row
+returns-in_ok-node-in-Statement c =
+    let g = c.args.g.now in
+    rw c.in-Statement.is (wrote_is (row_is (λ d. d) numbered_row _ _ c.in_ok-node-in-Statement.ensures ∙ ap (statement_answer g.counts.now g.stmts.now) c.from-node.ensures) c.put_stmt.ensures)
+
+pub returns-in_err-entry-in-Entry : goal.returns-in_err-entry-in-Entry
+unfolding answer_at entry_answer
+returns-in_err-entry-in-Entry c =
+    let e : c.from_residual-in_err-entry-in-Entry.result ≡ Err c.in_err-entry-in-Entry.field-0.0 = search rules in
+    rw (e, c.in-Entry.is) (refl, no_row node_of (λ d. list_row (bytes "(entry") (list d)) _ _ c.in_err-entry-in-Entry.ensures)
+
+pub returns-in_ok-entry-in-Entry : goal.returns-in_ok-entry-in-Entry
+unfolding answer_at entry_answer
+returns-in_ok-entry-in-Entry c =
+    let entry = c.in_ok-entry-in-Entry.entry in
+    rw c.in-Entry.is (wrote_is (entry_row_is entry ∙ row_is node_of (λ d. list_row (bytes "(entry") (list d)) _ entry c.in_ok-entry-in-Entry.ensures) c.put_entry.ensures)

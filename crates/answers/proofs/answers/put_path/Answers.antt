@@ -1,23 +1,19 @@
--- `put_path`: the numbers filled in, asked and put. Assumes nothing.
-use native.Mathlib.Omega.{arith}
-use mathlib.Core.Path.{sym, ◌∙◌}
-use mathlib.Core.Bool.{false}
-use mathlib.Core.List.{map}
-use lib.ListN.{length-map}
-use Rattle.listings.specs.Rows.{split}
-use Rattle.listings.specs.Scan.{split-some}
-use Rattle.reader.specs.Operands.{entry_by}
+-- `put_path`: asked, and put. Assumes nothing.
+use Rattle.std.proofs.Common.{ℕ, rules, ◌≡◌, refl, ap, ◌∙◌, Err, drop}
+use Rattle.listings.specs.Scan.{rest_all}
 use Rattle.formatting.specs.Pages.{wrote_is}
-use Rattle.answers.specs.AnswerLaws.{path_put}
+use Rattle.answers.specs.AnswersAt.{path_answer, numbered_row, row_is, no_row}
 use Rattle.answers.proofs.answers.put_path.Goals as goal
 
-pub slice_bounds-resolve_path-count : goal.slice_bounds-resolve_path-count
-slice_bounds-resolve_path-count c = omega (arith, c.requires.0, split-some 32 c.args.s.now)
-
-pub slice_bounds-resolve_path-start : goal.slice_bounds-resolve_path-start
-slice_bounds-resolve_path-start c = omega (arith, c.requires.0, split-some 32 c.args.s.now)
+pub returns-in_err-node : goal.returns-in_err-node
+unfolding path_answer
+returns-in_err-node c =
+    let e : c.from_residual.result ≡ Err c.in_err-node.field-0.0 = search rules in
+    let t = c.args.g.now in
+    rw e (refl, no_row (λ d. d) numbered_row _ _ c.in_err-node.ensures ∙ ap (path_answer t.counts.now t.stmts.now c.from-line.result) (rest_all c.args.numbers.now 1) ∙ ap (λ (l : ℕ). path_answer t.counts.now t.stmts.now l (drop 1 c.args.numbers.now)) c.from-line.ensures)
 
 pub returns : goal.returns
+unfolding path_answer numbered_row
 returns c =
-    let ws = split 32 c.args.s.now in
-    wrote_is (path_put c.args.counts.now c.args.stmts.now (map (entry_by false) ws) _ _ c.args.n c.from.result c.resolve_path-a.result c.fill_numbers.ensures (c.requires.0 ∙ sym (length-map ws (entry_by false))) (omega (arith, c.requires.0, split-some 32 c.args.s.now)) c.from.ensures c.resolve_path-a.ensures) c.put_stated.ensures
+    let t = c.args.g.now in
+    wrote_is (row_is (λ d. d) numbered_row _ _ c.in_ok-node.ensures ∙ ap (path_answer t.counts.now t.stmts.now c.from-line.result) (rest_all c.args.numbers.now 1) ∙ ap (λ (l : ℕ). path_answer t.counts.now t.stmts.now l (drop 1 c.args.numbers.now)) c.from-line.ensures) c.put_stmt.ensures

@@ -1,18 +1,22 @@
--- `four_words`: one space after the other. Assumes nothing.
-use Rattle.answers.specs.QuestionWords.{four_none, four_one, four_two, four_more, four_found}
+-- `four_words`: one word after the other. Assumes nothing.
+use Rattle.std.proofs.Common.{rules, ◌≡◌, None}
+use Rattle.answers.specs.QuestionWords.{one_word, two_words, three_words, words_cut}
 use Rattle.answers.proofs.words.four_words.Goals as goal
 
-pub returns-then-a-s : goal.returns-then-a-s
-returns-then-a-s c = four_none c.args.s.now c.find-a.result c.find-a.ensures.0 c.find-a.ensures.1 c.if-a-s.true
+pub returns-in_err-header : goal.returns-in_err-header
+returns-in_err-header c =
+    let e : c.from_residual.result ≡ None = search rules in
+    rw e (one_word c.args.s.now c.in_err-header.ensures)
 
-pub returns-then-b-s : goal.returns-then-b-s
-returns-then-b-s c = four_one c.args.s.now c.find-a.result c.find-a.ensures.0 c.find-a.ensures.1 c.if-a-s.false c.find.result c.find.ensures.0 c.find.ensures.1 c.if-b-s.true
+pub returns-in_err-node : goal.returns-in_err-node
+returns-in_err-node c =
+    let e : c.from_residual-in_err-node.result ≡ None = search rules in
+    rw e (two_words c.args.s.now _ _ c.in_ok-header.ensures c.in_err-node.ensures)
 
-pub returns-then-c-s : goal.returns-then-c-s
-returns-then-c-s c = four_two c.args.s.now c.find-a.result c.find-a.ensures.0 c.find-a.ensures.1 c.if-a-s.false c.find.result c.find.ensures.0 c.find.ensures.1 c.if-b-s.false c.find-2.result c.find-2.ensures.0 c.find-2.ensures.1 c.if-c-s.true
-
-pub returns-then-f-find : goal.returns-then-f-find
-returns-then-f-find c = four_more c.args.s.now c.find-a.result c.find-a.ensures.0 c.find-a.ensures.1 c.if-a-s.false c.find.result c.find.ensures.0 c.find.ensures.1 c.if-b-s.false c.find-2.result c.find-2.ensures.0 c.find-2.ensures.1 c.if-c-s.false c.find-3.result c.find-3.ensures.0 c.find-3.ensures.1 c.if-f-find.true
+pub returns-in_err-name : goal.returns-in_err-name
+returns-in_err-name c =
+    let e : c.from_residual-in_err-name.result ≡ None = search rules in
+    rw e (three_words c.args.s.now _ _ c.in_ok-header.ensures _ _ c.in_ok-node.ensures c.in_err-name.ensures)
 
 pub returns : goal.returns
-returns c = four_found c.args.s.now c.find-a.result c.find-a.ensures.0 c.find-a.ensures.1 c.if-a-s.false c.find.result c.find.ensures.0 c.find.ensures.1 c.if-b-s.false c.find-2.result c.find-2.ensures.0 c.find-2.ensures.1 c.if-c-s.false c.find-3.result c.find-3.ensures.0 c.find-3.ensures.1 c.if-f-find.false
+returns c = words_cut c.args.s.now _ _ c.in_ok-header.ensures _ _ c.in_ok-node.ensures _ _ c.in_ok-name.ensures

@@ -8,7 +8,7 @@ returns-in_err-node c =
     let a = c.args in
     let f : a.flag ≡ Some c.in_ok-flag.flag = search rules in
     let e : c.from_residual-in_err-node.result ≡ Err c.in_err-node.field-0.0 = search rules in
-    rw (e, f) (frame_node a.h a.i a.start a.end c.in_ok-flag.flag _ (sym c.lower.ensures ∙ c.in_err-node.was))
+    rw (e, f) (frame_node a.h a.i a.name c.in_ok-flag.flag _ (sym c.lower.ensures ∙ c.in_err-node.was))
 
 pub returns-in_err-header : goal.returns-in_err-header
 returns-in_err-header c = absurd (frame_header c.args.h c.args.i c.in_ok-node.node _ (sym c.lower.ensures ∙ c.in_ok-node.was) c.in_err-header.was)
@@ -17,4 +17,4 @@ pub returns : goal.returns
 returns c =
     let a = c.args in
     let f : a.flag ≡ Some c.in_ok-flag.flag = search rules in
-    rw f (frame_ok a.h a.i _ _ a.start a.end c.in_ok-flag.flag c.in_ok-header.was (sym c.lower.ensures ∙ c.in_ok-node.was))
+    rw f (frame_ok a.h a.i _ _ a.name c.in_ok-flag.flag c.in_ok-header.was (sym c.lower.ensures ∙ c.in_ok-node.was))

@@ -6,13 +6,15 @@ use Rattle.answers.proofs.words.open_form.Goals as goal
 pub returns-then-not-are_words : goal.returns-then-not-are_words
 returns-then-not-are_words c = form_none c.args.s.now (sym c.are_words.ensures ∙ c.if-not-are_words.true)
 
-pub returns-then-e-s : goal.returns-then-e-s
-returns-then-e-s c = form_alone c.args.s.now c.find-e.result c.find-e.ensures.0 (sym c.are_words.ensures ∙ c.if-not-are_words.false) c.if-e-s.true
+pub returns-in_err-word : goal.returns-in_err-word
+returns-in_err-word c =
+    let e : c.from_residual.result ≡ None = search rules in
+    rw e (form_alone c.args.s.now (sym c.are_words.ensures ∙ c.if-not-are_words.false) c.in_err-word.ensures)
 
 pub returns-in_err-form : goal.returns-in_err-form
 returns-in_err-form c =
-    let e : c.from_residual.result ≡ None = search rules in
-    rw e (form_other c.args.s.now c.find-e.result c.find-e.ensures.0 (sym c.are_words.ensures ∙ c.if-not-are_words.false) c.if-e-s.false c.find-e.ensures.1 c.question_word.result c.question_word.ensures c.in_err-form.was)
+    let e : c.from_residual-in_err-form.result ≡ None = search rules in
+    rw e (form_other c.args.s.now (sym c.are_words.ensures ∙ c.if-not-are_words.false) _ _ c.in_ok-word.ensures c.question_word.result c.question_word.ensures c.in_err-form.was)
 
 pub returns : goal.returns
-returns c = form_words c.args.s.now c.find-e.result c.find-e.ensures.0 (sym c.are_words.ensures ∙ c.if-not-are_words.false) c.if-e-s.false c.find-e.ensures.1 c.question_word.result _ c.question_word.ensures c.in_ok-form.was
+returns c = form_words c.args.s.now (sym c.are_words.ensures ∙ c.if-not-are_words.false) _ _ c.in_ok-word.ensures c.question_word.result _ c.question_word.ensures c.in_ok-form.was

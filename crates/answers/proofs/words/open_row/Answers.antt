@@ -1,25 +1,24 @@
 -- `open_row`: both brackets, and what stands between. Assumes nothing.
-use Rattle.std.proofs.Common.{rules, ◌≡◌, arith, subst, length, None}
-use Rattle.reader.specs.CodedRows.{two_or_more}
-use Rattle.answers.specs.QuestionWords.{FormOpened, row_none, row_no_form, row_open, row_form_none, row_form}
+use Rattle.std.proofs.Common.{rules, ◌≡◌, [], ◌∷◌, None, Some}
+use Rattle.std.proofs.lemmas.Bool.Decides.{Decides-eqb}
+use Rattle.std.proofs.lemmas.Slice.Eq.{strip_prefix_is, strip_suffix_is}
+use Rattle.answers.specs.QuestionWords.{row_no_form, row_open, row_form}
 use Rattle.answers.proofs.words.open_row.Goals as goal
-use Rattle.answers.proofs.words.open_row.Goals.{then-n-eq0-via-then-n-eq0, then-n-eq0-via-else-n-eq0+then-w-ne40}
 
-pub returns-then-n-eq0 : goal.returns-then-n-eq0
-returns-then-n-eq0 c = elim c.then-n-eq0.branch [
-  | then-n-eq0-via-then-n-eq0 w ↦ row_none c.args.w.now w.if-n-eq0.true
-  | then-n-eq0-via-else-n-eq0+then-w-ne40 w ↦ row_no_form c.args.w.now (omega (arith, w.if-n-eq0.false)) w.if-w-ne40.true
-]
-
-pub returns-then-w-last-ne41 : goal.returns-then-w-last-ne41
-returns-then-w-last-ne41 c = row_open c.args.w.now (omega arith) c.if-w-ne40.false c.if-w-last-ne41.true
-
-pub returns-in_err-o : goal.returns-in_err-o
-returns-in_err-o c =
+pub returns-in_err-strip_prefix : goal.returns-in_err-strip_prefix
+returns-in_err-strip_prefix c =
     let e : c.from_residual.result ≡ None = search rules in
-    rw e (row_form_none c.args.w.now (omega arith) c.if-w-ne40.false c.if-w-last-ne41.false (subst (FormOpened _) c.in_err-o.was c.open_form.ensures))
+    rw e (row_no_form c.args.w.now (strip_prefix_is Decides-eqb c.args.w.now (40 ∷ []) None c.in_err-strip_prefix.ensures.cases))
+
+pub returns-in_err-strip_suffix : goal.returns-in_err-strip_suffix
+returns-in_err-strip_suffix c =
+    let e : c.from_residual-in_err-strip_suffix.result ≡ None = search rules in
+    let l = c.in_ok-strip_prefix.field-0.now in
+    let p = strip_prefix_is Decides-eqb c.args.w.now (40 ∷ []) (Some c.in_ok-strip_prefix.field-0) c.in_ok-strip_prefix.ensures.cases in
+    rw e (row_open c.args.w.now l p (strip_suffix_is Decides-eqb l (41 ∷ []) None c.in_err-strip_suffix.ensures.cases))
 
 pub returns : goal.returns
 returns c =
-    row_form c.args.w.now (omega arith) c.if-w-ne40.false c.if-w-last-ne41.false c.in_ok-o.o
-    (omega (arith, two_or_more c.args.w.now (length c.args.w.now) (omega arith) c.if-w-ne40.false c.if-w-last-ne41.false)) (subst (FormOpened _) c.in_ok-o.was c.open_form.ensures)
+    let l = c.in_ok-strip_prefix.field-0.now in
+    let p = strip_prefix_is Decides-eqb c.args.w.now (40 ∷ []) (Some c.in_ok-strip_prefix.field-0) c.in_ok-strip_prefix.ensures.cases in
+    row_form c.args.w.now l p c.in_ok-strip_suffix.field-0.now (strip_suffix_is Decides-eqb l (41 ∷ []) (Some c.in_ok-strip_suffix.field-0) c.in_ok-strip_suffix.ensures.cases) c.open_form.result c.open_form.ensures

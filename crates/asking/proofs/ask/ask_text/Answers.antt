@@ -7,8 +7,8 @@ use Rattle.wiring.specs.BuiltAnswer.{built_told}
 use Rattle.asking.specs.Asked.{listing_refused, questions_asked}
 use Rattle.asking.proofs.ask.ask_text.Goals as goal
 
-pub slice_bounds-build-end : goal.slice_bounds-build-end
-slice_bounds-build-end c = sym (length-take-le c.listing_length-n.result c.args.text.now (cut_is c.args.text.now c.listing_length-n.result c.listing_length-n.ensures).fits)
+pub slice_bounds-listing-end : goal.slice_bounds-listing-end
+slice_bounds-listing-end c = sym (length-take-le c.listing_length-n.result c.args.text.now (cut_is c.args.text.now c.listing_length-n.result c.listing_length-n.ensures).fits)
 
 pub answer_questions-requires : goal.answer_questions-requires
 answer_questions-requires c = cut_is _ c.listing_length-n.result c.listing_length-n.ensures

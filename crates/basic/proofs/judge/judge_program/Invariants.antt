@@ -4,7 +4,7 @@ use Rattle.basic.specs.ReadLaws.{Follows}
 use Rattle.basic.proofs.judge.judge_program.Given as goal
 
 abbrev pub invariant-loop-at : goal.invariant-loop-at
-invariant-loop-at l = (l.at ≤ suc (suc (length l.file))) × (l.s.stmts ≤ 4096) × Follows l.file l.s l.at
+invariant-loop-at l = (l.at ≤ suc (suc (length l.file))) × Follows l.file l.s l.at
 
 abbrev pub decreases-loop-at : goal.decreases-loop-at
 decreases-loop-at l = suc (suc (length l.file)) - l.at

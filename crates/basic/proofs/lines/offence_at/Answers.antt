@@ -9,9 +9,9 @@ use Rattle.basic.proofs.lines.offence_at.Goals as goal
 pub returns-then-n-gt63999 : goal.returns-then-n-gt63999
 unfolding offences
 returns-then-n-gt63999 c b e =
-    rw (part_number (c.args.at + 2) c.args.n (inner_offences c.args.file.now c.args.at b), lt-leb c.args.n 63999 c.if-n-gt63999.true, ← c.inner_offence-o.ensures b e) (rw c.at.ensures at c.sooner.ensures)
+    rw (part_number (c.args.line.now.at + 2) c.args.n (inner_offences c.args.line.now.file.now c.args.line.now.at b), lt-leb c.args.n 63999 c.if-n-gt63999.true, ← c.inner_offence-o.ensures b e) (rw c.at.ensures at c.sooner.ensures)
 
 pub returns : goal.returns
 unfolding offences
 returns c b e =
-    rw (part_number (c.args.at + 2) c.args.n (inner_offences c.args.file.now c.args.at b), le-leb c.args.n 63999 c.if-n-gt63999.false) (c.inner_offence-o.ensures b e)
+    rw (part_number (c.args.line.now.at + 2) c.args.n (inner_offences c.args.line.now.file.now c.args.line.now.at b), le-leb c.args.n 63999 c.if-n-gt63999.false) (c.inner_offence-o.ensures b e)

@@ -1,5 +1,5 @@
 -- `with_line`: test by test, as the definition has them. Assumes nothing.
-use Rattle.std.proofs.Common.{◌≡◌, not, arith, sym, ◌∙◌}
+use Rattle.std.proofs.Common.{◌≡◌, not, arith, sym, ◌∙◌, refl}
 use Rattle.std.specs.Prelude.{Ok}
 use borrow.Author.Tests.{not-true, not-false}
 use Rattle.listings.specs.Listing.{Stmts, size}
@@ -49,5 +49,4 @@ pub returns-clause-told : goal.returns-clause-told
 returns-clause-told c st e =
     let t = told st c.args.body e in
     let z = t.stmts in
-    rw t.stmts
-    (told-taken c.args.s c.args.n st (sym c.ascends.ensures ∙ c.if-not-ascends.false) (omega arith) (omega arith) (not-false _ (sym t.deep ∙ c.if-body.false)) c.args.next (not-false _ (sym t.long ∙ c.if-body-2.false)))
+    told-taken c.args.s c.args.n st (sym c.ascends.ensures ∙ c.if-not-ascends.false) (omega arith) (omega arith) (not-false _ (sym t.deep ∙ c.if-body.false)) (not-false _ (sym t.long ∙ c.if-body-2.false)) _ refl refl (omega arith) c.args.next

@@ -1,14 +1,10 @@
--- `feed`: those of the first i bytes. Assumes nothing.
-use mathlib.Core.Path.{refl}
-use native.Mathlib.Omega.{arith}
-use Rattle.comparing.specs.Comparing.{fed}
+-- `feed`: what is left comes to what the whole piece does. Assumes nothing.
+use Rattle.std.proofs.Common.{◌≡◌, ◌∙◌, length, rules, tests}
 use Rattle.comparing.specs.ComparingStates.{standing_of}
-use Rattle.comparing.specs.Feeding.{fed_further}
+use Rattle.comparing.specs.Feeding.{fed_all}
 use Rattle.comparing.proofs.compare.feed.Goals as goal
 
-pub loop-i-init : goal.loop-i-init
-unfolding fed
-loop-i-init c = (omega arith, refl)
-
-pub loop-i-preserved : goal.loop-i-preserved
-loop-i-preserved c = (c.feed_more-f.ensures.inside, fed_further c.args.due.now (standing_of c.args.s) c.args.piece.now c.loop-i.i _ _ _ c.loop-i.invariant.1 c.feed_more-f.ensures)
+pub returns : goal.returns
+returns c =
+    let none : length c.loop-left.left.now ≡ 0 = search (rules, tests) in
+    fed_all c.args.due.now (standing_of c.loop-left.r) c.loop-left.left.now none ∙ c.loop-left.invariant

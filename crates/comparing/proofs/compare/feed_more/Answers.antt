@@ -10,10 +10,8 @@ returns-in-Same c = fed_as (ap standing_of (sym c.in-Same.is)) c.feed_rows.ensur
 
 pub returns-in-Differs : goal.returns-in-Differs
 unfolding standing_of
-returns-in-Differs c =
-    fed_as (ap standing_of (sym c.in-Differs.is))
-    (fed-one c.args.due.now _ c.args.piece.now c.args.i c.requires _ (c.differ.ensures ∙ fed_differs c.args.due.now _ _ _))
+returns-in-Differs c = fed_as (ap standing_of (sym c.in-Differs.is)) (fed-one c.args.due.now _ c.args.piece.now c.requires _ (c.differ.ensures ∙ fed_differs c.args.due.now _ _ _))
 
 pub returns-in-Ended : goal.returns-in-Ended
 unfolding standing_of
-returns-in-Ended c = fed_as (ap standing_of (sym c.in-Ended.is)) (fed-ended c.args.due.now _ _ c.args.piece.now c.args.i c.requires)
+returns-in-Ended c = fed_as (ap standing_of (sym c.in-Ended.is)) (fed-ended c.args.due.now _ _ c.args.piece.now c.requires)

@@ -5,22 +5,22 @@ use Rattle.frame_slices.specs.FrameSlice.{answered-refused}
 use Rattle.frame_lists.specs.FrameChecks.{in_24_header, in_24_node, in_25, in_26, in_list, inside, answer_as}
 use Rattle.frame_lists.proofs.frame.frame_of.Goals as goal
 
-pub returns-then-n-header : goal.returns-then-n-header
-returns-then-n-header c = rw c.at.ensures (answered-refused _ _ _ (in_24_header _ _ _ _ _ _ _ _ _ _ _ _ c.if-n-header.true))
+pub returns-then-n-q : goal.returns-then-n-q
+returns-then-n-q c = rw c.at.ensures (answered-refused _ _ _ (rw (← c.count_of-n.ensures.0) (in_24_header _ _ _ _ _ _ _ _ _ _ _ _ c.if-n-q.true)))
 
-pub returns-then-n-node : goal.returns-then-n-node
-returns-then-n-node c = rw c.at-then-n-node.ensures (answered-refused _ _ _ (in_24_node _ _ _ _ _ _ _ _ _ _ _ _ c.if-n-header.false c.if-n-node.true))
+pub returns-then-n-q-2 : goal.returns-then-n-q-2
+returns-then-n-q-2 c = rw c.at-then-n-q-2.ensures (answered-refused _ _ _ (rw (← c.count_of-n.ensures.0) (in_24_node _ _ _ _ _ _ _ _ _ _ _ _ c.if-n-q.false c.if-n-q-2.true)))
 
 pub returns-then-frame_outside : goal.returns-then-frame_outside
-returns-then-frame_outside c = rw c.at-then-frame_outside.ensures (answered-refused _ _ _ (in_25 _ _ _ _ _ _ _ _ _ _ _ _ c.if-n-header.false c.if-n-node.false (sym c.frame_outside.ensures ∙ c.if-frame_outside.true)))
+returns-then-frame_outside c = rw c.at-then-frame_outside.ensures (answered-refused _ _ _ (rw (← c.count_of-n.ensures.0) (in_25 _ _ _ _ _ _ _ _ _ _ _ _ c.if-n-q.false c.if-n-q-2.false (sym c.frame_outside.ensures ∙ c.if-frame_outside.true))))
 
 pub returns-in_err-no_statement : goal.returns-in_err-no_statement
 returns-in_err-no_statement c =
     let p = err_from_is_err_and c.from_residual.result c.from_residual.ensures.1 in
-    rw (p.1, p.2) (answered-refused _ _ _ (in_26 _ _ _ _ _ _ _ _ _ _ _ _ c.if-n-header.false c.if-n-node.false (sym c.frame_outside.ensures ∙ c.if-frame_outside.false) _ _ c.in_err-no_statement.ensures))
+    rw (p.1, p.2) (answered-refused _ _ _ (rw (← c.count_of-n.ensures.0, ← c.count_of.ensures.0) (in_26 _ _ _ _ _ _ _ _ _ _ _ _ c.if-n-q.false c.if-n-q-2.false (sym c.frame_outside.ensures ∙ c.if-frame_outside.false) _ _ c.in_err-no_statement.ensures)))
 
 pub write_frame-requires : goal.write_frame-requires
-write_frame-requires c = inside c.args.n _ _ _ _ _ _ _ _ c.requires c.if-n-header.false c.if-n-node.false (sym c.frame_outside.ensures ∙ c.if-frame_outside.false)
+write_frame-requires c = inside c.count_of-n.result _ _ _ _ _ _ _ _ c.count_of-n.ensures.0 c.if-n-q.false c.if-n-q-2.false (sym c.frame_outside.ensures ∙ c.if-frame_outside.false)
 
 pub returns : goal.returns
-returns c = answer_as _ _ _ _ _ (in_list _ _ _ _ _ _ _ _ _ _ _ _ c.if-n-header.false c.if-n-node.false (sym c.frame_outside.ensures ∙ c.if-frame_outside.false) c.in_ok-no_statement.ensures) c.write_frame.ensures
+returns c = answer_as _ _ _ _ _ (rw (← c.count_of-n.ensures.0, ← c.count_of.ensures.0) (in_list _ _ _ _ _ _ _ _ _ _ _ _ c.if-n-q.false c.if-n-q-2.false (sym c.frame_outside.ensures ∙ c.if-frame_outside.false) c.in_ok-no_statement.ensures)) c.write_frame.ensures

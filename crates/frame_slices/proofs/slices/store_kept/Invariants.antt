@@ -1,7 +1,7 @@
--- `store_kept`: n entries are stored, what is kept of the first i. Assumes nothing.
-use Rattle.std.proofs.Common.{◌≡◌, ◌≤◌, length}
-use Rattle.frame_slices.specs.FrameSlice.{Stored}
+-- `store_kept`: the first of those kept stand at the front. Assumes nothing.
+use Rattle.std.proofs.Common.{◌≡◌, ◌++◌, length, take, drop}
+use Rattle.graph.specs.Questions.{kept}
 use Rattle.frame_slices.proofs.slices.store_kept.Given as goal
 
-abbrev pub invariant-loop-s : goal.invariant-loop-s
-invariant-loop-s l = (l.len ≤ l.s-index) × (length l.out ≡ length l.initial.out) × Stored l.header l.list l.initial.out l.out l.len l.s-index
+abbrev pub invariant-loop-len : goal.invariant-loop-len
+invariant-loop-len l = l.out ≡ take (length l.yielded) (kept l.header l.list) ++ drop (length l.yielded) l.initial.out

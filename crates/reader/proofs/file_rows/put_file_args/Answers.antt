@@ -5,5 +5,5 @@ use Rattle.reader.proofs.file_rows.put_file_args.Goals as goal
 
 pub returns : goal.returns
 returns c =
-    let x = operands_at c.args.file.now c.args.b c.args.at in
+    let x = operands_at c.args.file.now c.args.s in
     (args_put c.args.args.now x.entries c.put_args.new.part c.args.n c.requires.0 c.requires.1 c.put_args.ensures, refl)

@@ -1,7 +1,7 @@
 -- By what the words of the list are. Assumes nothing.
 use Rattle.std.proofs.Common.{rules, ◌≡◌, ◌∙◌, ap}
-use Rattle.listings.specs.Rows.{parse_name, parse_number}
-use Rattle.reader.specs.Operands.{entry_by, or_zero, number_or_zero, key_or_zero}
+use Rattle.listings.specs.Rows.{parse_number}
+use Rattle.reader.specs.Operands.{entry_by, or_zero, number_or_zero}
 use Rattle.reader.proofs.operands.operand_of.Goals as goal
 
 pub returns-in-Numbers : goal.returns-in-Numbers
@@ -9,9 +9,3 @@ unfolding entry_by
 returns-in-Numbers c =
     let u : c.unwrap_or.result ≡ or_zero c.number.result = search rules in
     rw c.in-Numbers.is (c.from.ensures ∙ u ∙ ap or_zero c.number.ensures ∙ number_or_zero (parse_number c.args.w.now))
-
-pub returns-in-Slots : goal.returns-in-Slots
-unfolding entry_by
-returns-in-Slots c =
-    let u : c.unwrap_or-in-Slots.result ≡ or_zero c.key_of.result = search rules in
-    rw c.in-Slots.is (u ∙ ap or_zero c.key_of.ensures ∙ key_or_zero (parse_name c.args.w.now))

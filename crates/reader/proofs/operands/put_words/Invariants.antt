@@ -1,12 +1,9 @@
--- Each turn writes the entry of one word. Assumes nothing.
-use Prim.Native.Nat.{suc, ◌-◌, ◌≤◌}
-use lib.ListN.{length}
+-- The words so far are at the front, each as its entry. Assumes nothing.
+use Rattle.std.proofs.Common.{◌≡◌, ◌++◌, map, length, take, drop}
+use Rattle.listings.specs.Rows.{split}
 use Rattle.tokens.specs.Arguments.{are_slots}
-use Rattle.reader.specs.Operands.{entry_by, Filling}
+use Rattle.reader.specs.Operands.{entry_by}
 use Rattle.reader.proofs.operands.put_words.Given as goal
 
-abbrev pub invariant-loop-arguments : goal.invariant-loop-arguments
-invariant-loop-arguments l = (l.at ≤ length l.s) × (l.n ≤ l.at) × Filling (entry_by (are_slots l.arguments)) l.s l.initial.part l.part l.at l.n
-
-abbrev pub decreases-loop-arguments : goal.decreases-loop-arguments
-decreases-loop-arguments l = suc (length l.s) - l.at
+abbrev pub invariant-loop-w : goal.invariant-loop-w
+invariant-loop-w l = (l.count ≡ length l.yielded) × (l.part ≡ map (entry_by (are_slots l.arguments)) (take l.count (split 32 l.s)) ++ drop l.count l.initial.part)

@@ -5,7 +5,7 @@ use Rattle.reader.proofs.rows.closed_bare.Goals as goal
 
 pub returns-in-To : goal.returns-in-To
 unfolding closed_bare
-returns-in-To c = rw c.in-To.is c.to_row.ensures
+returns-in-To c = rw c.in-To.is
 
 pub returns-in-Bare : goal.returns-in-Bare
 unfolding closed_bare

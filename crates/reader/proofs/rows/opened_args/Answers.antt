@@ -1,7 +1,8 @@
 -- `opened_args`: the module, a line, or no form. Assumes nothing.
-use mathlib.Core.Path.{◌∙◌, ap}
+use Rattle.std.proofs.Common.{rules, ◌≡◌, ◌∙◌, ap}
 use Rattle.listings.specs.Rows.{single, split}
-use Rattle.reader.specs.CodedRows.{opened_args, opened_others, line_by_number_lem, line_by_number}
+use Rattle.reader.specs.CodedRows.{opened_args, opened_others, row_by_number, line_by_number}
+use Rattle.reader.specs.declared.rows.Row.TheVariants as row
 use Rattle.reader.proofs.rows.opened_args.Goals as goal
 
 pub returns-in-Module : goal.returns-in-Module
@@ -10,7 +11,9 @@ returns-in-Module c = rw c.in-Module.is c.module_row.ensures
 
 pub returns-in-Line : goal.returns-in-Line
 unfolding opened_args
-returns-in-Line c = rw c.in-Line.is (c.line_row.ensures ∙ ap line_by_number c.single_number.ensures ∙ line_by_number_lem (single (split 32 c.args.s.now)))
+returns-in-Line c =
+    let m : c.map.result ≡ row_by_number row.Line c.due_number.result = search rules in
+    rw c.in-Line.is (m ∙ ap (row_by_number row.Line) c.due_number.ensures ∙ line_by_number (single (split 32 c.args.s.now)))
 
 pub returns-in_default : goal.returns-in_default
 returns-in_default c = opened_others c.args.kind (split 32 c.args.s.now) c.in_default.not-Module c.in_default.not-Line

@@ -8,7 +8,7 @@ use Rattle.reader.proofs.rows.opened_bare.Goals as goal
 
 pub returns-in-Line : goal.returns-in-Line
 unfolding opened_bare
-returns-in-Line c = rw c.in-Line.is c.line_row.ensures
+returns-in-Line c = rw c.in-Line.is
 
 pub returns-in-Stmts : goal.returns-in-Stmts
 unfolding opened_bare

@@ -19,4 +19,4 @@ returns-in_err-check_record c =
 pub returns : goal.returns
 returns c =
     let a = c.args in
-    rw c.from.ensures (answer_passes _ _ c.in_ok-check_record.ensures ∙ by_record a.counts.now a.stmts.now a.node _ c.count_of-n.ensures.0 (omega arith) (omega arith) _ c.count_of-lines.ensures.0)
+    rw (c.from.ensures, c.word.ensures) (answer_passes _ _ c.in_ok-check_record.ensures ∙ by_record a.counts.now a.stmts.now a.node _ c.count_of-n.ensures.0 (omega arith) (omega arith) _ c.count_of-lines.ensures.0)

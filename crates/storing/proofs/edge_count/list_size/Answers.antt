@@ -16,7 +16,7 @@ returns-then-word-eq-RETURN c =
     size_back c.args.source.now.handlers c.requires.1 (sym c.word-word.ensures ∙ c.if-word-eq-RETURN.true) c.if-source.false (c.size_of.ensures ∙ ap size_of c.set_at.ensures.is_set)
 
 pub put_jump-requires : goal.put_jump-requires
-put_jump-requires c = size_ready c.args.source.now.handlers c.requires.1 (λ e. c.if-word-eq-RETURN.false (c.word-word.ensures ∙ e)) (ap call_word (sym c.word-word.ensures) ∙ sym c.is_call.ensures ∙ c.if-is_call.true)
+put_jump-requires c = (c.requires.0, (size_ready c.args.source.now.handlers c.requires.1 (λ e. c.if-word-eq-RETURN.false (c.word-word.ensures ∙ e)) (ap call_word (sym c.word-word.ensures) ∙ sym c.is_call.ensures ∙ c.if-is_call.true)).3)
 
 pub returns-then-is_call : goal.returns-then-is_call
 returns-then-is_call c = size_call c.args.source.now.handlers c.requires.1 (λ e. c.if-word-eq-RETURN.false (c.word-word.ensures ∙ e)) (ap call_word (sym c.word-word.ensures) ∙ sym c.is_call.ensures ∙ c.if-is_call.true) (search rules) c.put_jump.auto.part c.put_jump.ensures

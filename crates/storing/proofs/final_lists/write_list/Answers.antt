@@ -19,7 +19,7 @@ returns-then-word-eq-RETURN c = return_done c.requires.1 (sym c.word-word.ensure
 pub put_jump-count-requires : goal.put_jump-count-requires
 put_jump-count-requires c =
     let h = ap call_word (sym c.word-word.ensures) ∙ sym c.is_call.ensures ∙ c.if-is_call.true in
-    call_ready c.requires.1 (λ e. c.if-word-eq-RETURN.false (c.word-word.ensures ∙ e)) h
+    (c.requires.0, (call_ready c.requires.1 (λ e. c.if-word-eq-RETURN.false (c.word-word.ensures ∙ e)) h).3)
 
 pub put_list-requires-then-is_call : goal.put_list-requires-then-is_call
 put_list-requires-then-is_call c = call_fits c.requires.1 (λ e. c.if-word-eq-RETURN.false (c.word-word.ensures ∙ e)) (ap call_word (sym c.word-word.ensures) ∙ sym c.is_call.ensures ∙ c.if-is_call.true) (search rules) c.put_jump-count.auto.part c.put_jump-count.ensures

@@ -3,7 +3,7 @@ use Rattle.std.proofs.Common.{◌≡◌, ℕ, ◌+◌, ◌<◌, List, ◌∷◌,
 use Rattle.std.proofs.lemmas.Iterator.Consumers.{YieldsList-at, YieldsList-turn, YieldsList-end}
 use Rattle.std.proofs.lemmas.List.{at_drop_more, at_drop_all, length_push}
 use Rattle.listings.specs.Rows.{split}
-use Rattle.listings.specs.Scan.{YieldsList-from_pieces, split_fits}
+use Rattle.listing_laws.specs.Pieces.{YieldsList-from_pieces, split_fits}
 use Rattle.tokens.specs.Arguments.{Verdict, are_slots, checked, refusal_by, lowest, lowest_next, lowest_of, lowest_of_none}
 use Rattle.tokens.proofs.arguments.check_all.Goals as goal
 

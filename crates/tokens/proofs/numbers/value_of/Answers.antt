@@ -4,12 +4,13 @@ use native.Mathlib.Omega.{arith}
 use mathlib.Core.Path.{◌∙◌, ◌≡◌, ap, sym}
 use mathlib.Core.Bool.{true}
 use mathlib.Core.List.{List}
+use Rattle.std.specs.Prelude.{Some}
 use Prim.Native.Nat.{◌*◌, ◌+◌, ◌-◌, ◌<◌, ◌≤◌, suc, ℕ}
 use lib.ListN.{drop, drop_of_length-le, get_or, length}
 use Rattle.listings.specs.Rows.{all, is_digit, value}
 use Rattle.listing_laws.specs.NumberText.{digit_range}
 use Rattle.listings.specs.Scan.{all-at}
-use Rattle.tokens.specs.Numbers.{capped_big, capped_small, value_grows, value_next}
+use Rattle.tokens.specs.Numbers.{small_none, small_some, value_grows, value_next}
 use Rattle.tokens.proofs.numbers.value_of.Goals as goal
 
 -- the byte at i is a digit
@@ -25,7 +26,7 @@ returns-then-v-gt65535 c =
     let x = c.loop-b.v * 10 + (get_or w c.loop-b.b-index 0 - 48) in
     let e : c.from.result ≡ get_or w c.loop-b.b-index 0 = c.from.ensures in
     let f : value c.loop-b.v (drop c.loop-b.b-index w) ≡ value x (drop (suc c.loop-b.b-index) w) = value_next c.loop-b.v w c.loop-b.b-index (omega arith) in
-    (sym (capped_big w (omega (arith, value_grows x (drop (suc c.loop-b.b-index) w), f, c.loop-b.invariant.1))), omega arith)
+    sym (small_none w (omega (arith, value_grows x (drop (suc c.loop-b.b-index) w), f, c.loop-b.invariant.1)))
 
 pub loop-b-preserved : goal.loop-b-preserved
 loop-b-preserved c =
@@ -39,4 +40,4 @@ returns c =
     let l = c.loop-b in
     let w = c.args.w.now in
     let f : l.v ≡ value 0 w = sym (ap (value l.v) (drop_of_length-le w {i = l.b-index} (omega arith))) ∙ l.invariant.1 in
-    (f ∙ sym (capped_small w (omega (arith, f))), omega arith)
+    ap Some f ∙ sym (small_some w (omega (arith, f)))

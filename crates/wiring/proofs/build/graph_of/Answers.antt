@@ -1,21 +1,26 @@
 -- `graph_of`: prepared, then wired; a graph with too many edges is refused. Assumes nothing.
-use Rattle.std.proofs.Common.{◌≡◌, refl, sym, ap, ◌∙◌, false}
+use Rattle.std.proofs.Common.{◌≡◌, refl, sym, ap, ◌∙◌, true, false, rules}
+use Rattle.std.specs.Prelude.{is_err}
 use Rattle.passes.specs.Connecting.{no}
-use Rattle.wiring.specs.Found.{all_found}
+use Rattle.wiring.specs.Found.{all_found, none_refused, one_refused}
 use Rattle.wiring.specs.GraphOf.{made_graph, made_refused}
 use Rattle.wiring.proofs.build.graph_of.Goals as goal
 
 pub returns-in_err-prepare : goal.returns-in_err-prepare
 returns-in_err-prepare c = let e : all_found c.prepare.result ≡ false = ap all_found c.in_err-prepare.was in no (sym c.prepare.ensures.answered ∙ e)
 
-pub returns-in-Ok : goal.returns-in-Ok
-returns-in-Ok c =
+pub returns-else-is_err : goal.returns-else-is_err
+returns-else-is_err c =
     let k = c.prepare.auto in
-    let l = c.wire_graph.auto in
-    made_graph c.requires c.prepare.ensures c.wire_graph.ensures k.entries k.falls k.links l.lists l.returns l.succ l.pred c.in-Ok.is
+    let l = c.wire_graph-wired.auto in
+    let x : is_err c.wire_graph-wired.result ≡ false = search rules in
+    let e = none_refused c.wire_graph-wired.result x in
+    rw e (made_graph c.requires c.prepare.ensures c.wire_graph-wired.ensures k.entries k.falls k.links l.lists l.returns l.succ l.pred e)
 
-pub returns-in-Err : goal.returns-in-Err
-returns-in-Err c =
+pub returns-then-is_err : goal.returns-then-is_err
+returns-then-is_err c =
     let k = c.prepare.auto in
-    let l = c.wire_graph.auto in
-    made_refused c.requires c.prepare.ensures c.wire_graph.ensures k.entries k.falls k.links l.lists l.returns l.succ l.pred c.in-Err.is l.args refl c.clear_records.ensures c.clear_links.ensures c.clear_lists.ensures
+    let l = c.wire_graph-wired.auto in
+    let x : is_err c.wire_graph-wired.result ≡ true = search rules in
+    let e = one_refused c.wire_graph-wired.result x in
+    rw e.1 (made_refused c.requires c.prepare.ensures c.wire_graph-wired.ensures k.entries k.falls k.links l.lists l.returns l.succ l.pred e.1 l.args refl c.clear_records.ensures c.clear_links.ensures c.clear_lists.ensures)

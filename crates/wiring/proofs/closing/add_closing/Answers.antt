@@ -1,6 +1,5 @@
 -- `add_closing`: by the opening word. Assumes nothing.
-use borrow.Author.Rules.{rules}
-use mathlib.Core.Path.{◌≡◌, sym, ◌∙◌}
+use Rattle.std.proofs.Common.{rules, ◌≡◌, sym, refl, ◌∙◌}
 use Rattle.passes.specs.ClosingLaws.{ready_doif, ready_closer, closing_doif, closing-joined, closing-none}
 use Rattle.wiring.proofs.closing.add_closing.Goals as goal
 
@@ -8,15 +7,31 @@ pub add_doif-requires : goal.add_doif-requires
 add_doif-requires c = (c.requires.ready.0, ready_doif c.args.g.now.nodes.records.stmts.now c.args.g.now.nodes.falls.now c.args.g.now.frames.now c.args.i _ c.requires.ready.1 (sym c.word-word.ensures ∙ c.in-21.is))
 
 pub returns-in-21 : goal.returns-in-21
-returns-in-21 c = (closing_doif c.args.g.now.nodes.records.stmts.now c.args.g.now.nodes.falls.now c.args.g.now.frames.now c.args.i _ _ _ _ (sym c.word-word.ensures ∙ c.in-21.is) c.add_doif.ensures.0, c.add_doif.ensures.1)
+returns-in-21 c =
+    let m = c.add_doif.ensures in
+    record {
+      same_reference = m.same_reference;
+      size = m.size;
+      is = (closing_doif c.args.g.now.nodes.records.stmts.now c.args.g.now.nodes.falls.now c.args.g.now.frames.now c.args.i _ _ _ _ (sym c.word-word.ensures ∙ c.in-21.is) m.is.0, m.is.1);
+    }
 
 pub add_closer-requires : goal.add_closer-requires
 add_closer-requires c = (c.requires.ready.0, ready_closer c.args.g.now.nodes.records.stmts.now c.args.g.now.nodes.falls.now c.args.g.now.frames.now c.args.i _ c.requires.ready.1 c.from-met.result (c.from-met.ensures ∙ c.opener.ensures))
 
 pub returns-in_default : goal.returns-in_default
-returns-in_default c = (closing-joined c.args.g.now.nodes.records.stmts.now c.args.g.now.nodes.falls.now c.args.g.now.frames.now c.args.i _ _ _ _ c.from-met.result (rw c.word-word.ensures at (sym c.joins_frame.ensures ∙ c.if-joins_frame.true)) (c.from-met.ensures ∙ c.opener.ensures) c.add_closer.ensures.0, c.add_closer.ensures.1)
+returns-in_default c =
+    let m = c.add_closer.ensures in
+    record {
+      same_reference = m.same_reference;
+      size = m.size;
+      is = (closing-joined c.args.g.now.nodes.records.stmts.now c.args.g.now.nodes.falls.now c.args.g.now.frames.now c.args.i _ _ _ _ c.from-met.result (rw c.word-word.ensures at (sym c.joins_frame.ensures ∙ c.if-joins_frame.true)) (c.from-met.ensures ∙ c.opener.ensures) m.is.0, m.is.1);
+    }
 
-pub returns-in_default-2 : goal.returns-in_default-2
-returns-in_default-2 c =
+pub returns-else-joins_frame : goal.returns-else-joins_frame
+returns-else-joins_frame c =
     let ne : c.word-word.result ≡ 21 → ⊥ = search rules in
-    (closing-none c.args.g.now.nodes.records.stmts.now c.args.g.now.nodes.falls.now c.args.g.now.frames.now c.args.i c.args.part.now c.args.part.now c.args.n c.args.n (rw c.word-word.ensures at (sym c.joins_frame.ensures ∙ c.if-joins_frame.false)) (rw c.word-word.ensures at ne), c.requires.ready.0)
+    record {
+      same_reference = refl;
+      size = refl;
+      is = (closing-none c.args.g.now.nodes.records.stmts.now c.args.g.now.nodes.falls.now c.args.g.now.frames.now c.args.i c.args.list.now.part.now c.args.list.now.part.now c.args.list.now.n c.args.list.now.n (rw c.word-word.ensures at (sym c.joins_frame.ensures ∙ c.if-joins_frame.false)) (rw c.word-word.ensures at ne), c.requires.ready.0);
+    }

@@ -16,13 +16,13 @@ use Rattle.wiring.proofs.fill_rows.fill_row.Goals.{After-skip_list-count}
 made : (c : After-skip_list-count) → (c.skip_list-count.result ≤ length c.skip_list-count.new.part) × Ids 4096 (take c.skip_list-count.result c.skip_list-count.new.part)
 unfolding passes
 made c =
-    skip_fits c.args.g.now.nodes.records.stmts.now c.args.args.now c.args.g.now.entries.rows.now c.args.g.now.nodes.falls.now c.args.g.now.nodes.links.now c.args.g.now.frames.now c.args.g.now.dispatched.now c.args.g.now.entries.count c.args.g.now.d c.args.i
+    skip_fits c.args.g.now.nodes.records.stmts.now c.args.args.now c.args.g.now.entries.rows.now c.args.g.now.nodes.falls.now c.args.g.now.nodes.links.now c.args.g.now.frames.now c.args.g.now.dispatched.now c.args.g.now.entries.count c.args.i
     c.args.part.now _ _ (c.requires.ready.skips (rw c.word.ensures at (sym c.in_pass.ensures ∙ c.if-not-in_pass.false))) c.skip_list-count.ensures
 
 pub returns-then-not-in_pass : goal.returns-then-not-in_pass
 unfolding passes
 returns-then-not-in_pass c =
-    row_left c.args.g.now.nodes.records.stmts.now c.args.args.now c.args.g.now.entries.rows.now c.args.g.now.nodes.falls.now c.args.g.now.nodes.links.now c.args.g.now.frames.now c.args.g.now.dispatched.now c.args.g.now.entries.count c.args.g.now.d c.args.i (are_nexts c.args.pass)
+    row_left c.args.g.now.nodes.records.stmts.now c.args.args.now c.args.g.now.entries.rows.now c.args.g.now.nodes.falls.now c.args.g.now.nodes.links.now c.args.g.now.frames.now c.args.g.now.dispatched.now c.args.g.now.entries.count c.args.i (are_nexts c.args.pass)
     (rw c.word.ensures at (sym c.in_pass.ensures ∙ c.if-not-in_pass.true))
 
 pub skip_list-count-requires-clause-ready : goal.skip_list-count-requires-clause-ready
@@ -44,5 +44,5 @@ pub returns : goal.returns
 unfolding passes
 returns c =
     let k : c.args.i * 64 + 64 - c.args.i * 64 ≡ 64 = omega arith in
-    row_filled c.args.g.now.nodes.records.stmts.now c.args.args.now c.args.g.now.entries.rows.now c.args.g.now.nodes.falls.now c.args.g.now.nodes.links.now c.args.g.now.frames.now c.args.g.now.dispatched.now c.args.g.now.entries.count c.args.g.now.d c.args.i (are_nexts c.args.pass)
+    row_filled c.args.g.now.nodes.records.stmts.now c.args.args.now c.args.g.now.entries.rows.now c.args.g.now.nodes.falls.now c.args.g.now.nodes.links.now c.args.g.now.frames.now c.args.g.now.dispatched.now c.args.g.now.entries.count c.args.i (are_nexts c.args.pass)
     c.args.part.now _ _ _ _ (rw c.word.ensures at (sym c.in_pass.ensures ∙ c.if-not-in_pass.false)) k c.requires.ready.fits c.skip_list-count.ensures c.put_set.ensures

@@ -3,8 +3,12 @@ use mathlib.Core.Path.{◌≡◌}
 use lib.ListN.{length}
 use Rattle.passes.specs.FrameStacks.{HoldsBelow}
 use Rattle.passes.specs.ForLinkLaws.{GoingOn}
-use Rattle.passes.specs.NotedKeys.{KeysNoted}
 use Rattle.wiring.proofs.fors.link_fors.Given as goal
 
 abbrev pub invariant-loop-i : goal.invariant-loop-i
-invariant-loop-i l = (length l.links ≡ length l.initial.links) × HoldsBelow l.s.words l.i × KeysNoted l.args l.notes l.s.words × GoingOn l.r.stmts.now l.args l.r.n l.initial.links l.s.words l.links l.i
+invariant-loop-i l = record {
+  same_args : l.fors.args.now ≡ l.initial.fors.args.now;
+  same_length : length l.links ≡ length l.initial.links;
+  below : HoldsBelow l.fors.stack.words l.i;
+  going : GoingOn l.r.stmts.now l.initial.fors.args.now l.r.n l.initial.links l.fors.stack.words l.links l.i;
+}

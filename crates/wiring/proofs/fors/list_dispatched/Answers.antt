@@ -1,11 +1,11 @@
--- `list_dispatched`: those among the nodes before i are listed. Assumes nothing.
-use borrow.Author.Rules.{rules}
-use mathlib.Core.Path.{refl}
-use Rattle.passes.specs.Dispatched.{dispatched_start, dispatched_on}
+-- `list_dispatched`: the nodes that pass the test. Assumes nothing.
+use Rattle.std.proofs.Common.{rules}
+use Rattle.passes.specs.Dispatched.{is_dispatched, dispatched_put}
 use Rattle.wiring.proofs.fors.list_dispatched.Goals as goal
 
-pub loop-i-init : goal.loop-i-init
-loop-i-init c = (refl, dispatched_start _ _ _)
-
-pub loop-i-preserved : goal.loop-i-preserved
-loop-i-preserved c = (search rules, dispatched_on _ _ _ _ _ _ _ _ c.loop-i.invariant.1 c.list_one-d.ensures)
+pub returns : goal.returns
+returns c =
+    let g = c.args.g.now in
+    let r = g.records in
+    let p = is_dispatched r.stmts.now g.falls.now in
+    dispatched_put r.stmts.now g.falls.now r.n c.args.dispatched.now _ _ (c.list_where.ensures p (λ i b lt q. search rules))

@@ -20,8 +20,8 @@ must_stay Joins h n = absurd (n refl)
 pub returns-in_default : goal.returns-in_default
 returns-in_default c = step_stays c.args.i c.args.s.now.words c.args.frames.now (move_of c.args.m) (must_stay c.args.m c.requires.m_value c.in_default.not-Joins)
 
-pub overflow_cast-frames : goal.overflow_cast-frames
-overflow_cast-frames c = omega (arith, top_le c.args.s.now.words c.newest.result c.args.i c.requires.holds_below c.newest.ensures, c.requires.i_bound)
+pub number_of-requires : goal.number_of-requires
+number_of-requires c = omega (arith, top_le c.args.s.now.words _ c.args.i c.requires.holds_below c.newest.ensures, c.requires.i_bound)
 
 pub returns-in-Joins : goal.returns-in-Joins
-returns-in-Joins c = step_joins c.args.i c.args.s.now.words c.args.frames.now (move_of c.args.m) c.newest.result _ (ap move_of c.in-Joins.is) c.newest.ensures refl
+returns-in-Joins c = step_joins c.args.i c.args.s.now.words c.args.frames.now (move_of c.args.m) _ _ (ap move_of c.in-Joins.is) c.newest.ensures c.number_of.ensures

@@ -1,13 +1,17 @@
 -- `add_entry`: the last entry again, or one that is new. Assumes nothing.
-use mathlib.Core.Path.{refl}
+use Rattle.std.proofs.Common.{refl}
 use Rattle.passes.specs.EntryOrder.{entry_same, entry_fits, entry_more}
+use Rattle.storing.specs.NodeLists.{pushed_size}
 use Rattle.wiring.proofs.list_of.add_entry.Goals as goal
 
 pub returns-then-e-last : goal.returns-then-e-last
-returns-then-e-last c = entry_same c.args.part.now c.args.n c.args.e c.args.last c.requires c.if-e-last.true
-
-pub bounds-part-n : goal.bounds-part-n
-bounds-part-n c = entry_fits c.args.part.now c.args.n c.args.e c.args.last c.requires c.if-e-last.false
+returns-then-e-last c = record { same_reference = refl; size = refl; is = entry_same _ _ c.args.e c.args.last c.requires c.if-e-last.true }
 
 pub returns : goal.returns
-returns c = entry_more c.args.part.now c.args.n c.args.e c.args.last c.requires c.if-e-last.false _ refl
+returns c =
+    let p = c.push.ensures.pushed (entry_fits _ _ c.args.e c.args.last c.requires c.if-e-last.false) in
+    record {
+      same_reference = p.same_reference;
+      size = pushed_size p;
+      is = rw (p.part, p.count) (entry_more _ _ c.args.e c.args.last c.requires c.if-e-last.false _ refl);
+    }

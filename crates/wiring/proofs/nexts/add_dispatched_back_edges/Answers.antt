@@ -1,15 +1,15 @@
 -- `add_dispatched_back_edges`: an orphan NEXT adds what its slots select, any other node nothing. Assumes nothing.
-use lib.ListN.{take}
 use Rattle.passes.specs.NextBodies.{orphan_not_next, orphan_plain, orphan_slots}
+use Rattle.storing.specs.NodeLists.{grew_by, grew_same}
 use Rattle.wiring.proofs.nexts.add_dispatched_back_edges.Goals as goal
 use Rattle.wiring.proofs.nexts.add_dispatched_back_edges.Goals.{then-word-ne-NEXT-via-then-word-ne-NEXT, then-word-ne-NEXT-via-else-word-ne-NEXT+then-g-i-ne-ORPHAN}
 
 pub returns-then-word-ne-NEXT : goal.returns-then-word-ne-NEXT
 returns-then-word-ne-NEXT c =
     elim c.then-word-ne-NEXT.branch [
-      | then-word-ne-NEXT-via-then-word-ne-NEXT w ↦ orphan_not_next c.args.g.now.nodes.records.stmts.now c.args.args.now c.args.g.now.nodes.falls.now (take c.args.g.now.d c.args.g.now.dispatched.now) _ _ c.args.i (rw c.word.ensures at w.if-word-ne-NEXT.true)
-      | then-word-ne-NEXT-via-else-word-ne-NEXT+then-g-i-ne-ORPHAN w ↦ orphan_plain c.args.g.now.nodes.records.stmts.now c.args.args.now c.args.g.now.nodes.falls.now (take c.args.g.now.d c.args.g.now.dispatched.now) _ _ c.args.i (rw c.word.ensures at w.if-word-ne-NEXT.false) w.if-g-i-ne-ORPHAN.true
+      | then-word-ne-NEXT-via-then-word-ne-NEXT w ↦ grew_same (orphan_not_next c.args.g.now.nodes.records.stmts.now c.args.args.now c.args.g.now.nodes.falls.now c.args.g.now.dispatched.now _ _ c.args.i (rw c.word.ensures at w.if-word-ne-NEXT.true))
+      | then-word-ne-NEXT-via-else-word-ne-NEXT+then-g-i-ne-ORPHAN w ↦ grew_same (orphan_plain c.args.g.now.nodes.records.stmts.now c.args.args.now c.args.g.now.nodes.falls.now c.args.g.now.dispatched.now _ _ c.args.i (rw c.word.ensures at w.if-word-ne-NEXT.false) w.if-g-i-ne-ORPHAN.true)
     ]
 
 pub returns : goal.returns
-returns c = orphan_slots c.args.g.now.nodes.records.stmts.now c.args.args.now c.args.g.now.nodes.falls.now (take c.args.g.now.d c.args.g.now.dispatched.now) _ _ c.args.i _ _ _ (rw c.word.ensures at c.if-word-ne-NEXT.false) c.if-g-i-ne-ORPHAN.false c.count.ensures c.add_slots.ensures
+returns c = grew_by (orphan_slots c.args.g.now.nodes.records.stmts.now c.args.args.now c.args.g.now.nodes.falls.now c.args.g.now.dispatched.now _ _ c.args.i _ _ _ (rw c.word.ensures at c.if-word-ne-NEXT.false) c.if-g-i-ne-ORPHAN.false c.count.ensures) c.add_slots.ensures

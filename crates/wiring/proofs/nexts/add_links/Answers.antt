@@ -1,21 +1,16 @@
 -- `add_links`: the bodies of the first k links are added. Assumes nothing.
-use borrow.Author.Rules.{rules}
-use mathlib.Core.Path.{refl}
-use Rattle.passes.specs.Growing.{each_start, each_on}
+use Rattle.std.proofs.Common.{arith}
 use Rattle.passes.specs.NextBodies.{link_body, link_room}
+use Rattle.storing.specs.NodeLists.{grew_start, grew_on, grew_end, grew_link}
 use Rattle.wiring.proofs.nexts.add_links.Goals as goal
 
 pub loop-t-init : goal.loop-t-init
-loop-t-init c = let a = c.args in (refl, each_start (link_body a.falls.now) a.row.now _ _)
-
-pub add_link-r-requires : goal.add_link-r-requires
-add_link-r-requires c =
-    let a = c.args in
-    let l = c.loop-t in
-    link_room a.falls.now a.row.now a.part.now _ a.n _ l.t-index c.requires l.invariant.1 c.loop-t-test.true
+loop-t-init c = grew_start (link_body c.args.falls.now) c.args.row.now c.args.list.now
 
 pub loop-t-preserved : goal.loop-t-preserved
 loop-t-preserved c =
-    let a = c.args in
-    let l = c.loop-t in
-    (search rules, each_on (link_body a.falls.now) a.row.now _ _ _ _ _ _ l.t-index c.loop-t-test.true l.invariant.1 c.add_link-r.ensures)
+    let w = link_room c.args.falls.now c.args.row.now _ _ _ _ c.loop-t.t-index c.requires c.loop-t.invariant.grows c.loop-t-test.true in
+    grew_on (link_body c.args.falls.now) c.args.row.now c.args.list.now c.loop-t.t-index c.loop-t-test.true c.loop-t.invariant (grew_link w c.add_fall.ensures)
+
+pub returns : goal.returns
+returns c = grew_end (link_body c.args.falls.now) c.args.row.now c.args.list.now c.loop-t.t-index c.loop-t-test.false c.loop-t.invariant

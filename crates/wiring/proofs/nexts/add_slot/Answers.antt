@@ -1,28 +1,17 @@
 -- `add_slot`: the selected bodies of the first k FORs are added. Assumes nothing.
-use borrow.Author.Rules.{rules}
-use mathlib.Core.Path.{refl}
-use Rattle.passes.specs.Growing.{each_start, each_on, each_end}
 use Rattle.passes.specs.NextBodies.{selected_body, slot_bodies, for_room}
+use Rattle.storing.specs.NodeLists.{grew_start, grew_on, grew_end}
 use Rattle.wiring.proofs.nexts.add_slot.Goals as goal
 
 pub loop-o-init : goal.loop-o-init
-loop-o-init c = let a = c.args in (refl, each_start (selected_body a.args.now a.falls.now a.key) a.fors.now _ _)
+loop-o-init c = grew_start (selected_body c.args.args.now c.args.falls.now c.args.key) c.args.fors.now c.args.list.now
 
-pub add_selected-r-requires : goal.add_selected-r-requires
-add_selected-r-requires c =
-    let a = c.args in
-    let l = c.loop-o in
-    for_room a.args.now a.falls.now a.fors.now a.part.now _ a.key a.n _ l.o-index c.requires l.invariant.1 c.loop-o-test.true
+pub add_selected-requires : goal.add_selected-requires
+add_selected-requires c = for_room c.args.args.now c.args.falls.now c.args.fors.now _ _ c.args.key _ _ c.loop-o.o-index c.requires c.loop-o.invariant.grows c.loop-o-test.true
 
 pub loop-o-preserved : goal.loop-o-preserved
-loop-o-preserved c =
-    let a = c.args in
-    let l = c.loop-o in
-    (search rules, each_on (selected_body a.args.now a.falls.now a.key) a.fors.now _ _ _ _ _ _ l.o-index c.loop-o-test.true l.invariant.1 c.add_selected-r.ensures)
+loop-o-preserved c = grew_on (selected_body c.args.args.now c.args.falls.now c.args.key) c.args.fors.now c.args.list.now c.loop-o.o-index c.loop-o-test.true c.loop-o.invariant c.add_selected.ensures
 
 pub returns : goal.returns
 unfolding slot_bodies
-returns c =
-    let a = c.args in
-    let l = c.loop-o in
-    each_end (selected_body a.args.now a.falls.now a.key) a.fors.now _ _ _ _ l.o-index c.loop-o-test.false l.invariant.1
+returns c = grew_end (selected_body c.args.args.now c.args.falls.now c.args.key) c.args.fors.now c.args.list.now c.loop-o.o-index c.loop-o-test.false c.loop-o.invariant

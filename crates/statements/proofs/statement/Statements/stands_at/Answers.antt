@@ -27,4 +27,4 @@ returns-in-Some c =
     let a = c.args in
     let s = a.self.now in
     let z : a.holder ≡ suc c.in-Some.held = omega (arith, c.in-Some.ensures) in
-    c.is_branching.ensures ∙ under-if s.stmts.now a.line a.holder a.index a.i (sym c.from.ensures ∙ c.if-from-holder.false) c.if-self-row.false c.in-Some.held z
+    (rw c.word.ensures at c.is_branching.ensures) ∙ under-if s.stmts.now a.line a.holder a.index a.i (sym c.from.ensures ∙ c.if-from-holder.false) c.if-self-row.false c.in-Some.held z

@@ -1,7 +1,8 @@
 -- `region`: the walk's invariant, over the lists that the tables store. Assumes nothing.
 use borrow.Author.Rules.{rules}
-use Prim.Native.Nat.{ℕ, ◌<◌, ◌+◌}
-use mathlib.Core.Path.{refl, ap}
+use Prim.Native.Nat.{◌<◌, ◌≤◌, ◌*◌}
+use lib.ListN.{length}
+use mathlib.Core.Path.{refl}
 use native.Mathlib.Omega.{arith}
 use Rattle.passes.specs.Walk.{stored_list}
 use Rattle.passes.specs.WalkLaws.{walk_start, walk_markable, walk_turn, walk_few, walk_end, walk_below, region_listed, stored_part, stored_ids}
@@ -14,26 +15,12 @@ loop-done-init c =
     walk_start (stored_list s.lists.now s.edges.now) 4096 c.args.from lt c.args.work.now (search rules)
     c.no_marks-marks.result _ c.no_marks-marks.ensures refl
 
-pub bounds-self-v : goal.bounds-self-v
-bounds-self-v c =
-    let s = c.args.self.now in
-    let next : c.from-v.result < s.nodes.records.n =
-    rw c.from-v.ensures (walk_below s.nodes.records.n c.requires.1.ids c.requires.0 c.loop-done.invariant c.loop-done.done c.loop-done-test.true) in
-    omega (arith, next, c.requires.1.rows)
-
-pub bounds-self-v-in-loop-done : goal.bounds-self-v-in-loop-done
-bounds-self-v-in-loop-done c =
-    let s = c.args.self.now in
-    let next : c.from-v.result < s.nodes.records.n =
-    rw c.from-v.ensures (walk_below s.nodes.records.n c.requires.1.ids c.requires.0 c.loop-done.invariant c.loop-done.done c.loop-done-test.true) in
-    omega (arith, next, c.requires.1.rows)
-
 pub mark_all-count-requires : goal.mark_all-count-requires
 mark_all-count-requires c =
     let s = c.args.self.now in
     let next : c.from-v.result < s.nodes.records.n =
     rw c.from-v.ensures (walk_below s.nodes.records.n c.requires.1.ids c.requires.0 c.loop-done.invariant c.loop-done.done c.loop-done-test.true) in
-    let e = stored_part s.lists.now s.edges.now c.from-v.result c.from-start.result _ c.from-start.ensures (ap (λ (x : ℕ). c.from-start.result + x) c.from.ensures) in
+    let e = stored_part s.lists.now s.edges.now c.from-v.result c.list_ends-start.result.0 c.list_ends-start.result.1 c.list_ends-start.ensures.start (omega (arith, c.list_ends-start.ensures.start, c.list_ends-start.ensures.end)) in
     walk_markable c.loop-done.invariant (stored_ids 4096 c.from-v.result _ c.requires.1 s.nodes.records.few (next) e)
 
 pub loop-done-preserved : goal.loop-done-preserved
@@ -41,7 +28,7 @@ loop-done-preserved c =
     let s = c.args.self.now in
     walk_turn (stored_list s.lists.now s.edges.now) 4096 c.args.from c.loop-done.marks c.mark_all-count.new.marks c.loop-done.work
     _ c.loop-done.done c.loop-done.count c.mark_all-count.result c.from-v.result _ c.loop-done.invariant c.loop-done-test.true c.from-v.ensures
-    (stored_part s.lists.now s.edges.now c.from-v.result c.from-start.result _ c.from-start.ensures (ap (λ (x : ℕ). c.from-start.result + x) c.from.ensures))
+    (stored_part s.lists.now s.edges.now c.from-v.result c.list_ends-start.result.0 c.list_ends-start.result.1 c.list_ends-start.ensures.start (omega (arith, c.list_ends-start.ensures.start, c.list_ends-start.ensures.end)))
     c.mark_all-count.ensures
 
 pub returns : goal.returns
@@ -52,4 +39,12 @@ slice_bounds-mark_all-end c =
     let s = c.args.self.now in
     let next : c.from-v.result < s.nodes.records.n =
     rw c.from-v.ensures (walk_below s.nodes.records.n c.requires.1.ids c.requires.0 c.loop-done.invariant c.loop-done.done c.loop-done-test.true) in
-    omega (arith, c.requires.1.within c.from-v.result next, c.from.ensures, c.from-start.ensures)
+    omega (arith, c.requires.1.within c.from-v.result next, c.list_ends-start.ensures.start, c.list_ends-start.ensures.end)
+
+pub offset_bounds-self-start : goal.offset_bounds-self-start
+offset_bounds-self-start c =
+    let s = c.args.self.now in
+    let next : c.from-v.result < s.nodes.records.n =
+    rw c.from-v.ensures (walk_below s.nodes.records.n c.requires.1.ids c.requires.0 c.loop-done.invariant c.loop-done.done c.loop-done-test.true) in
+    let known : length s.edges.now * 2 ≤ 9223372036854775807 = search rules in
+    omega (arith, c.requires.1.within c.from-v.result next, c.list_ends-start.ensures.start, known)

@@ -3,4 +3,4 @@ use Rattle.passes.specs.FrameStackLaws.{newest_is}
 use Rattle.wiring.proofs.stacks.FrameStack.newest.Goals as goal
 
 pub returns : goal.returns
-returns c = newest_is c.args.self.now.words c.args.i c.highest.result c.requires.i_bound c.requires.holds_below c.highest.ensures
+returns c = newest_is c.args.self.now.words c.args.i _ c.requires.i_bound c.requires.holds_below c.highest.ensures

@@ -1,0 +1,14 @@
+// The tables that questions are answered from, whoever wrote them.
+
+// Kept: no `FrameTables` among them; tried, and the borrow checker does not cover that one filled from tables of their own lifetimes.
+#[derive(Clone, Copy)]
+pub struct QuestionTables<'a> {
+    pub counts: &'a [u32; 6],
+    pub stmts: &'a [u16],
+    pub args: &'a [u64],
+    pub entries: &'a [u16],
+    pub falls: &'a [u16],
+    pub lists: &'a [u16],
+    pub succ: &'a [u16],
+    pub pred: &'a [u16],
+}
