@@ -20,6 +20,7 @@ LIBRARY = "crates/flowgraph/src"
 CHECK = "crates/flowgraph/src/check.rt"
 PROGRAM_LINES = "crates/basic/src/lines.rt"
 DECISIONS, ROOM, SIZES = "docs/DECISIONS.md", "crates/wiring/src/room.rt", "crates/at_limits/src/list.rt"
+LENT = "crates/at_limits/src/lent.rt"
 COLUMNS, LIMIT_CONSTANTS, OPENING = "crates/layout/src/columns.rt", "crates/layout/src/limits.rt", "crates/tokens/src/words.rt"
 LIMITS = {"MAX_BYTES": "MAX_BYTES", "MAX_LINES": "MAX_LINES", "MAX_STATEMENTS": "MAX_STMTS", "MAX_EDGES": "MAX_EDGES", "MAX_DEPTH": "MAX_DEPTH"}
 TABLES = ["lines", "stmts", "args", "entries", "falls", "links", "lists", "returns", "succ", "pred"]
@@ -162,7 +163,7 @@ def page_size(files):
 
 
 def opening_words(files):
-    table = re.search(r"static WORDS: .*? = \[(.*?)\];", files[OPENING], flags=re.S)[1]
+    table = re.search(r"static FORMS: .*? = \[(.*?)\];", files[OPENING], flags=re.S)[1]
     return re.findall(r'b"(\w+)"', table)
 
 
@@ -223,17 +224,17 @@ def compare_constants(files, say):
 def compare_tables(files, say):
     """The layout in words, in the code and in the program that lends tables at all limits."""
     decided, room = decided_tables(files), entries_by_room(files)
-    lent = {table: f"[{zero}; {value(files, n)}]" for table, zero, n in re.findall(r"let mut (\w+) = \[(0u\d+); (\w+)\];", files[SIZES])}
+    lent = {table: f"[{kind}; {value(files, n)}]" for table, kind, n in re.findall(r"pub (\w+): \[(u\d+); (\w+)\],", files[LENT])}
     found = header_constants(files[HEADER])
     for table in TABLES:
         entries, kind = decided[table]
         if room.get(table) != entries:
             say(f"{DECISIONS}: {table} has {entries} entries, {room.get(table)} in {ROOM}")
-        size = f"[0{kind}; {found.get(table.upper() + '_SIZE')}]"
+        size = f"[{kind}; {found.get(table.upper() + '_SIZE')}]"
         if lent.get(table) != size:
-            say(f"{SIZES}: {table} is {lent.get(table)}, {size} by {HEADER}")
-    if lent.get("counts") != f"[0{decided['counts'][1]}; {found.get('COUNTS')}]":
-        say(f"{SIZES}: counts are {lent.get('counts')}")
+            say(f"{LENT}: {table} is {lent.get(table)}, {size} by {HEADER}")
+    if lent.get("counts") != f"[{decided['counts'][1]}; {found.get('COUNTS')}]":
+        say(f"{LENT}: counts are {lent.get('counts')}")
     pages = {dict(params)["page"] for _, params in rattle_calls(files).values() if "page" in dict(params)}
     if pages != {f"uint8_t [{found.get('PAGE_SIZE')}]"}:
         say(f"{LIBRARY}: a lent page is {pages}, of {found.get('PAGE_SIZE')} bytes by {HEADER}")
@@ -305,10 +306,10 @@ DAMAGE = [
     (PROGRAM_LINES, r"Reason::ForeignByte\.", "Reason::Lacking."),
     (WORDS, r'    For "for",\n    Next "next",', '    Next "next",\n    For "for",'),
     (ROOM, r"falls / FALL_ENTRIES", "falls / LIST_ENTRIES"),
-    (SIZES, r"\[0u16; FALLS_LENGTH\]", "[0u16; LISTS_LENGTH]"),
+    (LENT, r"\[u16; FALLS_LENGTH\]", "[u16; LISTS_LENGTH]"),
     (SIZES, r"out: &mut \[u8; 1048576\]", "out: &mut [u8; 1048577]"),
     (DECISIONS, r"\| `lists` \| 4 a", "| `lists` | 5 a"),
-    (OPENING, r'b"if", b"ifelse"', 'b"ig", b"ifelse"'),
+    (OPENING, r'\(b"if", Kind', '(b"ig", Kind'),
     (COLUMNS, r"const INDEX: usize = 3", "const INDEX: usize = 4"),
     (COLUMNS, r"const ENTRY_NODE: usize = 1", "const ENTRY_NODE: usize = 0"),
     (COLUMNS, r"const ENTRY_ENTRIES: usize = 2", "const ENTRY_ENTRIES: usize = 3"),
