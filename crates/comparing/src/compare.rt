@@ -163,7 +163,7 @@ fn feed_more<'a>(s: Comparing, due: &[u8], piece: &'a [u8]) -> Fed<'a>
 }
 
 // One piece more of the graph given.
-// Kept: `while`, since a turn takes one byte or many rows: no iterator gives such steps.
+// Kept: `while`, since a turn takes one byte or many rows: an iterator of such steps would be no plainer.
 pub fn feed(s: Comparing, due: &[u8], piece: &[u8]) -> Comparing
     ensures { standing_of result ≡ fed due.now (standing_of s) piece.now }
 {

@@ -39,6 +39,14 @@ impl<'a> NodeList<'a> {
         NodeList { part, n: 0 }
     }
 
+    // The first n entries of a part.
+    pub fn with(part: &'a mut [u16], n: usize) -> NodeList<'a>
+        ensures same_reference { result.part.ghost_name ≡ part.entry.ghost_name }
+        ensures begun { (result.part.now ≡ part.old) × (result.n ≡ n) }
+    {
+        NodeList { part, n }
+    }
+
     // How many nodes it has.
     pub fn len(&self) -> usize
         ensures { result ≡ self.now.n }
