@@ -13,7 +13,6 @@ pub mod Limits
 pub mod CameBefore
 pub mod FrameWords
 pub mod Places
-pub mod LineRows
 pub mod NotedFors
 pub mod BuiltAnswer
 pub mod OnLists

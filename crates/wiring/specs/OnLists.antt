@@ -1,6 +1,5 @@
 -- What is said of a part and how full it is, of the list of nodes that holds both. Assumes nothing.
-use Rattle.std.specs.Prelude.{ℕ, zero, suc, ◌*◌, ◌<◌, refl, Bool, List, length, get_or}
-use Rattle.std.proofs.Common.{sub-one}
+use Rattle.std.specs.Prelude.{ℕ, zero, suc, ◌*◌, ◌<◌, Bool, List, length, get_or}
 use Rattle.listings.specs.Every.{All, all[]}
 use Rattle.graph_laws.specs.Adding.{Added}
 use Rattle.passes.specs.Closing.{FitsPart, fall_by, fall_from, FallFitsFrom, ElsesAdded, DoifAdded, closer_from, ClosingAdded}

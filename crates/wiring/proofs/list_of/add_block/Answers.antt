@@ -1,5 +1,5 @@
 -- `add_block`: by the word. Assumes nothing.
-use Rattle.std.proofs.Common.{rules, sym, ◌∙◌, arith}
+use Rattle.std.proofs.Common.{rules, sym, ◌∙◌}
 use Rattle.passes.specs.AddRoom.{room_as}
 use Rattle.passes.specs.NodeListLaws.{block_endloop, block_until, block_falls, block_stops, body_room}
 use Rattle.storing.specs.NodeLists.{grew_as, grew_none, grew_link, grew_within}

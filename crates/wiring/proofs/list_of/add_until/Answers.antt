@@ -1,5 +1,5 @@
 -- `add_until`: nothing, or the body and then where it falls. Assumes nothing.
-use Rattle.std.proofs.Common.{sym, ◌∙◌, arith}
+use Rattle.std.proofs.Common.{sym, ◌∙◌}
 use Rattle.passes.specs.AddRoom.{room_first, room_next, room_as}
 use Rattle.passes.specs.NodeListLaws.{until_none, until_parts, body_room}
 use Rattle.storing.specs.NodeLists.{grew_as, grew_none, grew_both, grew_link, grew_within}

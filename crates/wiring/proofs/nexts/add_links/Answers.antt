@@ -1,5 +1,4 @@
 -- `add_links`: the bodies of the first k links are added. Assumes nothing.
-use Rattle.std.proofs.Common.{arith}
 use Rattle.passes.specs.NextBodies.{link_body, link_room}
 use Rattle.storing.specs.NodeLists.{grew_start, grew_on, grew_end, grew_link}
 use Rattle.wiring.proofs.nexts.add_links.Goals as goal
