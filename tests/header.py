@@ -169,7 +169,7 @@ def opening_words(files):
 
 def given_refusals(files):
     """The numbers of the reasons that the sources give."""
-    numbers = {name: int(n) for name, n in re.findall(r"\bReason::(\w+) => (\d+),", files[REASONS])}
+    numbers = {name: int(n) for name, n in re.findall(r"^    (\w+) = (\d+),", files[REASONS], flags=re.M)}
     given = set()
     for crate in CRATES:
         for _, text in files.sources(f"crates/{crate}/src"):
@@ -301,8 +301,8 @@ DAMAGE = [
     (RUST, r"page: \*mut \[u8; 1048576\]", "page: *mut [u8; 1048575]"),
     (CHECK, r"page: &mut \[u8; 1048576\]", "page: &mut [u8; 1048577]"),
     (CHECK, r"    graph: &\[u8\],\n", ""),
-    (REASONS, r"Reason::WrongRow => 32,", "Reason::WrongRow => 36,"),
-    (REASONS, r"Reason::EndsEarly => 33,", "Reason::EndsEarly => 36,"),
+    (REASONS, r"WrongRow = 32,", "WrongRow = 36,"),
+    (REASONS, r"EndsEarly = 33,", "EndsEarly = 36,"),
     (PROGRAM_LINES, r"Reason::ForeignByte\.", "Reason::Lacking."),
     (WORDS, r'    For "for",\n    Next "next",', '    Next "next",\n    For "for",'),
     (ROOM, r"falls / FALL_ENTRIES", "falls / LIST_ENTRIES"),

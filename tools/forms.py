@@ -3,6 +3,7 @@
 
 usage: forms.py [ROOT]            one row for each point: how many places, and how many of them have a reason beside them
        forms.py [ROOT] POINT..    each place of these points, with file and line (POINT: 1a, 1b, .. 7b)
+       forms.py [ROOT] kept       each reason, as a row of a table: its file, the item that it stands at, the reason's words
 
 A place is kept where the comment above its item, or above its line, holds the word `Kept:`, which a reason follows; for constants the comment at the head
 of their file says it for all, and for calls of a conversion the comment above the conversion.
@@ -104,7 +105,12 @@ def places(root):
         src = os.path.join("crates", folder, "src")
         for name in sorted(os.listdir(os.path.join(root, src))):
             items += items_of(root, os.path.join(src, name))
-    casts = {i.name: i.kept for i in items if i.kind == "fn" and CAST.search(body(i.text))}
+    # the `from` of an `impl From`, and an enum's own number, are the forms that are wanted
+    casts = {
+        i.name: i.kept
+        for i in items
+        if i.kind == "fn" and i.name != "from" and CAST.search(body(i.text)) and not re.search(r"\bself as ", body(i.text))
+    }
     shapes = defaultdict(list)
 
     def put(point, item, line=None, kept=False):
@@ -125,7 +131,7 @@ def places(root):
             continue
         if re.search(r"-> u8\b", text) and re.search(r"refusal|no_statement|row_number|offence", item.name):
             put("1c", item)
-        if CAST.search(code):
+        if item.name in casts:
             put("4a", item)
         else:
             for name, kept in casts.items():
@@ -151,7 +157,9 @@ def places(root):
                 line = item.line + text[:m.start()].count("\n")
                 above = text[:m.start()].rstrip("\n").rsplit("\n", 1)[-1]
                 put("3", item, line, "Kept:" in above)
-        shapes[shape(item)].append(item)
+        # an enum's own number is one line, of one shape for each enum
+        if not re.search(r"\bself as ", code):
+            shapes[shape(item)].append(item)
     for group in shapes.values():
         if len(group) > 1 and len(body(group[0].text).split("\n")) > 2:
             for item in group:
@@ -159,9 +167,35 @@ def places(root):
     return out
 
 
+def reasons(root):
+    """Each comment's part behind the word `Kept:`, with its file and the item at which it stands."""
+    for folder in sorted(os.listdir(os.path.join(root, "crates"))):
+        src = os.path.join("crates", folder, "src")
+        for name in sorted(os.listdir(os.path.join(root, src))):
+            lines = open(os.path.join(root, src, name), encoding="utf-8").read().split("\n")
+            last = "the file"
+            for i, row in enumerate(lines):
+                if m := re.match(r"\s*(?:pub(?:\([a-z]+\))? )?(?:extern \"C\" )?(?:fn|enum|struct|const|static|trait|mod) (\w+)", row):
+                    last = m[1]
+                if "Kept:" not in row:
+                    continue
+                words, j = [row.split("Kept:", 1)[1].strip()], i + 1
+                while j < len(lines) and re.match(r"\s*//", lines[j]) and "Kept:" not in lines[j]:
+                    words.append(lines[j].strip().lstrip("/").strip())
+                    j += 1
+                while j < len(lines) and re.match(r"\s*(//|#)", lines[j]):
+                    j += 1
+                ahead = ITEM.match(lines[j]) if j < len(lines) else None
+                yield f"{folder}/src/{name}", ahead[2] if ahead else last, " ".join(words)
+
+
 def main():
     args = sys.argv[1:]
     root = args.pop(0) if args and os.path.isdir(args[0]) else os.path.join(os.path.dirname(os.path.abspath(__file__)), "..")
+    if args == ["kept"]:
+        for path, item, words in reasons(root):
+            print(f"| `{path}` | `{item}` | {words} |")
+        return
     found = places(root)
     for point, words in POINTS.items():
         rows = found[point]

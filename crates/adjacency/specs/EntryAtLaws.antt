@@ -1,12 +1,16 @@
 -- Laws of the question for a line's entry, as code answers it. Assumes nothing.
-use Rattle.std.specs.Prelude.{ℕ, zero, suc, ◌+◌, ◌-◌, ◌*◌, ◌<◌, ◌≤◌, ◌≡◌, List, [], ◌∷◌, length, get_or}
+use Rattle.std.specs.Prelude.{ℕ, zero, suc, ◌+◌, ◌-◌, ◌*◌, ◌/◌, ◌<◌, ◌≤◌, ◌≡◌, List, [], ◌∷◌, Bool, true, false, cond, eqb, length, get_or, take, drop}
 use Rattle.std.specs.Prelude as std
 use Rattle.std.specs.Option.{SomeIff}
+use Rattle.std.specs.List.{find}
+use Rattle.std.specs.Simd.{first_chunks}
 use Rattle.std.proofs.Math.Path.{refl, sym, ap}
-use Rattle.std.proofs.Common.{◌∙◌, arith}
-use Rattle.std.proofs.Math.Option.{none, some}
-use Rattle.std.proofs.Math.Decide.{ℕ_discrete}
+use Rattle.std.proofs.Common.{◌∙◌, arith, add-one}
+use Rattle.std.proofs.lemmas.List.{drop_all}
+use Rattle.std.proofs.Math.Seq.{drop-cons}
+use Rattle.std.proofs.Math.Option.{Option, none, some}
 use borrow.Author.Tests.{lt-ltb, le-ltb, le-leb, lt-leb, eq-eqb, ne_eqb}
+use Rattle.listings.specs.Bytes.{pick}
 use Rattle.graph.specs.Nodes.{entry_in}
 use Rattle.tables.specs.Columns.{entry_node}
 use Rattle.tables.specs.EntryRows.{entries_in}
@@ -15,39 +19,45 @@ use Rattle.adjacency.specs.EntryAt.{node_in, entry_at, node_of}
 
 -- ---- the search, from the front
 
--- none of the first i rows has the number
-abbrev pub NotBefore : (entries : List ℕ) (number i : ℕ) → Type 0
-NotBefore entries number i = (j : ℕ) → j < i → get_or entries (j * 2 + 0) 0 ≡ number → ⊥
+-- the number of a row, and the entry of a row or none
+abbrev pub row_number : List ℕ → ℕ
+row_number row = get_or row 0 0
 
-pub not_next : (entries : List ℕ) (number i : ℕ) → (get_or entries (i * 2 + 0) 0 ≡ number → ⊥) → NotBefore entries number i → NotBefore entries number (i + 1)
-not_next entries number i ne h j l e = elim (ℕ_discrete j i) [ yes q ↦ ne (ap (λ (k : ℕ). get_or entries (k * 2 + 0) 0) (sym q) ∙ e) | no nq ↦ h j (omega arith) e ]
+abbrev pub row_entry : std.Option (List ℕ) → Option ℕ
+row_entry std.None = none
+row_entry (std.Some row) = entry_node (get_or row 1 0)
 
--- row i + 1 is row i of what stands behind the first row
-next_row : (m d : ℕ) (t : List ℕ) (i c : ℕ) → get_or (m ∷ d ∷ t) (suc i * 2 + c) 0 ≡ get_or t (i * 2 + c) 0
-next_row m d t i c = let z : suc i * 2 + c ≡ suc (suc (i * 2 + c)) = omega arith in rw z
-
-behind : (m d : ℕ) (t : List ℕ) (number i : ℕ) → NotBefore (m ∷ d ∷ t) number (suc i) → NotBefore t number i
-behind m d t number i f j l e = f (suc j) (omega arith) (next_row m d t j 0 ∙ e)
-
--- the first row with the number has its entry
-pub first_found : (n : ℕ) (entries : List ℕ) (number i : ℕ) → n * 2 ≤ length entries → i < n → get_or entries (i * 2 + 0) 0 ≡ number → NotBefore entries number i
-    → entry_node (get_or entries (i * 2 + 1) 0) ≡ entry_in (entries_in n entries) number
+-- the first of the first n rows of two entries that has the number
+first_row : (n k : ℕ) (entries : List ℕ) (number : ℕ) → n ≤ k → n * 2 ≤ length entries
+    → row_entry (find (λ row. eqb (row_number row) number) (take n (first_chunks 2 k entries))) ≡ entry_in (entries_in n entries) number
 unfolding entries_in entry_in
-first_found zero entries number i b h e f = absurd (omega arith)
-first_found (suc n) [] number i b h e f = absurd (omega arith)
-first_found (suc n) (m ∷ []) number i b h e f = absurd (omega arith)
-first_found (suc n) (m ∷ d ∷ t) number zero b h e f = rw (eq-eqb m number e) refl
-first_found (suc n) (m ∷ d ∷ t) number (suc i) b h e f =
-    rw (ne_eqb m number (f 0 (omega arith)), next_row m d t i 1) (first_found n t number i (omega arith) (omega arith) (sym (next_row m d t i 0) ∙ e) (behind m d t number i f))
+first_row zero k entries number h b = refl
+first_row (suc n) zero entries number h b = absurd (omega arith)
+first_row (suc n) (suc k) [] number h b = absurd (omega arith)
+first_row (suc n) (suc k) (m ∷ []) number h b = absurd (omega arith)
+first_row (suc n) (suc k) (m ∷ d ∷ t) number h b = go (eqb m number) (first_row n k t number (omega arith) (omega arith))
+  where
+    go : (x : Bool) → row_entry (find (λ row. eqb (row_number row) number) (take n (first_chunks 2 k t))) ≡ entry_in (entries_in n t) number
+        → row_entry (cond x (std.Some (m ∷ d ∷ [])) (find (λ row. eqb (row_number row) number) (take n (first_chunks 2 k t)))) ≡ pick x (entry_node d) (entry_in (entries_in n t) number)
+    go true e = refl
+    go false e = e
 
-pub none_found : (n : ℕ) (entries : List ℕ) (number i : ℕ) → n ≤ i → NotBefore entries number i → none ≡ entry_in (entries_in n entries) number
-unfolding entries_in entry_in
-none_found zero entries number i h f = refl
-none_found (suc n) [] number i h f = refl
-none_found (suc n) (m ∷ []) number i h f = refl
-none_found (suc n) (m ∷ d ∷ t) number zero h f = absurd (omega arith)
-none_found (suc n) (m ∷ d ∷ t) number (suc i) h f =
-    rw (ne_eqb m number (f 0 (omega arith))) (none_found n t number i (omega arith) (behind m d t number i f))
+-- the code goes from row to row: the first among those from row i on is the first of all
+abbrev pub FirstFrom : (n number : ℕ) (entries : List ℕ) (xs : List (List ℕ)) (i : ℕ) → Type 0
+FirstFrom n number entries xs i = row_entry (find (λ row. eqb (row_number row) number) (drop i xs)) ≡ entry_in (entries_in n entries) number
+
+pub from_first : (n number : ℕ) (entries : List ℕ) (xs : List (List ℕ)) → n * 2 ≤ length entries → xs ≡ take n (first_chunks 2 (length entries / 2) entries) → FirstFrom n number entries xs 0
+from_first n number entries xs b z = ap (λ (l : List (List ℕ)). row_entry (find (λ row. eqb (row_number row) number) l)) z ∙ first_row n (length entries / 2) entries number (omega arith) b
+
+module _ (n number : ℕ) (entries : List ℕ) (xs : List (List ℕ)) (i : ℕ) (f : FirstFrom n number entries xs i) where
+  pub row_found : i < length xs → row_number (get_or xs i []) ≡ number → entry_node (get_or (get_or xs i []) 1 0) ≡ entry_in (entries_in n entries) number
+  row_found h e = rw (drop-cons xs i [], eq-eqb (row_number (get_or xs i [])) number e) at f
+
+  pub row_passed : i < length xs → (row_number (get_or xs i []) ≡ number → ⊥) → FirstFrom n number entries xs (i + 1)
+  row_passed h e = rw add-one (rw (drop-cons xs i [], ne_eqb (row_number (get_or xs i [])) number e) at f)
+
+  pub none_found : length xs ≤ i → none ≡ entry_in (entries_in n entries) number
+  none_found h = rw (drop_all i xs h) at f
 
 -- a row's entry is one more than its node, or 0
 pub entry_less : (e : ℕ) (r : std.Option ℕ) → SomeIff r (1 ≤ e) (e - 1) → node_of r ≡ entry_node e

@@ -1,17 +1,17 @@
 -- The loops over a text's rows: where the questions begin, and their answers. Assumes nothing.
 use Prim.Native.Nat.{ℕ, zero, suc, ◌+◌, ◌-◌, ◌≤◌, ◌<◌}
 use Rattle.std.specs.Prelude.{◌≡◌, Bool, true, false, eqb, take, drop}
+use Rattle.std.specs.Prelude as std
+use Rattle.std.specs.Borrow.{Bor}
 use Rattle.std.proofs.Math.Path.{refl, sym, ap}
-use Rattle.std.proofs.Common.{◌∙◌, subst, not-suc-le-zero, add-one, take-append-drop, take_all, length-take-le, eqb-true}
+use Rattle.std.proofs.Common.{◌∙◌, subst, not-suc-le-zero, add-one, take-append-drop, take_all, eqb-true}
 use mathlib.Core.List.{List, [], ◌∷◌, ◌++◌, append_assoc, append-nil}
 use Rattle.std.proofs.Math.Option.{Option, none, some}
 use native.Mathlib.Omega.{arith}
-use Rattle.std.proofs.Math.ListN.{length, length-drop, length-take}
-use Rattle.std.proofs.lemmas.Bool.{eqb-false}
+use Rattle.std.proofs.Math.ListN.{length, length-drop}
 use Rattle.listings.specs.Bytes.{bytes, same, pick}
 use Rattle.listings.specs.Rows.{split, on_first}
-use Rattle.listing_laws.specs.WordText.{same_equal}
-use Rattle.listings.specs.Scan.{index_of, index_le, split-some, rest_all, piece_at, next_last, next_more}
+use Rattle.listings.specs.Scan.{index_of, split-some, rest_all, piece_at, next_last, next_more}
 use Rattle.graph.specs.Print.{printed_refusal}
 use Rattle.formatting.specs.Pages.{Wrote, wrote_none, wrote_both, wrote_is}
 use Rattle.formatting.specs.declared.page.Page.{Page}
@@ -62,29 +62,26 @@ parts_last w = refl
 pub record Cutting (text : List ℕ) (at : ℕ) : Type 0 where
   pub passed : parts (split 10 text) ≡ (take at text ++ (parts (split 10 (drop at text))).0, (parts (split 10 (drop at text))).1)
 
--- n bytes stand before the row `(questions`, or there is none
-pub record CutAt (text : List ℕ) (n : ℕ) : Type 0 where
-  pub fits : n ≤ length text
-  pub listing : (parts (split 10 text)).0 ≡ take n text
-  pub alone : n ≡ length text → (parts (split 10 text)).1 ≡ none
-  pub asks : n < length text → (n + 11 ≤ length text) × ((parts (split 10 text)).1 ≡ some (split 10 (drop (n + 11) text)))
+-- a text as its listing and the bytes behind the row `(questions`, if there is one
+abbrev pub TextSplit : (text listing : List ℕ) → std.Option (Bor (List ℕ)) → Type 0
+TextSplit text listing std.None = parts (split 10 text) ≡ (listing, none)
+TextSplit text listing (std.Some rows) = parts (split 10 text) ≡ (listing, some (split 10 rows.now))
+
+pub split_listing : (text listing : List ℕ) (rows : std.Option (Bor (List ℕ))) → TextSplit text listing rows → (parts (split 10 text)).0 ≡ listing
+split_listing text listing std.None e = ap (λ (d : List ℕ × Option (List (List ℕ))). d.0) e
+split_listing text listing (std.Some rows) e = ap (λ (d : List ℕ × Option (List (List ℕ))). d.0) e
 
 pub cutting_start : (text : List ℕ) → Cutting text 0
 cutting_start text = record { passed = refl }
 
 module _ (text : List ℕ) (at e : ℕ) (fits : at ≤ length text) (found : e ≡ index_of 10 (take (length text - at) (drop at text))) (g : Cutting text at) where
-  pub cut_alone : at + e ≡ length text → CutAt text (length text)
+  pub cut_alone : at + e ≡ length text → parts (split 10 text) ≡ (text, none)
   cut_alone h =
       let w = piece_at text at e in
       let q : parts (split 10 (drop at text)) ≡ (w, none) = ap parts (next_last 10 text at e fits found h) ∙ parts_last w in
       let t : w ≡ drop at text = take_all (at + e - at) (drop at text) (omega (arith, length-drop at text)) in
       let p : parts (split 10 text) ≡ (take at text ++ w, none) = g.passed ∙ ap (prefixed (take at text)) q in
-      record {
-        fits = omega arith;
-        listing = ap (λ (d : List ℕ × Option (List (List ℕ))). d.0) p ∙ ap (λ (z : List ℕ). take at text ++ z) t ∙ take-append-drop at text ∙ sym (take_all (length text) text (omega arith));
-        alone = λ z. ap (λ (d : List ℕ × Option (List (List ℕ))). d.1) p;
-        asks = λ z. absurd (omega arith);
-      }
+      p ∙ ap (λ (z : List ℕ). (z, none)) (ap (λ (z : List ℕ). take at text ++ z) t ∙ take-append-drop at text)
 
   module _ (more : at + e ≡ length text → ⊥) (le : e ≤ length (take (length text - at) (drop at text))) where
     pieces : split 10 (drop at text) ≡ piece_at text at e ∷ split 10 (drop (at + e + 1) text)
@@ -93,22 +90,12 @@ module _ (text : List ℕ) (at e : ℕ) (fits : at ≤ length text) (found : e �
     inside : at + e < length text
     inside = (next_more 10 text at e fits found more le).0
 
-    pub cut_here : same (piece_at text at e) (bytes "(questions") ≡ true → CutAt text at
-    unfolding bytes
+    pub cut_here : same (piece_at text at e) (bytes "(questions") ≡ true → parts (split 10 text) ≡ (take at text, some (split 10 (take (length text - (at + e + 1)) (drop (at + e + 1) text))))
     cut_here s =
-        let w = piece_at text at e in
         let vs = split 10 (drop (at + e + 1) text) in
-        let n : length w ≡ e = length-take (at + e - at) (drop at text) ∙ omega (arith, length-drop at text, inside) in
-        let m : e ≡ 10 = sym n ∙ ap length (same_equal w (bytes "(questions") s) in
-        let q : parts (split 10 (drop at text)) ≡ ([], some vs) = ap parts pieces ∙ parts-asks w vs (split-some 10 (drop (at + e + 1) text)) s in
+        let q : parts (split 10 (drop at text)) ≡ ([], some vs) = ap parts pieces ∙ parts-asks (piece_at text at e) vs (split-some 10 (drop (at + e + 1) text)) s in
         let p : parts (split 10 text) ≡ (take at text ++ [], some vs) = g.passed ∙ ap (prefixed (take at text)) q in
-        let k : at + e + 1 ≡ at + 11 = omega arith in
-        record {
-          fits = fits;
-          listing = ap (λ (d : List ℕ × Option (List (List ℕ))). d.0) p ∙ append-nil (take at text);
-          alone = λ z. absurd (omega (arith, inside));
-          asks = λ z. (omega (arith, inside), ap (λ (d : List ℕ × Option (List (List ℕ))). d.1) p ∙ ap (λ (j : ℕ). some (split 10 (drop j text))) k);
-        }
+        p ∙ ap (λ (z : List ℕ). (z, some vs)) (append-nil (take at text)) ∙ ap (λ (z : List ℕ). (take at text, some (split 10 z))) (sym (rest_all text (at + e + 1)))
 
     pub cut_next : same (piece_at text at e) (bytes "(questions") ≡ false → Cutting text (at + e + 1)
     cut_next s =
@@ -126,37 +113,6 @@ module _ (text : List ℕ) (at e : ℕ) (fits : at ≤ length text) (found : e �
           passed = g.passed ∙ ap (prefixed (take at text)) q
               ∙ ap (λ (z : List ℕ). (z, (parts vs).1)) (sym (append_assoc (take at text) (w ++ (10 ∷ [])) (parts vs).0) ∙ ap (λ (z : List ℕ). z ++ (parts vs).0) b);
         }
-
-pub cut_length : (text : List ℕ) (n : ℕ) → CutAt text n → n ≡ length (parts (split 10 text)).0
-cut_length text n c = sym (ap length c.listing ∙ length-take-le n text c.fits)
-
--- one row more
-cut_row : (k : ℕ) (text : List ℕ) (at : ℕ) → at ≤ length text → length text - at ≤ k → Cutting text at
-    → ((next : ℕ) → next ≤ length text → length text - next < k → Cutting text next → (n : ℕ) × CutAt text n) → (n : ℕ) × CutAt text n
-cut_row k text at h m g rest = last (eqb (at + e) (length text)) refl
-  where
-    e : ℕ
-    e = index_of 10 (take (length text - at) (drop at text))
-
-    le : e ≤ length (take (length text - at) (drop at text))
-    le = index_le 10 (take (length text - at) (drop at text))
-
-    here : (at + e ≡ length text → ⊥) → (t : Bool) → same (piece_at text at e) (bytes "(questions") ≡ t → (n : ℕ) × CutAt text n
-    here q true s = (at, cut_here text at e h refl g q le s)
-    here q false s =
-        let i : at + e < length text = (next_more 10 text at e h refl q le).0 in
-        rest (at + e + 1) (omega arith) (omega arith) (cut_next text at e h refl g q le s)
-
-    last : (t : Bool) → eqb (at + e) (length text) ≡ t → (n : ℕ) × CutAt text n
-    last true q = (length text, cut_alone text at e h refl g (eqb-true (at + e) (length text) q))
-    last false q = here (eqb-false (at + e) (length text) q) (same (piece_at text at e) (bytes "(questions")) refl
-
-cut_from_lem : (k : ℕ) (text : List ℕ) (at : ℕ) → at ≤ length text → length text - at < k → Cutting text at → (n : ℕ) × CutAt text n
-cut_from_lem zero text at h m g = absurd (omega arith)
-cut_from_lem (suc k) text at h m g = cut_row k text at h (omega arith) g (λ n i j c. cut_from_lem k text n i j c)
-
-pub cut_is : (text : List ℕ) (n : ℕ) → n ≡ length (parts (split 10 text)).0 → CutAt text n
-cut_is text n e = let d = cut_from_lem (suc (length text)) text 0 (omega arith) (omega arith) (cutting_start text) in subst (CutAt text) (cut_length text d.0 d.1 ∙ sym e) d.1
 
 -- ---- the answers
 

@@ -9,7 +9,7 @@ ghost use Rattle.answers.specs.AnswersAt.{path_answer, frame_answer, answer_of, 
 ghost use Rattle.answers.specs.QuestionWords.{form_at, number_question};
 
 use crate::asked::QuestionTables;
-use crate::print::{put_entry, put_list_row, put_part, put_stmt};
+use crate::print::{put_entry, put_list_row, put_stmt};
 use crate::words::{ByNumber, Form, FrameWords, frame_words, open_row};
 use formatting::page::Page;
 use frame_lists::frame::FrameTables;
@@ -36,11 +36,11 @@ fn put_by_number(
     match word {
         ByNumber::Successors => {
             let (start, len) = ask_successors(g.counts, g.lists, g.succ, node)?;
-            put_part(page, b"(successors", g.succ, start, len);
+            put_list_row(page, b"(successors", &g.succ[start..start + len]);
         }
         ByNumber::Predecessors => {
             let (start, len) = ask_predecessors(g.counts, g.lists, g.pred, node)?;
-            put_part(page, b"(predecessors", g.pred, start, len);
+            put_list_row(page, b"(predecessors", &g.pred[start..start + len]);
         }
         ByNumber::Statement => {
             let (node, word) = stmt_at(g.counts, g.stmts, node)?;

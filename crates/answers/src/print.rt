@@ -1,5 +1,5 @@
 // The rows of answers, put on a page.
-ghost use Rattle.std.specs.Prelude.{◌+◌, ◌≤◌, [], length, get_or, take, drop};
+ghost use Rattle.std.specs.Prelude.{[], get_or};
 ghost use Rattle.listings.specs.WordTable.{words};
 ghost use Rattle.formatting.specs.Pages.{Wrote};
 ghost use Rattle.answers.specs.Flowask.{list_row, stmt_row};
@@ -8,20 +8,14 @@ ghost use Rattle.answers.specs.AnswersAt.{entry_row};
 use formatting::page::Page;
 
 // A word, each number after a space, and the end of the row.
+// Kept: by `Page`'s pieces, as `put_returns` of `printing`: a method of `Page` would have these two callers,
+// each with a text of its own for its row, and save four lines.
 pub(crate) fn put_list_row(page: &mut Page<'_>, word: &[u8], list: &[u16])
     ensures { Wrote page.old page.new (list_row word.now list.now) }
 {
     page.put_bytes(word);
     page.put_spaced(list);
     page.put_bytes(b")\n");
-}
-
-// So many entries of an edge table, from `start` on, as such a row.
-pub(crate) fn put_part(page: &mut Page<'_>, word: &[u8], table: &[u16], start: usize, len: usize)
-    requires { start + len ≤ length table.now }
-    ensures { Wrote page.old page.new (list_row word.now (take len (drop start table.now))) }
-{
-    put_list_row(page, word, &table[start..start + len]);
 }
 
 // A statement: its node and its word.

@@ -1,5 +1,7 @@
 -- A text asked: what `ask_text` promises, and how it follows from what `build` and the answers promise. Assumes nothing.
-use Rattle.std.specs.Prelude.{ℕ, suc, ◌+◌, ◌-◌, ◌<◌, ◌≡◌, Bool, true, false, ◌&&◌, eqb, length, get_or, take, drop}
+use Rattle.std.specs.Prelude.{ℕ, suc, ◌+◌, ◌-◌, ◌<◌, ◌≡◌, Bool, true, false, ◌&&◌, eqb, length, get_or}
+use Rattle.std.specs.Prelude as std
+use Rattle.std.specs.Borrow.{Bor}
 use Rattle.std.proofs.Math.Path.{refl, ap, subst}
 use Rattle.std.proofs.Common.{sym, ◌∙◌, arith, not-suc-le-zero}
 use mathlib.Core.List.{List, [], ◌∷◌, ◌++◌}
@@ -11,7 +13,6 @@ use Rattle.listings.specs.Rows.{split, opening_words}
 use Rattle.listings.specs.Read.{Outcome, taken}
 use Rattle.listings.specs.Cut.{meant}
 use Rattle.listings.specs.WordTable.{words, first, word_index}
-use Rattle.listings.specs.Scan.{rest_all}
 use Rattle.listing_laws.specs.WordText.{same_equal}
 use Rattle.graph.specs.Nodes.{NodeStmt, Node, nodes}
 use Rattle.graph.specs.NodeWords.{stmt_word, stmt_number}
@@ -19,7 +20,7 @@ use Rattle.graph.specs.Print.{printed_refusal}
 use Rattle.graph.specs.Build.{Built, graph, build}
 use Rattle.passes.specs.TableForms.{Sizes, Tables, tables_of, capacity}
 use Rattle.wiring.specs.GraphTables.{BuildWrote, Answered}
-use Rattle.formatting.specs.Printing.{Puts, puts_none, puts_is}
+use Rattle.formatting.specs.Printing.{Puts, puts_is}
 use Rattle.wiring.specs.BuildAnswers.{text_read, accepted_built, refused_by}
 use Rattle.wiring.specs.BuiltAnswer.{BuiltAnswer}
 use Rattle.wiring.specs.BuiltAnswer as built
@@ -29,12 +30,12 @@ use Rattle.questions.specs.MissionProof.{mission}
 use Rattle.questions.specs.Words.{word_low}
 use Rattle.answers.specs.Flowask.{Question, of_successors, of_predecessors, of_statement, of_entry, of_path, of_frame, stmt_row, reply_row, answer_row, question, outcome_row, row_answer, ending, answer_rows, parts, answers, ask_text}
 use Rattle.answers.specs.AnswersAt.{numbered_row, successors_answer, predecessors_answer, statement_answer, path_answer, entry_answer, frame_answer, answer_at}
-use Rattle.answers.specs.TextLaws.{CutAt}
+use Rattle.answers.specs.TextLaws.{TextSplit, split_listing}
 
--- the questions of a text, answered by f, stand in `out`, as far as that goes
-pub record QuestionsAnswered (text : List ℕ) (f : Question → List ℕ) (out out' : List ℕ) (n : ℕ) : Type 0 where
-  pub alone : (parts (split 10 text)).1 ≡ none → Puts out 0 out' n []
-  pub asks : (ws : List (List ℕ)) → (parts (split 10 text)).1 ≡ some ws → Puts out 0 out' n (answer_rows f 0 ws)
+-- the rows of questions, answered by f, stand in `out`, as far as that goes; nothing where there are none
+abbrev pub QuestionsAnswered : std.Option (Bor (List ℕ)) → (Question → List ℕ) → (out out' : List ℕ) → ℕ → Type 0
+QuestionsAnswered std.None f out out' n = Puts out 0 out' n []
+QuestionsAnswered (std.Some rows) f out out' n = Puts out 0 out' n (answer_rows f 0 (split 10 rows.now))
 
 -- the tables are as `build` leaves them for the listing, and what the definition writes for the text stands in `out`, as far as that goes
 pub record TextAsked (text : List ℕ) (s : Sizes) (c l t a e f k i r u p out out' : List ℕ) (n : ℕ) : Type 0 where
@@ -118,48 +119,35 @@ module _ (f g : Question → List ℕ) (e : (q : Question) → f q ≡ g q) wher
       ap (λ (z : List ℕ). pick (same w (bytes ")")) (ending (suc k) (v ∷ ws)) (z ++ answer_rows f (suc k) (v ∷ ws))) (outcome_same k (question w))
       ∙ ap (λ (z : List ℕ). pick (same w (bytes ")")) (ending (suc k) (v ∷ ws)) (outcome_row g k (question w) ++ z)) (rows_same (suc k) (v ∷ ws))
 
--- ---- the questions of a text
-
-module _ (text : List ℕ) (n : ℕ) (cut : CutAt text n) (f : Question → List ℕ) where
-  pub none-asked : (out : List ℕ) → n ≡ length text → QuestionsAnswered text f out out 0
-  none-asked out h =
-      record { alone = λ q. puts_none out 0; asks = λ ws q. let p = cut.alone h in absurd (let z : ◌≡◌ {A = ℕ} 0 1 = cc in omega arith) }
-
-  pub some-asked : (out out' : List ℕ) (r : ℕ) → (n ≡ length text → ⊥) → Puts out 0 out' r (answer_rows f 0 (split 10 (take (length text - (n + 11)) (drop (n + 11) text)))) → QuestionsAnswered text f out out' r
-  some-asked out out' r h a =
-      let p = (cut.asks (omega (arith, cut.fits))).1 in
-      record {
-        alone = λ q. absurd (let z : ◌≡◌ {A = ℕ} 0 1 = cc in omega arith);
-        asks = λ ws q. let z : split 10 (drop (n + 11) text) ≡ ws = cc in puts_is (ap (λ (l : List ℕ). answer_rows f 0 (split 10 l)) (rest_all text (n + 11)) ∙ ap (answer_rows f 0) z) a;
-      }
-
 -- ---- the whole
 
-module _ (text : List ℕ) (s : Sizes) (n : ℕ) (cut : CutAt text n) (c l t a e f k i r u p : List ℕ) (x : BuiltAnswer)
-    (w : Answered (build (capacity s) (take n text)) s c l t a e f k i r u p x) where
+module _ (text listing : List ℕ) (rows : std.Option (Bor (List ℕ))) (cut : TextSplit text listing rows) (s : Sizes) (c l t a e f k i r u p : List ℕ) (x : BuiltAnswer)
+    (w : Answered (build (capacity s) listing) s c l t a e f k i r u p x) where
   abbrev T : Tables
   T = tables_of c l t a e f k i r u p
 
-  asked_as : (out out' : List ℕ) (j : ℕ) → Puts out 0 out' j (answers (build (capacity s) (take n text)) (parts (split 10 text)).1) → TextAsked text s c l t a e f k i r u p out out' j
+  asked_as : (out out' : List ℕ) (j : ℕ) → Puts out 0 out' j (answers (build (capacity s) listing) (parts (split 10 text)).1) → TextAsked text s c l t a e f k i r u p out out' j
   unfolding ask_text
   asked_as out out' j z =
+      let q = split_listing text listing rows cut in
       record {
         answer = x;
-        built = subst (λ (y : List ℕ). Answered (build (capacity s) y) s c l t a e f k i r u p x) (sym cut.listing) w;
-        asked = puts_is (ap (λ (y : List ℕ). answers (build (capacity s) y) (parts (split 10 text)).1) (sym cut.listing)) z;
+        built = subst (λ (y : List ℕ). Answered (build (capacity s) y) s c l t a e f k i r u p x) (sym q) w;
+        asked = puts_is (ap (λ (y : List ℕ). answers (build (capacity s) y) (parts (split 10 text)).1) (sym q)) z;
       }
 
   pub listing_refused : (out out' : List ℕ) (j number place : ℕ) → x ≡ built.Refused number place → Puts out 0 out' j (printed_refusal number place) → TextAsked text s c l t a e f k i r u p out out' j
   unfolding answers
   listing_refused out out' j number place q z =
-      asked_as out out' j (puts_is (sym (ap (λ (b : Built). answers b (parts (split 10 text)).1) (refused_by (text_read (take n text)) s T x w number place q).1)) z)
+      asked_as out out' j (puts_is (sym (ap (λ (b : Built). answers b (parts (split 10 text)).1) (refused_by (text_read listing) s T x w number place q).1)) z)
 
-  pub questions_asked : (out out' : List ℕ) (j : ℕ) → x ≡ built.Graph → QuestionsAnswered text (answer_at c t a e f i u p) out out' j → TextAsked text s c l t a e f k i r u p out out' j
+  pub questions_asked : (out out' : List ℕ) (j : ℕ) → x ≡ built.Graph → QuestionsAnswered rows (answer_at c t a e f i u p) out out' j → TextAsked text s c l t a e f k i r u p out out' j
   unfolding answers
   questions_asked out out' j q z =
-      let b = build-answers (take n text) s T x w q in
-      asked_as out out' j (puts_is (sym (ap (λ (y : Built). answers y (parts (split 10 text)).1) b.1)) (go b.0 b.2 (parts (split 10 text)).1 refl))
+      let b = build-answers listing s T x w q in
+      asked_as out out' j (puts_is (sym (ap (λ (y : Built). answers y (parts (split 10 text)).1) b.1)) (go b.0 b.2 rows cut z))
     where
-      go : (L : Listing) → ((y : Question) → answer_at c t a e f i u p y ≡ answer_row L y) → (o : Option (List (List ℕ))) → (parts (split 10 text)).1 ≡ o → Puts out 0 out' j (answers (graph L) o)
-      go L h none y = z.alone y
-      go L h (some ws) y = puts_is (rows_same (answer_at c t a e f i u p) (answer_row L) h 0 ws) (z.asks ws y)
+      go : (L : Listing) → ((y : Question) → answer_at c t a e f i u p y ≡ answer_row L y) → (o : std.Option (Bor (List ℕ))) → TextSplit text listing o → QuestionsAnswered o (answer_at c t a e f i u p) out out' j → Puts out 0 out' j (answers (graph L) (parts (split 10 text)).1)
+      go L h std.None y v = puts_is (sym (ap (λ (d : List ℕ × Option (List (List ℕ))). answers (graph L) d.1) y)) v
+      go L h (std.Some rows) y v =
+          puts_is (rows_same (answer_at c t a e f i u p) (answer_row L) h 0 (split 10 rows.now) ∙ sym (ap (λ (d : List ℕ × Option (List (List ℕ))). answers (graph L) d.1) y)) v

@@ -1,31 +1,28 @@
 // A text with a listing and questions: the listing's graph built in the lent tables, and the questions answered.
 ghost use Rattle.passes.specs.TableForms.{sizes_of};
 ghost use Rattle.answers.specs.AnswersAt.{answer_of};
-ghost use Rattle.answers.specs.TextLaws.{CutAt};
 ghost use Rattle.asking.specs.Asked.{QuestionsAnswered, TextAsked};
 
 use answers::asked::QuestionTables;
-use answers::text::{answer_rows, listing_length};
+use answers::text::{answer_rows, split_questions};
 use formatting::page::print_refusal;
 use wiring::build::build;
 
-// The questions behind the first n bytes, if there are any.
-// Kept: the whole text and n, since where the listing ends is known of the text alone.
-fn answer_questions(out: &mut [u8], text: &[u8], n: usize, g: &QuestionTables<'_>) -> usize
-    requires { CutAt text.now n }
-    ensures { QuestionsAnswered text.now (answer_of g.now) out.old out.new result }
+// The rows of questions, if there are any.
+fn answer_questions(out: &mut [u8], rows: Option<&[u8]>, g: &QuestionTables<'_>) -> usize
+    ensures { QuestionsAnswered rows.entry (answer_of g.now) out.old out.new result }
 {
-    if n == text.len() {
-        return 0;
+    match rows {
+        Some(rows) => answer_rows(out, rows, g),
+        None => 0,
     }
-    // past the row `(questions` and its byte 10
-    let from = n + 11;
-    answer_rows(out, &text[from..], g)
 }
 
-// Builds the graph of a text's listing in the lent tables and answers its questions, or gives the listing's refusal; answers where the next byte would go (the length of `out` if it did not fit).
+// Builds the graph of a text's listing in the lent tables and answers its questions, or gives the listing's refusal;
+// answers where the next byte would go (the length of `out` if it did not fit).
 // Inlined, so that a program that makes the tables as zeros does not zero them twice.
 // Kept: the C interface lends the tables one by one.
+// Kept: a length, as `answer_rows`.
 #[inline(always)]
 pub fn ask_text(
     text: &[u8],
@@ -44,8 +41,7 @@ pub fn ask_text(
 ) -> usize
     ensures { TextAsked text.now (sizes_of lines.old stmts.old args.old entries.old falls.old links.old lists.old returns.old succ.old pred.old) counts.new lines.new stmts.new args.new entries.new falls.new links.new lists.new returns.new succ.new pred.new out.old out.new result }
 {
-    let n = listing_length(text);
-    let listing = &text[..n];
+    let (listing, rows) = split_questions(text);
     let built = build(
         listing, counts, lines, stmts, args, entries, falls, links, lists, returns, succ, pred,
     );
@@ -62,7 +58,7 @@ pub fn ask_text(
                 succ,
                 pred,
             };
-            answer_questions(out, text, n, &g)
+            answer_questions(out, rows, &g)
         }
     }
 }

@@ -8,6 +8,7 @@ use printing::list::Printed;
 use reader::listing::Input;
 
 // With tables that suffice at all limits, and room for the longest graph.
+// Kept: the tables one by one, as `list_input` takes them, and `flowask` lends them to another routine.
 pub fn list_input(input: Input<'_>, out: &mut [u8; 1048576]) -> Printed
     ensures { InputWhole (is_program input.entry) (bytes_of input.entry) out.old out.new (built_told result.built) result.len }
 {

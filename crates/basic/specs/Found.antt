@@ -1,5 +1,6 @@
 -- What was found in a line, as the code has it and as the definition has it. Assumes nothing.
-use Rattle.std.specs.Prelude.{◌≡◌, List, Result, Ok, Err, IsOkAnd, IsErrAnd, MatchResult}
+use Rattle.std.specs.Option.{ok_or}
+use Rattle.std.specs.Prelude.{◌≡◌, refl, Option, Some, None, List, Result, Ok, Err, IsOkAnd, IsErrAnd, MatchResult}
 use Rattle.std.proofs.Common.{ap}
 use Rattle.program_files.specs.Program as definition
 use Rattle.program_files.specs.Program.{Placed, map_found}
@@ -11,6 +12,15 @@ use Rattle.basic.specs.declared.found.Lack.{Lack}
 abbrev pub found_by : {A : Type 0} → (Cursor → List Placed) → Result (Found A) Lack → definition.Found A
 found_by T (Ok f) = definition.found f.value (T f.next)
 found_by T (Err e) = definition.lacks e.place
+
+-- a value, or an error in its place
+pub ok_or_found : {A E : Type 0} (o : Option A) (e : E) (r : Result A E) (a : A) → r ≡ ok_or o e → r ≡ Ok a → o ≡ Some a
+ok_or_found None e r a h q = absurd cc
+ok_or_found (Some b) e r a h q = cc
+
+pub ok_or_lacks : {A E : Type 0} (o : Option A) (e x : E) (r : Result A E) → r ≡ ok_or o e → r ≡ Err x → (o ≡ None) × (x ≡ e)
+ok_or_lacks None e x r h q = (refl, cc)
+ok_or_lacks (Some b) e x r h q = absurd cc
 
 -- an error that a `?` hands on
 pub handed_err : {A E : Type 0} (r : Result A E) (e : E) → IsErrAnd r (λ (x : E). x ≡ e) → r ≡ Err e

@@ -1,4 +1,5 @@
--- What is found leaves a rest that is not longer, so fuel for each byte is enough: more changes nothing. Assumes nothing.
+-- What is found leaves a rest that is not longer, so fuel for each byte is enough: more changes nothing. Assumes
+-- nothing.
 use Rattle.std.specs.Prelude.{ℕ, zero, suc, ◌≤◌, ◌<◌, ◌≡◌, refl, List, [], ◌∷◌, map, Bool, true, false, ◌&&◌, ◌||◌, not, eqb, length}
 use Rattle.std.proofs.Common.{sym, ◌∙◌, ap, arith}
 use Rattle.std.proofs.Math.Option.{none, some}

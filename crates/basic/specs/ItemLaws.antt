@@ -1,8 +1,7 @@
 -- Lists of numbers and of keys, item by item. Assumes nothing.
-use Rattle.std.specs.Prelude.{ℕ, zero, suc, ◌+◌, ◌-◌, ◌≤◌, ◌<◌, ◌≡◌, refl, List, [], ◌∷◌, map, Bool, true, false, eqb, length, get_or, take, drop}
-use Rattle.std.proofs.Common.{sym, ◌∙◌, ap, arith, not-suc-le-zero, add-one, length-drop, drop-cons}
+use Rattle.std.specs.Prelude.{ℕ, zero, suc, ◌+◌, ◌-◌, ◌≤◌, ◌<◌, ◌≡◌, ◌⊎◌, ◌++◌, refl, List, [], ◌∷◌, map, Bool, true, false, eqb, length, get_or, take, drop}
+use Rattle.std.proofs.Common.{inl, inr, sym, ◌∙◌, ap, arith, not-suc-le-zero, add-one, length-drop, drop-cons}
 use Rattle.std.proofs.Math.ListN.{set}
-use Rattle.std.proofs.Math.Seq.{take-length}
 use borrow.Author.Tests.{ne_eqb, eqb-true}
 use Rattle.std.proofs.lemmas.Bool.{eqb-false}
 use Rattle.listings.specs.Bytes.{pick}
@@ -155,12 +154,6 @@ module _ (vs old part : List ℕ) (i : ℕ) (written : part ≡ put_front (take 
   pub written_next : (v : ℕ) → v ≡ get_or vs i 0 → i < length vs → i < length part → set part i v ≡ put_front (take (i + 1) vs) old
   written_next v e h g = rw (written, e, add-one) (put_next vs old i h (omega arith))
 
-  pub written_full : length part ≤ i → part ≡ put_front (take (i + 1) vs) old
-  written_full g = written ∙ rw add-one (put_full vs old i (omega arith))
-
-  pub written-all : i ≡ length vs → part ≡ put_front vs old
-  written-all e = written ∙ ap (λ (n : ℕ). put_front (take n vs) old) e ∙ ap (λ (l : List ℕ). put_front l old) (take-length vs)
-
 -- all that it has room for
 pub put_room : (vs t : List ℕ) (i : ℕ) → length t ≤ i → put_front (take i vs) t ≡ put_front vs t
 unfolding put_front
@@ -168,6 +161,18 @@ put_room vs [] i h = put_nowhere (take i vs) ∙ sym (put_nowhere vs)
 put_room vs (x ∷ t) zero h = absurd (omega arith)
 put_room [] (x ∷ t) (suc i) h = refl
 put_room (v ∷ vs) (x ∷ t) (suc i) h = ap (λ (l : List ℕ). v ∷ l) (put_room vs t i (omega arith))
+
+-- at the front of a part that has room for no more of them than there are, and for all where more room follows
+pub put_joined : (vs t : List ℕ) (n : ℕ) → n ≤ length t → n ≤ length vs → (length vs ≤ n) ⊎ (length t ≤ n) → put_front vs (take n t) ++ drop n t ≡ put_front vs t
+unfolding put_front
+put_joined [] t zero h g k = sym (put_none t)
+put_joined (v ∷ vs) [] zero h g k = refl
+put_joined (v ∷ vs) (x ∷ t) zero h g (inl k) = absurd (omega arith)
+put_joined (v ∷ vs) (x ∷ t) zero h g (inr k) = absurd (omega arith)
+put_joined [] t (suc n) h g k = absurd (omega arith)
+put_joined (v ∷ vs) [] (suc n) h g k = absurd (omega arith)
+put_joined (v ∷ vs) (x ∷ t) (suc n) h g (inl k) = ap (λ (l : List ℕ). v ∷ l) (put_joined vs t n (omega arith) (omega arith) (inl (omega arith)))
+put_joined (v ∷ vs) (x ∷ t) (suc n) h g (inr k) = ap (λ (l : List ℕ). v ∷ l) (put_joined vs t n (omega arith) (omega arith) (inr (omega arith)))
 
 -- one value
 pub put_one_front : (v : ℕ) (t : List ℕ) → 0 < length t → set t 0 v ≡ put_front (v ∷ []) t

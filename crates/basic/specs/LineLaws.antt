@@ -18,11 +18,17 @@ use Rattle.basic.specs.declared.bodies.Body as judged_body
 use Rattle.basic.specs.declared.found.Lack.{Lack}
 use Rattle.basic.specs.declared.line.Taken.{Taken}
 use Rattle.basic.specs.declared.line.Counted.{Counted}
+use Rattle.tokens.specs.Numbers as tokens
 use Rattle.layout.specs.Refusals.{number_of, refusal_at}
 use Rattle.layout.specs.declared.refusals.Reason.TheVariants as reason
 use Rattle.layout.specs.declared.refusals.Refusal.{Refusal}
 
 -- ---- behind other lines
+
+pub above_last : (n : ℕ) (o : std.Option ℕ) → tokens.ascends o n ≡ ascends n (maybe o)
+unfolding ascends
+above_last n None = refl
+above_last n (Some m) = refl
 
 module _ (s : Counted) (n : ℕ) (st : Stmts) where
   above : (ls : Lines) → maybe s.last ≡ last_number ls → ascends n (last_number ls) ≡ ascends n (maybe s.last)

@@ -1,50 +1,11 @@
 -- A line number, read digit by digit. Assumes nothing.
 use Rattle.std.specs.Prelude.{◌≡◌, refl, ℕ, suc, ◌+◌, ◌*◌, ◌-◌, ◌<◌, ◌≤◌, List, [], ◌∷◌, Bool, true, false, ◌&&◌, leb, length}
 use Rattle.std.proofs.Common.{sym, ap, ◌∙◌, arith}
-use borrow.Author.Tests.{leb-true, leb-false, le-leb, lt-leb}
+use borrow.Author.Tests.{leb-true, le-leb, lt-leb}
 use Rattle.listings.specs.Bytes.{pick}
 use Rattle.listings.specs.Rows.{is_digit}
 use Rattle.program_files.specs.Program as definition
 use Rattle.program_files.specs.Program.{Placed, digits, line_number}
-
--- a number, or the first that is too large
-abbrev pub capped : ℕ → ℕ
-capped n = pick (leb n 63999) n 64000
-
--- ---- a number that is capped
-
-capped_is : (n : ℕ) → n ≤ 63999 → capped n ≡ n
-capped_is n h = rw (le-leb n 63999 h)
-
-capped_more : (n : ℕ) → 63999 < n → capped n ≡ 64000
-capped_more n h = rw (lt-leb n 63999 h)
-
--- what a cap says of the number
-record Cap (n : ℕ) : Type 0 where
-  most : capped n ≤ 64000
-  small : capped n ≤ 63999 → capped n ≡ n
-  large : 63999 < capped n → 63999 < n
-
-cap : (n : ℕ) → Cap n
-cap n = go (leb n 63999) refl
-  where
-    go : (x : Bool) → leb n 63999 ≡ x → Cap n
-    go true e =
-        let q = capped_is n (leb-true n 63999 e) in
-        record { most = omega (arith, leb-true n 63999 e); small = λ h. q; large = λ h. omega arith }
-    go false e =
-        let q = capped_more n (leb-false n 63999 e) in
-        record { most = omega arith; small = λ h. absurd (omega arith); large = λ h. leb-false n 63999 e }
-
--- a digit more: the cap may come before it
-capped_digit : (n d : ℕ) → capped (capped n * 10 + d) ≡ capped (n * 10 + d)
-capped_digit n d = go (leb n 63999) refl
-  where
-    go : (x : Bool) → leb n 63999 ≡ x → capped (capped n * 10 + d) ≡ capped (n * 10 + d)
-    go true e = ap (λ (z : ℕ). capped (z * 10 + d)) (capped_is n (leb-true n 63999 e))
-    go false e =
-        let h = leb-false n 63999 e in
-        ap (λ (z : ℕ). capped (z * 10 + d)) (capped_more n h) ∙ capped_more (64000 * 10 + d) (omega arith) ∙ sym (capped_more (n * 10 + d) (omega arith))
 
 -- ---- digits, one by one
 
@@ -60,41 +21,41 @@ pub number_none : (p b : ℕ) (l m : List Placed) → l ≡ (p, b) ∷ m → is_
 unfolding line_number
 number_none p b l m e h = rw (e, h)
 
--- v, capped, was read from k up to l
+-- v, which is not too large, was read from k up to l
 pub record IsRead (k l : List Placed) (v : ℕ) : Type 0 where
-  number : ℕ
-  told : v ≡ capped number
-  left : digits 0 k ≡ digits number l
+  small : v ≤ 63999
+  left : digits 0 k ≡ digits v l
 
 pub read-none : (l : List Placed) → IsRead l l 0
-read-none l = record { number = 0; told = refl; left = refl }
+read-none l = record { small = omega arith; left = refl }
 
-pub read_most : (k l : List Placed) (v : ℕ) → IsRead k l v → v ≤ 64000
-read_most k l v r = omega (arith, r.told, (cap r.number).most)
+pub read_next : (k l m : List Placed) (v w p b : ℕ) → IsRead k l v → l ≡ (p, b) ∷ m → is_digit b ≡ true → w ≡ v * 10 + (b - 48) → w ≤ 63999 → IsRead k m w
+read_next k l m v w p b r e h q s = record { small = s; left = r.left ∙ digits_next v p b l m e h ∙ ap (λ (z : ℕ). digits z m) (sym q) }
 
-pub read_next : (k l m : List Placed) (v w p b : ℕ) → IsRead k l v → l ≡ (p, b) ∷ m → is_digit b ≡ true → w ≡ capped (v * 10 + (b - 48)) → IsRead k m w
-read_next k l m v w p b r e h q = record {
-  number = r.number * 10 + (b - 48);
-  told = q ∙ ap (λ (z : ℕ). capped (z * 10 + (b - 48))) r.told ∙ capped_digit r.number (b - 48);
-  left = r.left ∙ digits_next r.number p b l m e h;
-}
+digits_grow : (a : ℕ) (l : List Placed) → a ≤ (digits a l).0
+unfolding digits
+digits_grow a [] = omega arith
+digits_grow a (d ∷ l) = go (is_digit d.1) (digits_grow (a * 10 + (d.1 - 48)) l)
+  where
+    go : (x : Bool) → a * 10 + (d.1 - 48) ≤ (digits (a * 10 + (d.1 - 48)) l).0 → a ≤ (pick {A = ℕ × List Placed} x (digits (a * 10 + (d.1 - 48)) l) (a, d ∷ l)).0
+    go true h = omega arith
+    go false h = omega arith
 
 module _ (k j : List Placed) (q d : ℕ) (f : k ≡ (q, d) ∷ j) (g : is_digit d ≡ true) where
   number_is_lem : (n : ℕ) (l : List Placed) → digits 0 k ≡ (n, l) → line_number k ≡ pick (leb n 63999) (definition.found n l) (definition.lacks q)
   unfolding line_number
   number_is_lem n l e = let s : digits 0 ((q, d) ∷ j) ≡ (n, l) = ap (digits 0) (sym f) ∙ e in rw (f, g, s)
 
-  module _ (l m : List Placed) (v p b : ℕ) (r : IsRead k l v) (e : l ≡ (p, b) ∷ m) (h : is_digit b ≡ false) where
-    pub number_large : 63999 < v → line_number k ≡ definition.lacks q
-    number_large t =
-        number_is_lem r.number l (r.left ∙ digits_stop r.number p b l m e h)
-        ∙ ap (λ (x : Bool). pick x (definition.found r.number l) (definition.lacks q)) (lt-leb r.number 63999 ((cap r.number).large (omega (arith, r.told))))
+  module _ (l m : List Placed) (v p b : ℕ) (r : IsRead k l v) (e : l ≡ (p, b) ∷ m) where
+    pub number_large : is_digit b ≡ true → 63999 < v * 10 + (b - 48) → line_number k ≡ definition.lacks q
+    number_large h t =
+        let x = v * 10 + (b - 48) in
+        number_is_lem (digits x m).0 (digits x m).1 (r.left ∙ digits_next v p b l m e h)
+        ∙ ap (λ (z : Bool). pick z (definition.found (digits x m).0 (digits x m).1) (definition.lacks q)) (lt-leb (digits x m).0 63999 (omega (arith, digits_grow x m)))
 
-    pub number_found : v ≤ 63999 → line_number k ≡ definition.found v l
-    number_found t =
-        let c = r.told ∙ (cap r.number).small (omega (arith, r.told)) in
-        number_is_lem r.number l (r.left ∙ digits_stop r.number p b l m e h)
-        ∙ ap (λ (x : Bool). pick x (definition.found r.number l) (definition.lacks q)) (le-leb r.number 63999 (omega arith)) ∙ ap (λ (n : ℕ). definition.found n l) (sym c)
+    pub number_found : is_digit b ≡ false → line_number k ≡ definition.found v l
+    number_found h =
+        number_is_lem v l (r.left ∙ digits_stop v p b l m e h) ∙ ap (λ (z : Bool). pick z (definition.found v l) (definition.lacks q)) (le-leb v 63999 r.small)
 
 -- ---- a number that was found
 

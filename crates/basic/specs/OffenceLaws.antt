@@ -3,7 +3,10 @@ use Rattle.std.specs.Prelude.{ℕ, suc, ◌+◌, ◌≤◌, ◌<◌, ◌≡◌, 
 use Rattle.std.specs.Bool.{then_some}
 use Rattle.std.proofs.Common.{arith, sym, ap, ◌∙◌, inl, inr, length-drop}
 use Rattle.std.proofs.Math.Option.{Option, none, some}
-use borrow.Author.Tests.{lt-ltb, le-ltb, le-leb, lt-leb, eq-eqb, ne_eqb, ltb-true, eqb-true}
+use borrow.Author.Tests.{lt-ltb, le-ltb, le-leb, lt-leb, eq-eqb, ne_eqb, ltb-true, ltb-false, eqb-true, eqb-false}
+use Rattle.std.specs.Prelude.{cond}
+use Rattle.std.proofs.Common.{Less, Equal, Greater}
+use Rattle.std.specs.Ordering.{is_lt, is_some_and, nat_cmp, partial_lt, partial_ordering_then}
 use Rattle.listings.specs.Bytes.{pick}
 use Rattle.listings.specs.Scan.{index_le}
 use Rattle.listings.specs.Tests.{both_true, either_true}
@@ -102,21 +105,43 @@ module _ (p n q m : ℕ) where
   unfolding sooner
   least_alone = refl
 
-  pub least-before : p < q → some (p, n) ≡ sooner (p, n) (some (q, m))
+  least-before : p < q → some (p, n) ≡ sooner (p, n) (some (q, m))
   unfolding sooner
   least-before e = rw (lt-ltb p q e) refl
 
-  pub least-behind : q < p → some (q, m) ≡ sooner (p, n) (some (q, m))
+  least-behind : q < p → some (q, m) ≡ sooner (p, n) (some (q, m))
   unfolding sooner
   least-behind e = rw (le-ltb p q (omega arith), ne_eqb p q (λ z. omega arith)) refl
 
-  pub least_lower : p ≡ q → m < n → some (q, m) ≡ sooner (p, n) (some (q, m))
+  least_lower : p ≡ q → m < n → some (q, m) ≡ sooner (p, n) (some (q, m))
   unfolding sooner
   least_lower e f = rw (le-ltb p q (omega arith), eq-eqb p q e, lt-leb n m f) refl
 
-  pub least-first : p ≡ q → n ≤ m → some (p, n) ≡ sooner (p, n) (some (q, m))
+  least-first : p ≡ q → n ≤ m → some (p, n) ≡ sooner (p, n) (some (q, m))
   unfolding sooner
   least-first e f = rw (le-ltb p q (omega arith), eq-eqb p q e, le-leb n m f) refl
+
+  -- as the code compares the two pairs
+  abbrev pub is_sooner : Bool
+  is_sooner = partial_lt {X = ℕ × ℕ} (λ x y. partial_ordering_then (Some (nat_cmp x.0 y.0)) (Some (nat_cmp x.1 y.1))) (q, m) (p, n)
+
+  least_pair : some (pick is_sooner (q, m) (p, n)) ≡ sooner (p, n) (some (q, m))
+  least_pair = go (ltb q p) (eqb q p) (ltb m n) (eqb m n) refl refl refl
+    where
+      go : (s t u v : Bool) → ltb q p ≡ s → eqb q p ≡ t → ltb m n ≡ u
+          → some (pick (is_some_and is_lt (partial_ordering_then (Some (cond s Less (cond t Equal Greater))) (Some (cond u Less (cond v Equal Greater))))) (q, m) (p, n)) ≡ sooner (p, n) (some (q, m))
+      go true t u v d e f = least-behind (ltb-true q p d)
+      go false true true v d e f = least_lower (sym (eqb-true q p e)) (ltb-true m n f)
+      go false true false true d e f = least-first (sym (eqb-true q p e)) (ltb-false m n f)
+      go false true false false d e f = least-first (sym (eqb-true q p e)) (ltb-false m n f)
+      go false false u true d e f = least-before (omega (arith, ltb-false q p d, eqb-false q p e))
+      go false false u false d e f = least-before (omega (arith, ltb-false q p d, eqb-false q p e))
+
+  pub least_second : true ≡ is_sooner → some (q, m) ≡ sooner (p, n) (some (q, m))
+  least_second h = ap (λ (t : Bool). some (pick {A = ℕ × ℕ} t (q, m) (p, n))) h ∙ least_pair
+
+  pub least_stays : false ≡ is_sooner → some (p, n) ≡ sooner (p, n) (some (q, m))
+  least_stays h = ap (λ (t : Bool). some (pick {A = ℕ × ℕ} t (q, m) (p, n))) h ∙ least_pair
 
 -- ---- the parts of a line's offences
 

@@ -1,4 +1,5 @@
--- What a statement leaves of its line's bytes: the last of them, in the order of their places, with the line's zero. Assumes nothing.
+-- What a statement leaves of its line's bytes: the last of them, in the order of their places, with the line's zero.
+-- Assumes nothing.
 use Rattle.std.specs.Prelude.{◌≡◌, refl, ℕ, zero, suc, ◌+◌, ◌*◌, ◌-◌, ◌≤◌, ◌<◌, Bool, true, false, ◌&&◌, ◌||◌, not, List, [], ◌∷◌, ◌++◌, map, eqb, leb, length, drop}
 use Rattle.std.proofs.Common.{sym, ap, ◌∙◌, arith, ne_eqb, eqb-true, length-drop, drop-drop}
 use Rattle.std.proofs.Math.Option.{none, some}

@@ -1,4 +1,5 @@
--- Laws of the rows that a file gives: which come first and what follows, and that more fuel than there are bytes changes nothing. Assumes nothing.
+-- Laws of the rows that a file gives: which come first and what follows, and that more fuel than there are bytes
+-- changes nothing. Assumes nothing.
 use Rattle.std.specs.Prelude.{◌≡◌, refl, ℕ, zero, suc, ◌+◌, ◌*◌, ◌≤◌, ◌<◌, Bool, true, false, ◌&&◌, List, [], ◌∷◌, ◌++◌, eqb, length, get_or, drop, Some}
 use Rattle.std.proofs.Common.{sym, ap, ◌∙◌, subst, append_assoc, add-one, arith, ne_eqb, eqb-true, get_or-drop, length-drop, drop-drop, drop-cons}
 use Rattle.std.proofs.Math.Decide.{dec_le}

@@ -1,5 +1,6 @@
 -- The contents of the rows that a file gives from a place on. Assumes nothing.
--- Of a file that is not accepted these are some rows, which nobody asks for: where something lacks, the line ends; where the file ends, so does the module.
+-- Of a file that is not accepted these are some rows, which nobody asks for: where something lacks, the line ends;
+-- where the file ends, so does the module.
 use Rattle.std.specs.Prelude.{◌≡◌, ℕ, zero, suc, ◌+◌, ◌*◌, false, ◌&&◌, List, [], ◌∷◌, ◌++◌, eqb, length, drop, Option, Some, None}
 use Rattle.listings.specs.Bytes.{pick}
 use Rattle.listings.specs.Listing.{Simple, if}

@@ -1,4 +1,5 @@
--- What the rows of an accepted file say, one after the other: the contents of the listing that the file means. Assumes nothing.
+-- What the rows of an accepted file say, one after the other: the contents of the listing that the file means. Assumes
+-- nothing.
 use Rattle.std.specs.Prelude.{◌≡◌, refl, ℕ, zero, suc, ◌+◌, ◌*◌, ◌≤◌, Bool, true, false, ◌&&◌, ◌||◌, List, [], ◌∷◌, ◌++◌, eqb, ltb, leb, length, drop}
 use Rattle.std.proofs.Common.{ap, ◌∙◌, append_assoc, append-nil, arith}
 use Rattle.std.proofs.Math.Option.{Option, none, some}

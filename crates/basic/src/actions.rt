@@ -16,8 +16,8 @@ use layout::words::{CLR, FOR, GOSUB, GOTO, NEXT, ONGOSUB, ONGOTO, PLAIN, RETURN,
 use tokens::names::is_capital;
 use tokens::numbers::is_digit;
 
-// A statement that holds no others, by the number of its opening word, with so many arguments; an IF with a jump branch; an IF whose THEN holds the rest of its
-// line.
+// A statement that holds no others, by the number of its opening word, with so many arguments; an IF with a jump
+// branch; an IF whose THEN holds the rest of its line.
 #[derive(Clone, Copy)]
 pub enum Action {
     Does { word: u16, count: usize },
@@ -26,9 +26,11 @@ pub enum Action {
 }
 
 // The first of two tokens in a statement.
-// Kept: `loop`; tried as `find` over `std::iter::successors` (at `foreign_at`): `find` asks that what it walks ends, and by std's laws `successors` never does. An
-// iterator of its own is no plainer: the line's end, whose place is asked, would have to come once, by a field more. Nor is one function of a test for this
-// loop, `pass_over`, `foreign_at` and `statement_row_at`: they answer a token, the cursor before one, and a place among the bytes that GO and TO are not joined in.
+// Kept: `loop`; tried as `find` over `std::iter::successors` (at `foreign_at`): `find` asks that what it walks ends,
+// and by std's laws `successors` never does. An iterator of its own is no plainer: the line's end, whose place is
+// asked, would have to come once, by a field more. Nor is one function of a test for this loop, `pass_over`,
+// `foreign_at` and `statement_row_at`: they answer a token, the cursor before one, and a place among the bytes that GO
+// and TO are not joined in.
 fn seek_at(file: &[u8], c: Cursor, x: u8, y: u8) -> Result<Found<u8>, Lack>
     ensures { found_by (tokens_at file.now) result ≡ seek x y (tokens_at file.now c) }
 {
@@ -64,25 +66,23 @@ pub(crate) fn pass_over(file: &[u8], c: Cursor) -> Cursor
 }
 
 // A word with one number or one name.
+// Kept: takes what was found or is lacking, as `list_at` does: with `?` in the arms of `action_at` each would name what
+// was found only to hand its cursor on.
 fn one_at(word: u16, f: Result<Found<u64>, Lack>) -> Result<Found<Action>, Lack>
     ensures { IsOne word f result }
 {
-    f.map(|one| Found {
-        value: Action::Does { word, count: 1 },
-        next: one.next,
-    })
+    f.map(|one| one.with(Action::Does { word, count: 1 }))
 }
 
 // A word with as many items.
 fn list_at(word: u16, n: Result<Found<usize>, Lack>) -> Result<Found<Action>, Lack>
     ensures { IsList word n result }
 {
-    n.map(|items| Found {
-        value: Action::Does {
+    n.map(|items| {
+        items.with(Action::Does {
             word,
             count: items.value,
-        },
-        next: items.next,
+        })
     })
 }
 
@@ -101,10 +101,7 @@ fn jump_at(file: &[u8], c: Cursor) -> Result<Found<Action>, Lack>
     ensures { found_by (tokens_at file.now) result ≡ map_found Action.Jumps (line_number (tokens_at file.now c)) }
 {
     let number = line_number(file, c)?;
-    Ok(Found {
-        value: Action::Jumps(number.value as u16),
-        next: number.next,
-    })
+    Ok(number.with(Action::Jumps(number.value as u16)))
 }
 
 // Behind the THEN or GOTO of an IF, which is byte b.
@@ -146,6 +143,8 @@ fn on_at(file: &[u8], c: Cursor) -> Result<Found<Action>, Lack>
 }
 
 // "NEXT with no name first has the one slot `*`."
+// Kept: the test of `put_slots`, as RUN's is that of `put_run` and ON's search that of `put_targets`: what stands there
+// is counted here and stored there, and a routine for both would take a closure for each and be no shorter.
 fn next_at(file: &[u8], c: Cursor) -> Result<Found<Action>, Lack>
     ensures { found_by (tokens_at file.now) result ≡ map_found coded (next_action (fuel file.now c) (tokens_at file.now c)) }
 {
@@ -226,6 +225,7 @@ fn put_one(f: Result<Found<u64>, Lack>, part: &mut [u64])
 }
 
 // NEXT's slots.
+// Kept: `*` is 0, here and where keys are stored, since it is an entry of the lent table; no name has that key.
 fn put_slots(file: &[u8], c: Cursor, part: &mut [u64])
     ensures { part.new ≡ put_front (args_in (next_action (fuel file.now c) (tokens_at file.now c))) part.old }
 {

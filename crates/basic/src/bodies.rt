@@ -1,4 +1,5 @@
-// The statements of a line: how many, whether one stands too deep, whether one lists too much; or the place that 35 names.
+// The statements of a line: how many, whether one stands too deep, whether one lists too much; or the place that 35
+// names.
 ghost use Rattle.std.specs.Prelude.{◌≡◌, length};
 ghost use Rattle.listings.specs.Listing.{∅};
 ghost use Rattle.program_files.specs.Program.{body_of};
@@ -20,7 +21,8 @@ pub(crate) struct Body {
 }
 
 // The statements from c on.
-// Kept: `loop`; where the next statement is looked for is known when this one is found, which can fail, and a closure that gives the next has no `?`.
+// Kept: `loop`: a statement says where the next one is looked for, and can be lacking; an iterator of statements would
+// yield a `Result` and hold the place, and its `next` would be what a turn is here.
 pub(crate) fn judge_body(file: &[u8], c: Cursor) -> Result<Body, Lack>
     ensures told { result ≡ summary (body_of (fuel file.now c) ∅ (tokens_at file.now c)) }
     ensures few { AtMost (length file.now) result }

@@ -1,5 +1,6 @@
 // The bytes that stand for words, as document 02 has them, and the one that no line may have.
-// Kept: they are bytes of the file, and a `match` on the byte chooses; an enum would take a second one to make it from the byte first.
+// Kept: they are bytes of the file, and a `match` on the byte chooses; an enum would take a second one to make it from
+// the byte first.
 pub(crate) const FOREIGN: u8 = 0x64;
 
 pub(crate) const END: u8 = 0x80;

@@ -4,9 +4,11 @@ ghost use Rattle.basic.specs.declared.cover.Cover.TheVariants.{Uncovered};
 ghost use Rattle.basic.specs.Cursors.{raw_at, tokens_at, ahead, IsNext};
 
 use super::codes;
-use super::cover::{Cover, behind, is_counted};
+use super::cover::Cover;
 
 // A place in the file, and what covers the byte there.
+// Kept: without the file, which goes beside it: each cursor that is answered, in a token, in what was found, in what is
+// due next, would need a clause that its file is still the same one.
 #[derive(Clone, Copy)]
 pub struct Cursor {
     pub at: usize,
@@ -26,6 +28,8 @@ impl Cursor {
 }
 
 // A byte that counts, its place, and where the next is looked for. 0 is the line's end, or the file's.
+// Kept: a byte, and no `Option` of one: the line's end is a byte 0 of the file, which the definition has among the
+// bytes too, and an arm of the one `match` on it.
 #[derive(Clone, Copy)]
 pub struct Token {
     pub place: usize,
@@ -43,23 +47,19 @@ pub(crate) fn counted_at(file: &[u8], c: Cursor) -> Token
     while at < file.len() {
         let b = file[at];
         if b == 0 {
-            return Token {
-                place: at,
-                byte: 0,
-                next: Cursor { at, cover },
-            };
+            break;
         }
-        if is_counted(cover, b) {
+        if cover.is_counted(b) {
             return Token {
                 place: at,
                 byte: b,
                 next: Cursor {
                     at: at + 1,
-                    cover: behind(cover, b),
+                    cover: cover.behind(b),
                 },
             };
         }
-        cover = behind(cover, b);
+        cover = cover.behind(b);
         at += 1;
     }
     Token {

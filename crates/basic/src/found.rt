@@ -13,6 +13,18 @@ pub struct Found<A> {
     pub next: Cursor,
 }
 
+impl<A: Copy> Found<A> {
+    // Another value, found at the same place.
+    pub(crate) fn with<B>(self, value: B) -> Found<B>
+        ensures { result ≡ record { value = value; next = self.next } }
+    {
+        Found {
+            value,
+            next: self.next,
+        }
+    }
+}
+
 // The place of what stands where something is due.
 #[derive(Clone, Copy, Debug, PartialEq, Eq)]
 pub struct Lack {

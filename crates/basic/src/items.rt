@@ -11,6 +11,8 @@ use super::names::key_at;
 use super::numbers::line_number;
 
 // What stands in a list.
+// Kept: an enum, and no closure for `item_at`: the three functions below would each carry the closure's clause beside
+// their own.
 #[derive(Clone, Copy)]
 pub(crate) enum Item {
     Number,
@@ -52,11 +54,13 @@ fn store_items(file: &[u8], c: Cursor, kind: Item, count: usize, part: &mut [u64
     ensures { part.new ≡ put_front (values_in (items_from kind (tokens_at file.now c))) part.old }
 {
     let mut at = c;
-    for i in 0..count.min(part.len()) {
+    let room = count.min(part.len());
+    for slot in &mut part[..room] {
         let Ok(item) = item_at(file, at, kind) else {
-            return;
+            // It was counted.
+            unreachable!();
         };
-        part[i] = item.value;
+        *slot = item.value;
         at = token_at(file, item.next).next;
     }
 }

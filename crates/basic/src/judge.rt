@@ -31,6 +31,7 @@ pub fn judge_program(file: &[u8]) -> Result<Counts, Refusal>
             return Err(Reason::EndsEarly.at(len));
         }
         if word_at(file, at) == 0 {
+            // Kept: field by field, and not by `From`: what is counted is told at this place alone.
             return Ok(Counts {
                 lines: s.lines,
                 stmts: s.stmts,

@@ -1,4 +1,5 @@
-// A saved program: which bytes of a line count, the statements among them, the verdict, and the rows of the listing that it means.
+// A saved program: which bytes of a line count, the statements among them, the verdict, and the rows of the listing
+// that it means.
 #![tactic(auto)]
 
 pub mod actions;

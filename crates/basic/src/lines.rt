@@ -2,20 +2,21 @@
 ghost use Rattle.std.specs.Prelude.{◌≡◌, ◌<◌, ◌≤◌, ◌+◌, length};
 ghost use Rattle.std.proofs.Math.Option.{some};
 ghost use Rattle.listings.specs.Listing.{Stmts};
-ghost use Rattle.listings.specs.Read.{ascends};
 ghost use Rattle.program_files.specs.Program.{sooner};
 ghost use Rattle.program_files.specs.Program as definition;
 ghost use Rattle.basic.specs.Bodies.{summary};
 ghost use Rattle.basic.specs.Cursors.{raw_at};
-ghost use Rattle.basic.specs.Lines.{maybe, LineTold, WithTold, Kept, IsCut, IsInnerLeast, IsLeast, word_at, bytes_at, with_foreign, zero_at, first_foreign, offence_of, offence_in};
+ghost use Rattle.basic.specs.Lines.{LineTold, WithTold, Kept, IsCut, IsInnerLeast, IsLeast, word_at, bytes_at, with_foreign, zero_at, first_foreign, offence_of, offence_in};
 
 use super::bodies::{Body, judge_body};
 use super::codes;
 use super::cursors::{Cursor, counted_at};
 use super::found::Lack;
 use super::line::{Counted, LineAt, Taken};
+use super::numbers::MAX_LINE_NUMBER;
 use layout::limits::{MAX_LINES, MAX_STMTS};
 use layout::refusals::{Reason, Refusal};
+use tokens::numbers::ascends;
 use tokens::scan::find;
 
 // The word of two bytes at a place, the low byte first.
@@ -43,20 +44,15 @@ fn foreign_at(file: &[u8], c: Cursor) -> Option<usize>
 }
 
 // "The first offending byte decides", and of two on one byte the lower number.
-// Kept: by the numbers, as `tokens::arguments::lower`.
 fn sooner(a: Refusal, b: Option<Refusal>) -> Refusal
     ensures { some (offence_of result) ≡ sooner (offence_of a) (offence_in b) }
 {
     let Some(b) = b else {
         return a;
     };
-    if b.place < a.place {
-        return b;
-    }
-    if a.place < b.place {
-        return a;
-    }
-    if b.reason.number() < a.reason.number() {
+    let first = (a.place, a.reason.number());
+    let second = (b.place, b.reason.number());
+    if second < first {
         return b;
     }
     a
@@ -99,7 +95,7 @@ fn offence_at(
     ensures { IsLeast line.now.file.now line.now.at n body result }
 {
     let o = inner_offence(line, body, cut);
-    if 63999 < n {
+    if MAX_LINE_NUMBER < u32::from(n) {
         return Some(sooner(Reason::Lacking.at(line.at + 2), o));
     }
     o
@@ -124,21 +120,13 @@ pub(crate) fn judge_line(line: &LineAt<'_>, s: Counted) -> Result<Taken, Refusal
     with_line(n, body?, from + zero + 1, s)
 }
 
-// Whether a number is above the last, if there is one.
-#[tactic(auto, unfolding(listings::specs::Read::ascends))]
-fn ascends(n: u16, last: Option<u16>) -> bool
-    ensures { result ≡ ascends n (maybe last) }
-{
-    last.is_none_or(|m| m < n)
-}
-
 // "within a line 4 to 8 come after 33 to 35, lowest first"
 fn with_line(n: u16, body: Body, next: usize, s: Counted) -> Result<Taken, Refusal>
     requires few { body.stmts ≤ 65536 }
     ensures told { (st : Stmts) → Ok body ≡ summary (definition.body st) → WithTold s n st result }
     ensures kept { Kept next result }
 {
-    if !ascends(n, s.last) {
+    if !ascends(s.last, n) {
         return Err(Reason::LineOrder.at(s.lines));
     }
     if MAX_LINES <= s.lines {

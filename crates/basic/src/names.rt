@@ -13,7 +13,8 @@ use tokens::names::{is_capital, is_letter, is_suffix};
 const KEPT: u64 = 4096;
 
 // The key of the name at c: of its first two characters and its kind.
-// Kept: `while`, as the `loop` of `actions::seek_at`.
+// Kept: `while`: a letter says where the next one is looked for, and the cursor behind the last is answered too; an
+// iterator of letters would be a struct of token and cursor whose `next` does what a turn does here.
 pub(crate) fn key_at(file: &[u8], c: Cursor) -> Result<Found<u64>, Lack>
     ensures { found_by (tokens_at file.now) result ≡ map_found name_key (name (tokens_at file.now c)) }
 {

@@ -1,31 +1,19 @@
 // Line numbers.
-ghost use Rattle.std.specs.Prelude.{◌≡◌, ◌+◌, ◌*◌, ◌-◌, ◌≤◌, true};
-ghost use Rattle.listings.specs.Rows.{is_digit};
+ghost use Rattle.std.specs.Prelude.{◌≡◌};
 ghost use Rattle.program_files.specs.Program.{line_number};
 ghost use Rattle.basic.specs.Cursors.{tokens_at};
 ghost use Rattle.basic.specs.Found.{found_by};
-ghost use Rattle.basic.specs.Numbers.{capped};
 
 use super::cursors::{Cursor, token_at};
 use super::found::{Found, Lack};
-use tokens::numbers::is_digit;
+use tokens::numbers::{is_digit, with_digit};
 
-// One digit more. Above 63999 the number stays where it is, so digits of any length do not overflow.
-#[tactic(auto, unfolding(listings::specs::Rows::is_digit))]
-fn with_digit(value: u64, b: u8) -> u64
-    requires small { value ≤ 64000 }
-    requires digit { is_digit b ≡ true }
-    ensures { result ≡ capped (value * 10 + (b - 48)) }
-{
-    let n = value * 10 + u64::from(b - 48);
-    if 63999 < n {
-        return 64000;
-    }
-    n
-}
+// The greatest number that a line of a saved program may have.
+pub(crate) const MAX_LINE_NUMBER: u32 = 63999;
 
 // "a line number exceeds 63999": its place is its first byte.
-// Kept: `while`, as the `loop` of `actions::seek_at`.
+// Kept: `while`: a digit says where the next one is looked for, and the cursor behind the last is answered too; an
+// iterator of digits would be a struct of token and cursor whose `next` does what a turn does here.
 pub(crate) fn line_number(file: &[u8], c: Cursor) -> Result<Found<u64>, Lack>
     ensures { found_by (tokens_at file.now) result ≡ line_number (tokens_at file.now c) }
 {
@@ -34,15 +22,15 @@ pub(crate) fn line_number(file: &[u8], c: Cursor) -> Result<Found<u64>, Lack>
     if !is_digit(t.byte) {
         return Err(Lack { place });
     }
-    let mut value: u64 = 0;
+    let mut value: u32 = 0;
     let mut next = c;
     while is_digit(t.byte) {
-        value = with_digit(value, t.byte);
+        value = with_digit(value, u32::from(t.byte - b'0'), MAX_LINE_NUMBER).ok_or(Lack { place })?;
         next = t.next;
         t = token_at(file, next);
     }
-    if 63999 < value {
-        return Err(Lack { place });
-    }
-    Ok(Found { value, next })
+    Ok(Found {
+        value: u64::from(value),
+        next,
+    })
 }

@@ -148,7 +148,8 @@ fn action_row(file: &[u8], b: u8, at: Cursor, s: Source) -> Sourced
     }
 }
 
-// What is due behind a statement's row, with so many more rows `)`. It begins where the next byte counts: that place is known to be a later one.
+// What is due behind a statement's row, with so many more rows `)`. It begins where the next byte counts: that place is
+// known to be a later one.
 fn due(file: &[u8], stage: Stage, c: Cursor, s: Source, more: usize) -> Source
     requires inside { s.at.at < length file.now }
     requires few { more ≤ 2 }

@@ -3,8 +3,8 @@ ghost use Rattle.std.specs.Prelude.{◌≤◌, ◌+◌, ◌*◌};
 
 use super::cursors::Cursor;
 
-// What is due next: the module's row, a line or the module's end, a statement or the end of its list, the row of a jump branch to a number, `(stmts`, rows `)`,
-// nothing.
+// What is due next: the module's row, a line or the module's end, a statement or the end of its list, the row of a jump
+// branch to a number, `(stmts`, rows `)`, nothing.
 #[derive(Clone, Copy)]
 pub enum Stage {
     Module,
@@ -26,7 +26,8 @@ pub struct Source {
     ghost few: { ends ≤ 2 * at.at + 1 },
 }
 
-// A statement that holds no others: the number of its opening word, how many arguments it has, its first byte, and where what follows that stands.
+// A statement that holds no others: the number of its opening word, how many arguments it has, its first byte, and
+// where what follows that stands.
 #[derive(Clone, Copy)]
 pub struct Simple {
     pub word: u16,

@@ -1,4 +1,5 @@
-// The answers of `build`, of the questions and of the check as numbers: 0 or document 01's number, and the rest in a lent array.
+// The answers of `build`, of the questions and of the check as numbers:
+// 0 or document 01's number, and the rest in a lent array.
 #![tactic(auto)]
 
 pub mod build;

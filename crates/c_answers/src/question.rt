@@ -15,6 +15,7 @@ pub trait Words {
 }
 
 // Start and length of a list; a statement's node and the number of its opening word.
+// Kept: a pair for both: C reads each as two words in that order, so that two structs would say one `words` twice.
 impl Words for (usize, usize) {
     ghost as_words = { pair_words };
 

@@ -4,7 +4,8 @@ use Rattle.listings.specs.Bytes.{pick}
 use Rattle.graph.specs.Check.{Verdict, right, wrong}
 use Rattle.comparing.specs.Judging.{Reading, start, opened, lost, beside, met, good}
 
--- at: how many bytes of the graph due were met. All that was given is due so far; this row is not the one due; a row was not, and has ended
+-- at: how many bytes of the graph due were met. All that was given is due so far; this row is not the one due; a row
+-- was not, and has ended
 pub data Standing : Type 0 where
   same differs : (at : ℕ) → Reading → Standing
   ended : (number at : ℕ) → Standing

@@ -4,6 +4,9 @@ use Rattle.std.proofs.Math.Path.{refl, sym, ap}
 use Rattle.std.specs.List.{filter}
 use Rattle.std.proofs.Common.{◌∙◌, add-one, drop_of_length-le, drop-cons, take-suc}
 use mathlib.Core.List.{List, [], ◌∷◌}
+use Rattle.std.proofs.Common.{Bor, Option as StdOption, Some, None, le_refl}
+use Rattle.std.specs.Option.{option_eq}
+use Rattle.std.specs.Slice.{IsItemAt}
 use Rattle.listings.specs.Bytes.{pick}
 use Rattle.graph.specs.Check as check
 use Rattle.comparing.specs.Comparing.{Standing, same, differs, ended, begins, fed_byte, fed, rows_ended, is_start, nothing}
@@ -36,6 +39,13 @@ module _ (due : List ℕ) (at b : ℕ) where
   pub due_none : length due ≤ at → false ≡ begins (drop at due) b
   unfolding begins
   due_none h = sym (ap (λ (l : List ℕ). begins l b) (drop_of_length-le due h))
+
+  pub due_told : (r : StdOption (Bor ℕ)) (x : Bor ℕ) (t : Bool) → IsItemAt due at r → b ≡ x.now → t ≡ option_eq {T = Bor ℕ} (λ u v. eqb u.now v.now) r (Some x)
+      → (t ≡ begins (drop at due) b) × (t ≡ true → at < length due)
+  due_told None x t h g e = (e ∙ due_none h.3, λ q. absurd cc)
+  due_told (Some d) x t h g e =
+      let n : d.now ≡ get_or due at 0 = h.4 (le_refl at) 0 in
+      (e ∙ ap (λ (z : ℕ). eqb z x.now) n ∙ ap (eqb (get_or due at 0)) (sym g) ∙ sym (due_here h.3.0), λ q. h.3.0)
 
   pub nothing_left : length due ≤ at → nothing (drop at due) ≡ true
   unfolding nothing

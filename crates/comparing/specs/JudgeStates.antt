@@ -6,10 +6,7 @@ use mathlib.Core.List.{List, [], ◌∷◌}
 use Rattle.std.proofs.Math.Bool.{true, false, and-false}
 use Rattle.std.proofs.Math.Option.{none, some}
 use Rattle.std.specs.List.{list_all, position_or_len}
-use Rattle.std.proofs.Common.{Option as StdOption, Some, None, length-take}
-use Rattle.std.specs.Option.{unwrap_or}
-use Rattle.std.proofs.lemmas.List.Folds.{length-prefix_len}
-use borrow.Author.Tests.{lt-ltb, le-ltb, le-leb, lt-leb, ltb-false, eq-eqb, ne_eqb, eqb-true, not-true, not-false}
+use borrow.Author.Tests.{lt-ltb, le-ltb, le-leb, lt-leb, eq-eqb, ne_eqb, eqb-true, not-true, not-false}
 use Rattle.std.proofs.Math.Dec.{eqb}
 use Rattle.listings.specs.Bytes.{pick}
 use Rattle.listings.specs.Rows.{is_digit}
@@ -133,20 +130,6 @@ front_passed b (c ∷ f) = go (passes c b) refl (front_passed b f)
     go false e p = record { step_is = refl; stops = λ d t q. let z : c ≡ d = cc in rw (← z) e }
 
 -- the first place at which a test passes, or the end
-pub first_or_end : (p : ℕ → Bool) (l : List ℕ) (r : StdOption ℕ) → r ≡ cond (ltb (position_or_len p l) (length l)) (Some (position_or_len p l)) None
-    → (unwrap_or r (length l) ≡ position_or_len p l) × (position_or_len p l ≤ length l)
-first_or_end p l r e = (go (ltb n (length l)) refl e, in_list)
-  where
-    n : ℕ
-    n = position_or_len p l
-
-    in_list : n ≤ length l
-    in_list = omega (arith, length-prefix_len (λ x. not (p x)) l, length-take n l)
-
-    go : (z : Bool) → ltb n (length l) ≡ z → r ≡ cond z (Some n) None → unwrap_or r (length l) ≡ n
-    go true q f = rw f refl
-    go false q f = rw f (omega (arith, ltb-false n (length l) q, in_list))
-
 -- ---- one byte outside numbers, behind the lists passed
 
 module _ (f : List ℕ) (b : ℕ) (r : List ℕ) (p : Passed f b r) where

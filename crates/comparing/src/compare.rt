@@ -4,15 +4,16 @@ ghost use Rattle.listings.specs.Bytes.{pick};
 ghost use Rattle.layout.specs.Refusals.{number_of};
 ghost use Rattle.comparing.specs.Judging.{start, met};
 ghost use Rattle.comparing.specs.JudgeStates.{reading_of};
-ghost use Rattle.comparing.specs.Comparing.{same, begins, rows_number, differing, fed_byte, fed, rows_ended, is_start, place_at, ruled};
+ghost use Rattle.comparing.specs.Comparing.{same, begins, rows_number, differing, fed_byte, fed, place_at, ruled};
 ghost use Rattle.comparing.specs.ComparingStates.{standing_of, verdict_of};
 ghost use Rattle.comparing.specs.Feeding.{RowsDue, FedTo};
 
-use crate::judge::{Judge, in_form, judge_byte};
+use crate::judge::Judge;
 use layout::refusals::{Reason, Refusal};
 
-// Of the graph due `at` bytes were met. All that was given is due so far; this row is not the one due; a row was not, and has ended.
-#[derive(Drop)]
+// Of the graph due `at` bytes were met. All that was given is due so far; this row is not the one due; a row was not,
+// and has ended.
+#[derive(Clone, Copy)]
 pub enum Comparing {
     Same { at: usize, judge: Judge },
     Differs { at: usize, judge: Judge },
@@ -33,7 +34,7 @@ pub fn begin() -> Comparing
 fn row_reason(judge: Judge) -> Reason
     ensures { number_of result ≡ rows_number (reading_of judge) }
 {
-    if in_form(judge) {
+    if judge.in_form() {
         return Reason::WrongRow;
     }
     Reason::NotARow
@@ -51,7 +52,7 @@ fn differ(at: usize, judge: Judge, b: u8) -> Comparing
     }
     Comparing::Differs {
         at,
-        judge: judge_byte(judge, b),
+        judge: judge.judge_byte(b),
     }
 }
 
@@ -62,14 +63,16 @@ fn next_judge(judge: Judge, b: u8) -> Judge
     if b == b'\n' {
         return Judge::Start;
     }
-    judge_byte(judge, b)
+    judge.judge_byte(b)
 }
 
 // Whether byte b is the next one due.
+// Kept: `due` and `at`, here and below: callers lend the graph due with each piece, and of what is left of it alone the
+// row that `at` stands in could not be told.
 fn is_due(due: &[u8], at: usize, b: u8) -> bool
     ensures { (result ≡ begins (drop at due.now) b) × (result ≡ true → at < length due.now) }
 {
-    at < due.len() && due[at] == b
+    due.get(at) == Some(&b)
 }
 
 // One byte more, where all was as due.
@@ -86,7 +89,7 @@ fn feed_same(at: usize, judge: Judge, due: &[u8], b: u8) -> Comparing
 }
 
 // What was found so far, and what is left of a piece.
-#[derive(Drop)]
+#[derive(Clone, Copy)]
 struct Fed<'a> {
     state: Comparing,
     left: &'a [u8],
@@ -124,7 +127,7 @@ fn feed_rows<'a>(at: usize, judge: Judge, due: &[u8], piece: &'a [u8]) -> Fed<'a
     requires { 0 < length piece.now }
     ensures { FedTo due.now (same at (reading_of judge)) piece.now (standing_of result.state) result.left.now }
 {
-    let m = if is_start(judge) {
+    let m = if judge.is_start() {
         rows_due(at, due, piece)
     } else {
         0
@@ -177,35 +180,18 @@ pub fn feed(s: Comparing, due: &[u8], piece: &[u8]) -> Comparing
     r
 }
 
-// How many rows end in a text.
-fn rows_ended(text: &[u8]) -> usize
-    ensures { result ≡ rows_ended text.now }
-{
-    text.iter().filter(|b| **b == b'\n').count()
-}
-
-// The row in which byte `at` of the graph due stands.
+// The row in which byte `at` of the graph due stands: so many end before it.
 fn place_at(due: &[u8], at: usize) -> usize
     ensures { result ≡ place_at due.now at }
 {
-    if at < due.len() {
-        return rows_ended(&due[..at]);
-    }
-    rows_ended(due)
-}
-
-// Whether nothing of a row was read.
-fn is_start(judge: Judge) -> bool
-    ensures { result ≡ is_start (reading_of judge) }
-{
-    matches!(judge, Judge::Start)
+    due.iter().take(at).filter(|b| **b == b'\n').count()
 }
 
 // The graph given ends, and all was as due.
 fn rule_same(at: usize, judge: Judge, due: &[u8]) -> Result<(), Refusal>
     ensures { verdict_of result ≡ ruled due.now (same at (reading_of judge)) }
 {
-    if !is_start(judge) {
+    if !judge.is_start() {
         return Err(Reason::NotARow.at(place_at(due, at)));
     }
     if due.len() <= at {

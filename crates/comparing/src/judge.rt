@@ -3,12 +3,14 @@ ghost use Rattle.std.specs.Prelude.{◌≡◌, true, ◌||◌, [], eqb};
 ghost use Rattle.listings.specs.Rows.{is_digit};
 ghost use Rattle.graph.specs.Check.{outside, inside, begun, outside_step, digit_step, step, may_end};
 ghost use Rattle.comparing.specs.Judging.{start, beside, chosen, met, good, stepped_to};
+ghost use Rattle.comparing.specs.Comparing.{is_start};
 ghost use Rattle.comparing.specs.JudgeStates.{passes, Passed, left_of, reading_of};
 
-use tokens::numbers::is_digit;
+use layout::limits::MAX_NUMBER;
+use tokens::numbers::{is_digit, with_digit};
 
-// What is left of a form, where `#` is a number, `*` numbers with a space before each and `%` numbers with a space between them; in a list, one more
-// number may come first.
+// What is left of a form, where `#` is a number, `*` numbers with a space before each and `%` numbers with a space
+// between them; in a list, one more number may come first.
 #[derive(Clone, Copy)]
 pub struct Place {
     left: &'static [u8],
@@ -49,20 +51,6 @@ fn pass_lists(left: &'static [u8], b: u8) -> &'static [u8]
     &left[n..]
 }
 
-// A byte that begins a number; the place behind it is p.
-#[tactic(auto, unfolding(crate::specs::JudgeStates::reading_of, graph::specs::Check::begun, crate::specs::Judging::stepped_to))]
-fn begin_number(p: Place, b: u8) -> Judge
-    ensures { reading_of result ≡ stepped_to (begun (left_of p) b) }
-{
-    if is_digit(b) {
-        return Judge::Inside {
-            value: u32::from(b - b'0'),
-            place: p,
-        };
-    }
-    Judge::Lost
-}
-
 // A byte outside numbers, where a form goes on with what is left.
 fn form_step(left: &'static [u8], b: u8) -> Judge
     ensures { reading_of result ≡ stepped_to (outside_step left.now b) }
@@ -79,48 +67,12 @@ fn form_step(left: &'static [u8], b: u8) -> Judge
         list: true,
     };
     match *c {
-        b'#' => begin_number(next, b),
+        b'#' => next.begin_number(b),
         b'*' => Judge::Begins(open),
-        b'%' => begin_number(open, b),
+        b'%' => open.begin_number(b),
         d if d == b => Judge::Outside(next),
         _ => Judge::Lost,
     }
-}
-
-// A byte outside numbers: a list that is open goes on, or the form does.
-fn outside_step(p: Place, b: u8) -> Judge
-    ensures { reading_of result ≡ stepped_to (outside_step (left_of p) b) }
-{
-    if p.list && b == b' ' {
-        return Judge::Begins(p);
-    }
-    form_step(p.left, b)
-}
-
-// A digit more of a number.
-fn digit_step(value: u32, p: Place, b: u8) -> Judge
-    requires { is_digit b ≡ true }
-    ensures { reading_of result ≡ stepped_to (digit_step value (left_of p) b) }
-{
-    if value == 0 || 6553 < value {
-        return Judge::Lost;
-    }
-    let v = value * 10 + u32::from(b - b'0');
-    if 65535 < v {
-        return Judge::Lost;
-    }
-    Judge::Inside { value: v, place: p }
-}
-
-// A byte behind a digit.
-#[tactic(auto, unfolding(graph::specs::Check::step))]
-fn inside_step(value: u32, p: Place, b: u8) -> Judge
-    ensures { reading_of result ≡ stepped_to (step (inside value) (left_of p) b) }
-{
-    if is_digit(b) {
-        return digit_step(value, p, b);
-    }
-    outside_step(p, b)
 }
 
 // Beside a form, with so much of it left.
@@ -158,26 +110,11 @@ fn first_byte(b: u8) -> Judge
     }
 }
 
-// One byte more of a row.
-#[tactic(auto, unfolding(crate::specs::Judging::met, crate::specs::JudgeStates::reading_of, graph::specs::Check::step))]
-pub fn judge_byte(j: Judge, b: u8) -> Judge
-    ensures { reading_of result ≡ met (reading_of j) b }
-{
-    match j {
-        Judge::Start => first_byte(b),
-        Judge::Opened => second_byte(b),
-        Judge::Lost => Judge::Lost,
-        Judge::Outside(p) => outside_step(p, b),
-        Judge::Begins(p) => begin_number(p, b),
-        Judge::Inside { value, place } => inside_step(value, place, b),
-    }
-}
-
 // Whether c stands for a list.
 fn is_list(c: u8) -> bool
     ensures { result ≡ (eqb c 42 || eqb c 37) }
 {
-    c == b'*' || c == b'%'
+    matches!(c, b'*' | b'%')
 }
 
 // Whether what is left of a form are only lists.
@@ -187,14 +124,89 @@ fn only_lists(left: &[u8]) -> bool
     left.iter().all(|c| is_list(*c))
 }
 
-// Whether the row is in form if it ends here.
-#[tactic(auto, unfolding(graph::specs::Check::ends, crate::specs::Judging::good, crate::specs::JudgeStates::reading_of))]
-pub fn in_form(j: Judge) -> bool
-    ensures { result ≡ good (reading_of j) }
-{
-    match j {
-        Judge::Outside(p) => only_lists(p.left),
-        Judge::Inside { value: _, place } => only_lists(place.left),
-        _ => false,
+impl Place {
+    // A byte that begins a number; this is the place behind it.
+    #[tactic(auto, unfolding(crate::specs::JudgeStates::reading_of, graph::specs::Check::begun, crate::specs::Judging::stepped_to))]
+    fn begin_number(self, b: u8) -> Judge
+        ensures { reading_of result ≡ stepped_to (begun (left_of self) b) }
+    {
+        if is_digit(b) {
+            return Judge::Inside {
+                value: u32::from(b - b'0'),
+                place: self,
+            };
+        }
+        Judge::Lost
+    }
+
+    // A byte outside numbers: a list that is open goes on, or the form does.
+    fn outside_step(self, b: u8) -> Judge
+        ensures { reading_of result ≡ stepped_to (outside_step (left_of self) b) }
+    {
+        if self.list && b == b' ' {
+            return Judge::Begins(self);
+        }
+        form_step(self.left, b)
+    }
+
+    // A digit more of a number.
+    fn digit_step(self, value: u32, b: u8) -> Judge
+        requires { is_digit b ≡ true }
+        ensures { reading_of result ≡ stepped_to (digit_step value (left_of self) b) }
+    {
+        if value == 0 {
+            return Judge::Lost;
+        }
+        match with_digit(value, u32::from(b - b'0'), MAX_NUMBER as u32) {
+            Some(value) => Judge::Inside { value, place: self },
+            None => Judge::Lost,
+        }
+    }
+
+    // A byte behind a digit.
+    #[tactic(auto, unfolding(graph::specs::Check::step))]
+    fn inside_step(self, value: u32, b: u8) -> Judge
+        ensures { reading_of result ≡ stepped_to (step (inside value) (left_of self) b) }
+    {
+        if is_digit(b) {
+            return self.digit_step(value, b);
+        }
+        self.outside_step(b)
+    }
+}
+
+impl Judge {
+    // One byte more of a row.
+    #[tactic(auto, unfolding(crate::specs::Judging::met, crate::specs::JudgeStates::reading_of, graph::specs::Check::step))]
+    pub fn judge_byte(self, b: u8) -> Judge
+        ensures { reading_of result ≡ met (reading_of self) b }
+    {
+        match self {
+            Judge::Start => first_byte(b),
+            Judge::Opened => second_byte(b),
+            Judge::Lost => Judge::Lost,
+            Judge::Outside(p) => p.outside_step(b),
+            Judge::Begins(p) => p.begin_number(b),
+            Judge::Inside { value, place } => place.inside_step(value, b),
+        }
+    }
+
+    // Whether the row is in form if it ends here.
+    #[tactic(auto, unfolding(graph::specs::Check::ends, crate::specs::Judging::good, crate::specs::JudgeStates::reading_of))]
+    pub fn in_form(self) -> bool
+        ensures { result ≡ good (reading_of self) }
+    {
+        match self {
+            Judge::Outside(p) => only_lists(p.left),
+            Judge::Inside { value: _, place } => only_lists(place.left),
+            _ => false,
+        }
+    }
+
+    // Whether nothing of a row was read.
+    pub(crate) fn is_start(self) -> bool
+        ensures { result ≡ is_start (reading_of self) }
+    {
+        matches!(self, Judge::Start)
     }
 }

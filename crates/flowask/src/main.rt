@@ -56,6 +56,7 @@ fn ask(text: &[u8], out: &mut [u8; 2097153]) -> usize
 }
 
 // The text ends where the input does; one that goes on past the room for it is refused by its length.
+// Kept: these lines stand in four programs; `filling` says why.
 fn main(rt: HostRuntime) {
     let mut text = [0u8; 262145];
     let mut out = [0u8; 2097153];

@@ -87,7 +87,8 @@ fn is_text_read(rt: &HostRuntime, n: usize, listing: &mut Named<'_>) -> bool {
     n == 65537 || is_read(rt, listing)
 }
 
-// The graph in a file beside the one due, in pieces. A proved loop has to end, so its turns are counted, up to a number that no run comes to.
+// The graph in a file beside the one due, in pieces.
+// A proved loop has to end, so its turns are counted, up to a number that no run comes to.
 fn compare_file(file: &mut File, due: &[u8]) -> Comparing
     ensures { SomeFed due.now (standing_of result) }
 {

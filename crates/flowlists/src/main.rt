@@ -1,4 +1,5 @@
-// Framed texts on standard input (a row with the byte count, then the bytes); for each its graph or its refusal, framed in the same way.
+// Framed texts on standard input (a row with the byte count, then the bytes);
+// for each its graph or its refusal, framed in the same way.
 #![tactic(auto)]
 
 use at_limits::list::list_text;

@@ -12,6 +12,8 @@ use layout::refusals::Refusal;
 use tokens::words::word;
 
 // A lent part, and where its next byte goes.
+// Kept: numbers and refusals are put by hand, and not by `Display`: a part is bytes and no `str`, and what does not fit
+// is dropped and is no error, so a `write!` would have nothing to answer.
 #[derive(Drop)]
 pub struct Page<'a> {
     bytes: &'a mut [u8],
@@ -55,7 +57,8 @@ impl<'a> Page<'a> {
     }
 
     // A number.
-    // Kept: two names that callers have, each thin over its routine of a part.
+    // Kept: beside `put_number`; one routine for both would take a flag for the space, and each caller knows which it
+    // wants.
     pub fn put_decimal(&mut self, x: usize)
         ensures { Wrote self.old self.new (decimal x) }
     {
@@ -63,7 +66,8 @@ impl<'a> Page<'a> {
     }
 
     // A number with a space before it.
-    // Kept: two names that callers have, each thin over its routine of a part.
+    // Kept: beside `put_decimal`, as there; by way of `put_byte` and `put_decimal` the page's place would be written to
+    // memory in between, which the routine of a part does without (`parts.rt`).
     pub fn put_number(&mut self, x: usize)
         ensures { Wrote self.old self.new (32 ∷ decimal x) }
     {
@@ -104,6 +108,8 @@ impl<'a> Page<'a> {
 }
 
 // Bytes alone, in a lent part; answers where the next byte would go.
+// Kept: a place, here and below, and not the slice before it: `Puts` says what all of `out` ends as, from a place to a
+// place, and a slice would need a clause of its own beside it.
 pub fn print_bytes(out: &mut [u8], bytes: &[u8]) -> usize
     ensures { Puts out.old 0 out.new result bytes.now }
 {

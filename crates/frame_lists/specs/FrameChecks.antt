@@ -1,11 +1,12 @@
 -- Laws of what the frame question checks, and of its list by the opening word. Assumes nothing.
-use Prim.Native.Nat.{ℕ, ◌+◌, ◌*◌, ◌-◌, ◌/◌, ◌<◌, ◌≤◌}
-use Rattle.std.specs.Prelude.{◌≡◌, List, [], Bool, Result, Ok, Err, ◌||◌, length, get_or}
-use Rattle.std.proofs.Math.Path.{refl, sym}
+use Prim.Native.Nat.{ℕ, zero, suc, ◌+◌, ◌*◌, ◌<◌, ◌≤◌}
+use Rattle.std.specs.Prelude.{◌≡◌, List, [], Bool, Option, Some, None, MatchOption, Result, Ok, Err, ◌||◌, length, get_or}
+use Rattle.std.specs.Option.{option_to_list}
+use Rattle.std.proofs.Math.Path.{refl, sym, ap}
 use Rattle.std.proofs.Common.{subst, ◌∙◌, arith}
 use Rattle.std.proofs.Math.Bool.{true, false}
-use borrow.Author.Tests.{ltb-true, ltb-false, lt-ltb, le-ltb}
-use Rattle.std.proofs.Math.Dec.{ltb}
+use borrow.Author.Tests.{ltb-false, lt-ltb, le-ltb}
+use Rattle.std.proofs.Math.Dec.{ltb, leb, leb-suc-suc}
 use Rattle.listings.specs.Listing.{Name}
 use Rattle.listings.specs.Bytes.{pick}
 use Rattle.listings.specs.Rows.{invalid, parsed, is_name, parse_name}
@@ -13,6 +14,7 @@ use Rattle.tokens.specs.Names.{as_key}
 use Rattle.listings.specs.Records.{name_key}
 use Rattle.listings.specs.Cut.{cut_name}
 use Rattle.tables.specs.Columns.{call_word, word_of, fall_entry, succ_start, succ_count, succ_part}
+use Rattle.graph_laws.specs.Adding.{decode}
 use Rattle.graph.specs.Questions.{Reply, answer, refused, kept, if_room}
 use Rattle.adjacency.specs.ListsAt.{successors_at, part_of}
 use Rattle.adjacency.specs.ListsAtLaws.{successors_part}
@@ -60,78 +62,21 @@ fits n stmts args falls lists e =
     let c = either_false (ltb falls (n * 3)) (ltb lists (n * 4)) b.1 in
     record { in_stmts = ltb-false stmts (n * 12) a.0; in_args = ltb-false args (n * 64) b.0; in_falls = ltb-false falls (n * 3) c.0; in_lists = ltb-false lists (n * 4) c.1 }
 
--- ---- short tables
+-- ---- a fall, as the code reads it
 
-pub short_stmts : (n stmts args falls lists : ℕ) → stmts / 12 < n → short_tables n stmts args falls lists ≡ true
-unfolding short_tables
-short_stmts n stmts args falls lists h = rw (lt-ltb stmts (n * 12) (omega arith)) refl
+fall_test : (n e : ℕ) (o : Option ℕ) (r : Bool) → option_to_list o ≡ decode e → MatchOption o (r ≡ false) (λ k. r ≡ leb n k) → r ≡ ltb n e
+fall_test n zero None r h m = m ∙ sym (le-ltb n 0 (omega arith))
+fall_test n zero (Some k) r h m = cc
+fall_test n (suc e) None r h m = cc
+fall_test n (suc e) (Some k) r h m = let z : k ≡ e = cc in m ∙ ap (leb n) z ∙ sym (leb-suc-suc n e)
 
-pub short_args : (n stmts args falls lists : ℕ) → n ≤ stmts / 12 → args / 64 < n → short_tables n stmts args falls lists ≡ true
-unfolding short_tables
-short_args n stmts args falls lists a h = rw (le-ltb stmts (n * 12) (omega arith), lt-ltb args (n * 64) (omega arith)) refl
-
-pub short-falls : (n stmts args falls lists : ℕ) → n ≤ stmts / 12 → n ≤ args / 64 → falls / 3 < n → short_tables n stmts args falls lists ≡ true
-unfolding short_tables
-short-falls n stmts args falls lists a b h = rw (le-ltb stmts (n * 12) (omega arith), le-ltb args (n * 64) (omega arith), lt-ltb falls (n * 3) (omega arith)) refl
-
-lists_test : (n lists : ℕ) → ltb (lists / 4) n ≡ ltb lists (n * 4)
-lists_test n lists = go (ltb (lists / 4) n) (ltb lists (n * 4)) refl refl
-  where
-    go : (t u : Bool) → ltb (lists / 4) n ≡ t → ltb lists (n * 4) ≡ u → t ≡ u
-    go true true d e = refl
-    go false false d e = refl
-    go true false d e = absurd (omega (arith, ltb-true (lists / 4) n d, ltb-false lists (n * 4) e))
-    go false true d e = absurd (omega (arith, ltb-false (lists / 4) n d, ltb-true lists (n * 4) e))
-
-pub short_lists : (n stmts args falls lists : ℕ) → n ≤ stmts / 12 → n ≤ args / 64 → n ≤ falls / 3 → ltb (lists / 4) n ≡ short_tables n stmts args falls lists
-unfolding short_tables
-short_lists n stmts args falls lists a b c = rw (le-ltb stmts (n * 12) (omega arith), le-ltb args (n * 64) (omega arith), le-ltb falls (n * 3) (omega arith)) (lists_test n lists)
-
--- ---- what points outside
-
-module _ (lists succ : List ℕ) (i s : ℕ) (e : s ≡ succ_start lists i) where
-  pub part_start : length succ < s → true ≡ part_outside lists succ i
-  unfolding part_outside
-  part_start h = sym (lt-ltb (length succ) (succ_start lists i + succ_count lists i) (omega arith))
-
-  pub part_count : (c : ℕ) → c ≡ succ_count lists i → s ≤ length succ → ltb (length succ - s) c ≡ part_outside lists succ i
-  unfolding part_outside
-  part_count c f h = go (ltb (length succ - s) c) (ltb (length succ) (succ_start lists i + succ_count lists i)) refl refl
-    where
-      go : (t u : Bool) → ltb (length succ - s) c ≡ t → ltb (length succ) (succ_start lists i + succ_count lists i) ≡ u → t ≡ u
-      go true true a b = refl
-      go false false a b = refl
-      go true false a b = absurd (omega (arith, ltb-true (length succ - s) c a, ltb-false (length succ) (succ_start lists i + succ_count lists i) b))
-      go false true a b = absurd (omega (arith, ltb-false (length succ - s) c a, ltb-true (length succ) (succ_start lists i + succ_count lists i) b))
-
-module _ (n : ℕ) (stmts falls : List ℕ) (i : ℕ) where
-  pub fall_call : call_word (get_or stmts (i * 12) 0) ≡ true → ltb n (get_or falls (i * 3) 0) ≡ fall_outside n stmts falls i
-  unfolding fall_outside word_of
-  fall_call e = rw e refl
-
-  pub fall_other : call_word (get_or stmts (i * 12) 0) ≡ false → false ≡ fall_outside n stmts falls i
-  unfolding fall_outside word_of
-  fall_other e = rw e refl
+-- where a call, by its opening word w, falls
+pub fall_call : (n : ℕ) (stmts falls : List ℕ) (i w : ℕ) (o : Option ℕ) (r : Bool) → w ≡ word_of stmts i → call_word w ≡ true → option_to_list o ≡ fall_entry falls i → MatchOption o (r ≡ false) (λ k. r ≡ leb n k)
+    → r ≡ fall_outside n stmts falls i
+unfolding fall_outside fall_entry
+fall_call n stmts falls i w o r d e h m = rw (← d, e) (fall_test n (get_or falls (i * 3) 0) o r h m)
 
 module _ (n : ℕ) (stmts args falls lists succ : List ℕ) (h i : ℕ) where
-  pub outside-short : short_tables n (length stmts) (length args) (length falls) (length lists) ≡ true → true ≡ frame_outside n stmts args falls lists succ h i
-  unfolding frame_outside
-  outside-short e = rw e refl
-
-  module _ (s : short_tables n (length stmts) (length args) (length falls) (length lists) ≡ false) where
-    pub outside_header : part_outside lists succ h ≡ true → true ≡ frame_outside n stmts args falls lists succ h i
-    unfolding frame_outside
-    outside_header e = rw (s, e) refl
-
-    module _ (hd : part_outside lists succ h ≡ false) where
-      pub outside_node : part_outside lists succ i ≡ true → true ≡ frame_outside n stmts args falls lists succ h i
-      unfolding frame_outside
-      outside_node e = rw (s, hd, e) refl
-
-      pub outside_fall : part_outside lists succ i ≡ false → fall_outside n stmts falls i ≡ frame_outside n stmts args falls lists succ h i
-      unfolding frame_outside
-      outside_fall e = rw (s, hd, e) refl
-
   part_inside : (counts : List ℕ) → n ≡ get_or counts 1 0 → (j : ℕ) → j < n → n * 4 ≤ length lists → part_outside lists succ j ≡ false → PartInside counts lists succ j
   unfolding part_outside
   part_inside counts d j l a e = record { is_node = omega arith; in_lists = omega arith; in_succ = ltb-false (length succ) (succ_start lists j + succ_count lists j) e }
@@ -184,25 +129,26 @@ module _ (n : ℕ) (stmts args falls lists succ : List ℕ) (h i : ℕ) where
       pub in_list : answer (tt {0}) ≡ refused_by (no_statement_in lines stmts n i) → if_room room (frame_read stmts args falls lists succ h i k flag) ≡ frame_in lines n stmts args falls lists succ h i k flag room
       in_list f = answer_passes _ _ f ∙ by_record
 
--- ---- the list, by the opening word
+-- ---- the list, by the opening word w and the first argument a
 
-module _ (stmts args falls lists succ : List ℕ) (h i k : ℕ) (flag : Bool) where
-  pub read-ended : ends_frame (get_or stmts (i * 12) 0) (get_or args (i * 64) 0) k ≡ true → [] ≡ frame_read stmts args falls lists succ h i k flag
-  unfolding frame_read word_of
-  read-ended e = rw e refl
+module _ (stmts args falls lists succ : List ℕ) (h i k : ℕ) (flag : Bool) (w a : ℕ) (ew : w ≡ word_of stmts i) (ea : a ≡ get_or args (i * 64) 0) where
+  pub read-ended : ends_frame w a k ≡ true → [] ≡ frame_read stmts args falls lists succ h i k flag
+  unfolding frame_read
+  read-ended e = rw (← ew, ← ea, e) refl
 
-  module _ (e : ends_frame (get_or stmts (i * 12) 0) (get_or args (i * 64) 0) k ≡ false) where
-    pub read_kept : keeps_shared (get_or stmts (i * 12) 0) flag ≡ true → kept (succ_part lists succ h) (succ_part lists succ i) ≡ frame_read stmts args falls lists succ h i k flag
-    unfolding frame_read word_of
-    read_kept f = rw (e, f) refl
+  module _ (e : ends_frame w a k ≡ false) where
+    pub read_kept : keeps_shared w flag ≡ true → (own shared : List ℕ) → own ≡ succ_part lists succ i → shared ≡ succ_part lists succ h → kept shared own ≡ frame_read stmts args falls lists succ h i k flag
+    unfolding frame_read
+    read_kept f own shared eo es = rw (← ew, ← ea, e, f, eo, es) refl
 
-    pub read_call : keeps_shared (get_or stmts (i * 12) 0) flag ≡ false → call_word (get_or stmts (i * 12) 0) ≡ true → fall_entry falls i ≡ frame_read stmts args falls lists succ h i k flag
-    unfolding frame_read word_of
-    read_call f g = rw (e, f, g) refl
+    module _ (f : keeps_shared w flag ≡ false) where
+      pub read_call : call_word w ≡ true → (l : List ℕ) → l ≡ fall_entry falls i → l ≡ frame_read stmts args falls lists succ h i k flag
+      unfolding frame_read
+      read_call g l el = rw (← ew, ← ea, e, f, g) el
 
-    pub read_all : keeps_shared (get_or stmts (i * 12) 0) flag ≡ false → call_word (get_or stmts (i * 12) 0) ≡ false → succ_part lists succ i ≡ frame_read stmts args falls lists succ h i k flag
-    unfolding frame_read word_of
-    read_all f g = rw (e, f, g) refl
+      pub read_all : call_word w ≡ false → (own : List ℕ) → own ≡ succ_part lists succ i → own ≡ frame_read stmts args falls lists succ h i k flag
+      unfolding frame_read
+      read_all g own eo = rw (← ew, ← ea, e, f, g) eo
 
 -- ---- the name
 

@@ -1,2 +1,3 @@
 pub mod FrameAt
 pub mod FrameChecks
+pub mod FromTables

@@ -1,19 +1,21 @@
 // The frame list.
-ghost use Rattle.std.specs.Prelude.{◌≡◌, ◌+◌, ◌*◌, ◌<◌, length, get_or};
-ghost use Rattle.tables.specs.Columns.{succ_part};
-ghost use Rattle.graph.specs.Questions.{kept, if_room};
-ghost use Rattle.frame_lists.specs.FrameAt.{forgets_word, ends_frame, keeps_shared, short_tables, part_outside, fall_outside, frame_outside, frame_read, frame_in, frame_at};
+ghost use Rattle.std.specs.Prelude.{◌≡◌, ◌*◌, length, get_or};
+ghost use Rattle.std.specs.Option.{option_to_list};
+ghost use Rattle.tables.specs.Columns.{word_of, fall_entry};
+ghost use Rattle.graph.specs.Questions.{if_room};
+ghost use Rattle.frame_lists.specs.FrameAt.{forgets_word, ends_frame, keeps_shared, part_outside};
 ghost use Rattle.frame_slices.specs.FrameAnswer.{FrameAnswered};
-ghost use Rattle.frame_lists.specs.FrameChecks.{PartInside, FrameInside};
+ghost use Rattle.frame_lists.specs.FromTables.{short_from, fall_outside_from, FrameInsideFrom, frame_outside_from, frame_read_from, frame_in_from, frame_from};
 
 use adjacency::successors::successors;
 use frame_slices::slices::{copy_list, give_fall, give_nothing, keep_shared};
-use layout::columns::{ARG_ENTRIES, FALL_ENTRIES, LIST_ENTRIES, STMT_ENTRIES, SUCC_COUNT};
+use layout::columns::{ARG_ENTRIES, FALL_ENTRIES, LIST_ENTRIES, STMT_ENTRIES};
 use layout::refusals::{Reason, Refusal};
-use layout::widths::count_of;
 use layout::words::{CLR, FOR, NEXT, RETURN, RUN};
 use statements::statement::no_statement;
 use tables::calls::is_call;
+use tables::counts::Counts;
+use tables::lists::list_ends;
 use tokens::names::key_of;
 
 // The tables that the question reads, whoever wrote them.
@@ -60,100 +62,112 @@ fn keeps_shared(word: u16, flag: bool) -> bool
     word == NEXT && flag
 }
 
-// Of the successors of a NEXT those that the header has.
-fn keep_part(
-    t: &FrameTables<'_>,
-    header: usize,
-    node: usize,
-    out: &mut [u16],
-) -> Result<usize, Refusal>
-    requires { PartInside t.now.counts.now t.now.lists.now t.now.succ.now header × PartInside t.now.counts.now t.now.lists.now t.now.succ.now node }
-    ensures { FrameAnswered (if_room (length out.old) (kept (succ_part t.now.lists.now t.now.succ.now header) (succ_part t.now.lists.now t.now.succ.now node))) out.old out.new result }
-{
-    let own = successors(t.counts, t.lists, t.succ, node);
-    let shared = successors(t.counts, t.lists, t.succ, header);
-    keep_shared(own, shared, out)
-}
-
-// All successors.
-fn copy_part(t: &FrameTables<'_>, node: usize, out: &mut [u16]) -> Result<usize, Refusal>
-    requires { PartInside t.now.counts.now t.now.lists.now t.now.succ.now node }
-    ensures { FrameAnswered (if_room (length out.old) (succ_part t.now.lists.now t.now.succ.now node)) out.old out.new result }
-{
-    copy_list(successors(t.counts, t.lists, t.succ, node), out)
-}
-
-// By the node's opening word.
-fn write_frame(t: &FrameTables<'_>, q: FrameQuestion, out: &mut [u16]) -> Result<usize, Refusal>
-    requires { FrameInside t.now.counts.now t.now.stmts.now t.now.args.now t.now.falls.now t.now.lists.now t.now.succ.now q.header q.node }
-    ensures { FrameAnswered (if_room (length out.old) (frame_read t.now.stmts.now t.now.args.now t.now.falls.now t.now.lists.now t.now.succ.now q.header q.node q.key q.flag)) out.old out.new result }
-{
-    let word = t.stmts[q.node * STMT_ENTRIES];
-    if ends_frame(word, t.args[q.node * ARG_ENTRIES], q.key) {
-        return give_nothing(out);
+impl FrameTables<'_> {
+    // The number of node i's opening word; 0 where the table ends before it, and so are the two below.
+    #[tactic(auto, unfolding(tables::specs::Columns::word_of))]
+    fn word(&self, i: usize) -> u16
+        ensures { result ≡ word_of self.now.stmts.now i }
+    {
+        let at = i.saturating_mul(STMT_ENTRIES);
+        self.stmts.get(at).copied().unwrap_or(0)
     }
-    if keeps_shared(word, q.flag) {
-        return keep_part(t, q.header, q.node, out);
-    }
-    if is_call(word) {
-        return give_fall(t.falls[q.node * FALL_ENTRIES], out);
-    }
-    copy_part(t, q.node, out)
-}
 
-// By division, so that no product can wrap.
-fn short_tables(t: &FrameTables<'_>, n: usize) -> bool
-    ensures { result ≡ short_tables n (length t.now.stmts.now) (length t.now.args.now) (length t.now.falls.now) (length t.now.lists.now) }
-{
-    t.stmts.len() / STMT_ENTRIES < n
-        || (t.args.len() / ARG_ENTRIES < n
-            || (t.falls.len() / FALL_ENTRIES < n || t.lists.len() / LIST_ENTRIES < n))
-}
-
-// By a difference, so that no sum can wrap.
-fn part_outside(t: &FrameTables<'_>, i: usize) -> bool
-    requires { i * 4 + 1 < length t.now.lists.now }
-    ensures { result ≡ part_outside t.now.lists.now t.now.succ.now i }
-{
-    let start = usize::from(t.lists[i * LIST_ENTRIES]);
-    let count = usize::from(t.lists[i * LIST_ENTRIES + SUCC_COUNT]);
-    t.succ.len() < start || t.succ.len() - start < count
-}
-
-// Only a call's fall is read, so only that one is tested.
-fn fall_outside(t: &FrameTables<'_>, n: usize, i: usize) -> bool
-    requires { (i * 12 < length t.now.stmts.now) × (i * 3 < length t.now.falls.now) }
-    ensures { result ≡ fall_outside n t.now.stmts.now t.now.falls.now i }
-{
-    is_call(t.stmts[i * STMT_ENTRIES]) && n < usize::from(t.falls[i * FALL_ENTRIES])
-}
-
-// Whether a used count or a record that the question reads points outside its table.
-fn frame_outside(t: &FrameTables<'_>, n: usize, header: usize, node: usize) -> bool
-    requires { (header < n) × (node < n) }
-    ensures { result ≡ frame_outside n t.now.stmts.now t.now.args.now t.now.falls.now t.now.lists.now t.now.succ.now header node }
-{
-    short_tables(t, n)
-        || (part_outside(t, header) || (part_outside(t, node) || fall_outside(t, n, node)))
-}
-
-// Once the name is known to be one. All is decided before the first entry is written.
-// Kept: `count_of`, since std has no conversion from `u32` to `usize` that cannot fail.
-fn frame_of(t: &FrameTables<'_>, q: FrameQuestion, out: &mut [u16]) -> Result<usize, Refusal>
-    ensures { FrameAnswered (frame_in (get_or t.now.counts.now 0 0) (get_or t.now.counts.now 1 0) t.now.stmts.now t.now.args.now t.now.falls.now t.now.lists.now t.now.succ.now q.header q.node q.key q.flag (length out.old)) out.old out.new result }
-{
-    let n = count_of(t.counts[1]);
-    if n <= q.header {
-        return Err(Reason::NoNode.at(q.header));
+    // Its first argument.
+    fn first_arg(&self, i: usize) -> u64
+        ensures { result ≡ get_or self.now.args.now (i * 64) 0 }
+    {
+        let at = i.saturating_mul(ARG_ENTRIES);
+        self.args.get(at).copied().unwrap_or(0)
     }
-    if n <= q.node {
-        return Err(Reason::NoNode.at(q.node));
+
+    // The node where it falls, or none.
+    #[tactic(auto, unfolding(tables::specs::Columns::fall_entry))]
+    fn fall(&self, i: usize) -> Option<u16>
+        ensures { option_to_list result ≡ fall_entry self.now.falls.now i }
+    {
+        let at = i.saturating_mul(FALL_ENTRIES);
+        self.falls.get(at).copied().unwrap_or(0).checked_sub(1)
     }
-    if frame_outside(t, n, q.header, q.node) {
-        return Err(Reason::Outside.at(0));
+
+    // By the node's opening word.
+    fn write_frame(&self, q: FrameQuestion, out: &mut [u16]) -> Result<usize, Refusal>
+        requires { FrameInsideFrom self.now q.header q.node }
+        ensures { FrameAnswered (if_room (length out.old) (frame_read_from self.now q.header q.node q.key q.flag)) out.old out.new result }
+    {
+        let word = self.word(q.node);
+        if ends_frame(word, self.first_arg(q.node), q.key) {
+            return give_nothing(out);
+        }
+        let own = successors(self.counts, self.lists, self.succ, q.node);
+        if keeps_shared(word, q.flag) {
+            let shared = successors(self.counts, self.lists, self.succ, q.header);
+            return keep_shared(own, shared, out);
+        }
+        if is_call(word) {
+            return give_fall(self.fall(q.node), out);
+        }
+        copy_list(own, out)
     }
-    no_statement(count_of(t.counts[0]), t.stmts, n, q.node)?;
-    write_frame(t, q, out)
+
+    // Whether there are more statements than one of the tables has rows.
+    #[tactic(auto, unfolding(crate::specs::FrameAt::short_tables))]
+    fn short_tables(&self) -> bool
+        ensures { result ≡ short_from self.now }
+    {
+        let n = Counts(self.counts).nodes();
+        self.stmts.len() < n * STMT_ENTRIES
+            || self.args.len() < n * ARG_ENTRIES
+            || self.falls.len() < n * FALL_ENTRIES
+            || self.lists.len() < n * LIST_ENTRIES
+    }
+
+    // Whether node i's successors do not lie in the edge table.
+    #[tactic(auto, unfolding(crate::specs::FrameAt::part_outside))]
+    fn part_outside(&self, i: usize) -> bool
+        ensures { result ≡ part_outside self.now.lists.now self.now.succ.now i }
+    {
+        let (_, end) = list_ends(self.lists, i);
+        self.succ.len() < end
+    }
+
+    // Only a call's fall is read, so only that one is tested.
+    #[tactic(auto, unfolding(crate::specs::FrameAt::fall_outside))]
+    fn fall_outside(&self, i: usize) -> bool
+        ensures { result ≡ fall_outside_from self.now i }
+    {
+        let n = Counts(self.counts).nodes();
+        is_call(self.word(i)) && self.fall(i).is_some_and(|node| n <= usize::from(node))
+    }
+
+    // Whether a used count or a record that the question reads points outside its table.
+    #[tactic(auto, unfolding(crate::specs::FrameAt::frame_outside))]
+    fn frame_outside(&self, header: usize, node: usize) -> bool
+        ensures { result ≡ frame_outside_from self.now header node }
+    {
+        self.short_tables()
+            || self.part_outside(header)
+            || self.part_outside(node)
+            || self.fall_outside(node)
+    }
+
+    // Once the name is known to be one. All is decided before the first entry is written.
+    fn frame_of(&self, q: FrameQuestion, out: &mut [u16]) -> Result<usize, Refusal>
+        ensures { FrameAnswered (frame_in_from self.now q.header q.node q.key q.flag (length out.old)) out.old out.new result }
+    {
+        let used = Counts(self.counts);
+        let n = used.nodes();
+        if n <= q.header {
+            return Err(Reason::NoNode.at(q.header));
+        }
+        if n <= q.node {
+            return Err(Reason::NoNode.at(q.node));
+        }
+        if self.frame_outside(q.header, q.node) {
+            return Err(Reason::Outside.at(0));
+        }
+        no_statement(used.lines(), self.stmts, n, q.node)?;
+        self.write_frame(q, out)
+    }
 }
 
 // The frame question (document 01), on any tables.
@@ -166,7 +180,7 @@ pub fn ask_frame(
     flag: bool,
     out: &mut [u16],
 ) -> Result<usize, Refusal>
-    ensures { FrameAnswered (frame_at (get_or t.now.counts.now 0 0) (get_or t.now.counts.now 1 0) t.now.stmts.now t.now.args.now t.now.falls.now t.now.lists.now t.now.succ.now header node name.now flag (length out.old)) out.old out.new result }
+    ensures { FrameAnswered (frame_from t.now header node name.now flag (length out.old)) out.old out.new result }
 {
     let key = key_of(name).map_err(|reason| reason.at(0))?;
     let q = FrameQuestion {
@@ -175,5 +189,5 @@ pub fn ask_frame(
         key,
         flag,
     };
-    frame_of(t, q, out)
+    t.frame_of(q, out)
 }

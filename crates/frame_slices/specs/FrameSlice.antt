@@ -1,10 +1,9 @@
 -- How the frame list comes into the slice lent for it: the list at its front, zeros behind. Assumes nothing.
-use Rattle.std.specs.Prelude.{ℕ, suc, ◌<◌, ◌≤◌, ◌≡◌, refl, List, [], ◌∷◌, ◌++◌, Result, Ok, Err, length, take, drop, replicate}
+use Rattle.std.specs.Prelude.{ℕ, ◌<◌, ◌≤◌, ◌≡◌, refl, List, [], ◌++◌, Result, Ok, Err, length, take, drop, replicate}
 use Rattle.std.proofs.Common.{sym, ap, subst, ◌∙◌, arith, le-leb, length-append, length-drop, take_at}
 use Rattle.std.proofs.lemmas.Bool.{lt-leb}
 use Rattle.listings.specs.Records.{padded}
 use Rattle.reader.specs.Tables.{padded-nil}
-use Rattle.graph_laws.specs.Adding.{decode}
 use Rattle.layout.specs.Zeroed.{filled_behind}
 use Rattle.layout.specs.declared.refusals.Reason.TheVariants.{NoRoom}
 use Rattle.layout.specs.declared.refusals.Refusal.{Refusal}
@@ -56,9 +55,3 @@ answered-none out t e = answered_by (if_room (length out) []) out t (Ok 0) (answ
 -- by another list that is the same
 pub answered_as : (l m out t : List ℕ) (r : Result ℕ Refusal) → l ≡ m → FrameAnswered (if_room (length out) l) out t r → FrameAnswered (if_room (length out) m) out t r
 answered_as l m out t r e g = subst (λ (z : List ℕ). FrameAnswered (if_room (length out) z) out t r) e g
-
-pub decode-none : (t : ℕ) → t ≡ 0 → [] ≡ decode t
-decode-none t e = ap decode (sym e)
-
-pub decode-some : (t k : ℕ) → t ≡ suc k → ◌≡◌ {A = List ℕ} (k ∷ []) (decode t)
-decode-some t k e = ap decode (sym e)

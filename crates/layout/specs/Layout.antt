@@ -1,5 +1,6 @@
--- The numbers of the layout, each once: the opening words by their places in the table, how many entries a statement has in each table, what stands in
--- them (docs/DECISIONS.md, "Tables"). src has the same numbers for code. Assumes nothing.
+-- The numbers of the layout, each once: the opening words by their places in the table, how many entries a statement
+-- has in each table, what stands in them (docs/DECISIONS.md, "Tables"). src has the same numbers for code. Assumes
+-- nothing.
 use Rattle.std.specs.Prelude.{ℕ, ◌≡◌, refl, [], ◌∷◌, length, get_or}
 use Rattle.listings.specs.Bytes.{bytes, same}
 use Rattle.listings.specs.Rows.{opening_words}

@@ -5,8 +5,8 @@ use Rattle.layout.specs.declared.refusals.Reason.{Reason}
 use Rattle.layout.specs.declared.refusals.Reason.TheVariants as reason
 use Rattle.layout.specs.declared.refusals.Refusal.{Refusal}
 
--- refused because of the input, "within it, the lowest number"; 21 to 28 because of the state, "checked after the input"; 31 and 32 of a graph that is checked, "after all of the listing's
--- refusals"; 33 to 35 of a saved program
+-- refused because of the input, "within it, the lowest number"; 21 to 28 because of the state, "checked after the
+-- input"; 31 and 32 of a graph that is checked, "after all of the listing's refusals"; 33 to 35 of a saved program
 abbrev pub number_of : Reason → ℕ
 -- "text too long (place 0, before all else)"
 number_of reason.TextTooLong = 1
@@ -48,7 +48,8 @@ number_of reason.WrongRow = 32
 number_of reason.EndsEarly = 33
 -- "among a line's bytes (not its link's or number's) a 64 hexadecimal outside quotes, REM and DATA"
 number_of reason.ForeignByte = 34
--- "FOR or NEXT's comma lacks a name, GOTO, GOSUB, ON or its comma a line number, an IF lacks THEN or GOTO or has only spaces after it to the line's end, or a line number exceeds 63999"
+-- "FOR or NEXT's comma lacks a name, GOTO, GOSUB, ON or its comma a line number, an IF lacks THEN or GOTO or has only
+-- spaces after it to the line's end, or a line number exceeds 63999"
 number_of reason.Lacking = 35
 
 abbrev pub refusal_at : Reason → ℕ → Refusal

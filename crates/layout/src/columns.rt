@@ -1,4 +1,5 @@
-// The layout of the lent tables (docs/DECISIONS.md, "Tables"): how many entries a statement has in each, and what stands in them.
+// The layout of the lent tables (docs/DECISIONS.md, "Tables"): how many entries a statement has in each, and what
+// stands in them.
 // Kept: forms, tiers and marks are numbers, as entries that C reads.
 // How many entries the table of line entries has for a line: its number, and its node.
 pub const ENTRY_ENTRIES: usize = 2;
@@ -57,8 +58,8 @@ pub const PRED_START: usize = 2;
 
 pub const PRED_COUNT: usize = 3;
 
-// The build's own rows of frames: after the opener of the frame that a statement closes or joins, the closer of the frame that it opens, and a DOIF's
-// first ELSE or an ELSE's next one.
+// The build's own rows of frames: after the opener of the frame that a statement closes or joins, the closer of the
+// frame that it opens, and a DOIF's first ELSE or an ELSE's next one.
 pub const CLOSER: usize = 1;
 
 pub const ELSE_LINK: usize = 2;

@@ -2,30 +2,30 @@
 ghost use Rattle.std.specs.Prelude.{◌≡◌};
 ghost use Rattle.layout.specs.Refusals.{number_of, refusal_at};
 
-// The reasons in the order of their numbers.
+// The reasons, with the papers' numbers.
 #[derive(Clone, Copy, Debug, PartialEq, Eq)]
 pub enum Reason {
-    TextTooLong,
-    NotAForm,
-    BadWord,
-    LineOrder,
-    TooManyLines,
-    TooManyStatements,
-    TooDeep,
-    TooWide,
-    LineTables,
-    NodeTables,
-    EdgeTables,
-    NoNode,
-    Outside,
-    NoStatement,
-    NotFound,
-    NoRoom,
-    NotARow,
-    WrongRow,
-    EndsEarly,
-    ForeignByte,
-    Lacking,
+    TextTooLong = 1,
+    NotAForm = 2,
+    BadWord = 3,
+    LineOrder = 4,
+    TooManyLines = 5,
+    TooManyStatements = 6,
+    TooDeep = 7,
+    TooWide = 8,
+    LineTables = 21,
+    NodeTables = 22,
+    EdgeTables = 23,
+    NoNode = 24,
+    Outside = 25,
+    NoStatement = 26,
+    NotFound = 27,
+    NoRoom = 28,
+    NotARow = 31,
+    WrongRow = 32,
+    EndsEarly = 33,
+    ForeignByte = 34,
+    Lacking = 35,
 }
 
 // A reason, and the place that the papers give with it.
@@ -40,29 +40,7 @@ impl Reason {
     pub fn number(self) -> u8
         ensures { result ≡ number_of self }
     {
-        match self {
-            Reason::TextTooLong => 1,
-            Reason::NotAForm => 2,
-            Reason::BadWord => 3,
-            Reason::LineOrder => 4,
-            Reason::TooManyLines => 5,
-            Reason::TooManyStatements => 6,
-            Reason::TooDeep => 7,
-            Reason::TooWide => 8,
-            Reason::LineTables => 21,
-            Reason::NodeTables => 22,
-            Reason::EdgeTables => 23,
-            Reason::NoNode => 24,
-            Reason::Outside => 25,
-            Reason::NoStatement => 26,
-            Reason::NotFound => 27,
-            Reason::NoRoom => 28,
-            Reason::NotARow => 31,
-            Reason::WrongRow => 32,
-            Reason::EndsEarly => 33,
-            Reason::ForeignByte => 34,
-            Reason::Lacking => 35,
-        }
+        self as u8
     }
 
     // The refusal for this reason at that place.

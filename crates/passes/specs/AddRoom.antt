@@ -1,6 +1,6 @@
 -- Room for a piece of a list that is about to be added in a part with room for all nodes. Assumes nothing.
 use Rattle.std.specs.Prelude.{ℕ, zero, suc, ◌≤◌, ◌<◌, ◌≡◌, refl, get_or, take, drop}
-use Rattle.std.proofs.Common.{ap, ◌∙◌, arith}
+use Rattle.std.proofs.Common.{sym, ap, ◌∙◌, arith}
 use mathlib.Core.List.{List, [], ◌∷◌, ◌++◌, append-nil}
 use Rattle.std.proofs.Math.ListN.{length}
 use Rattle.std.proofs.Math.Seq.{split_at}
@@ -10,9 +10,10 @@ use Rattle.graph_laws.specs.Adding.{decode}
 use Rattle.graph_laws.specs.EdgeBounds.{Ids}
 use Rattle.graph_laws.specs.Distinct.{dist[]}
 use Rattle.graph_laws.specs.ForLaws.{each_append}
-use Rattle.passes.specs.Growing.{Grown, Grows, RoomFor, grown_room, grows_none, all_left, all_right}
+use Rattle.passes.specs.Growing.{Grown, Grows, RoomFor, grown_room, all_left, all_right}
 
--- all of l may be added behind the first n entries: for some number of nodes all are below it, and the part has room for so many
+-- all of l may be added behind the first n entries: for some number of nodes all are below it, and the part has room
+-- for so many
 pub record RoomToAdd (part : List ℕ) (n : ℕ) (l : List ℕ) : Type 0 where
   pub nodes : ℕ
   pub grown : Grown nodes part n
@@ -51,28 +52,15 @@ room_each f xs p n w q r k h a =
 
 -- ---- the first of a row, if there is one
 
-module _ (row p : List ℕ) (n : ℕ) where
-  pub first-none : length row ≡ 0 → Grows p n p n (each decode (take 1 row))
-  unfolding each
-  first-none e = go row e
-    where
-      go : (l : List ℕ) → length l ≡ 0 → Grows p n p n (each decode (take 1 l))
-      go [] q = grows_none p n
-      go (a ∷ l) q = absurd (omega arith)
+pub first-none : (row : List ℕ) → length row ≡ 0 → [] ≡ each decode (take 1 row)
+unfolding each
+first-none [] q = refl
+first-none (a ∷ l) q = absurd (omega arith)
 
-  first-is : (length row ≡ 0 → ⊥) → each decode (take 1 row) ≡ decode (get_or row 0 0)
-  unfolding each
-  first-is z = go row z
-    where
-      go : (l : List ℕ) → (length l ≡ 0 → ⊥) → each decode (take 1 l) ≡ decode (get_or l 0 0)
-      go [] q = absurd (q refl)
-      go (a ∷ l) q = append-nil (decode a)
-
-  pub first_room : (length row ≡ 0 → ⊥) → RoomToAdd p n (each decode (take 1 row)) → RoomFor p n (get_or row 0 0)
-  first_room z w = room_one p n (get_or row 0 0) (rw (first-is z) at w)
-
-  pub first_one : (q : List ℕ) (r : ℕ) → (length row ≡ 0 → ⊥) → Grows p n q r (decode (get_or row 0 0)) → Grows p n q r (each decode (take 1 row))
-  first_one q r z a = rw (first-is z) a
+pub first-is : (row : List ℕ) → (length row ≡ 0 → ⊥) → decode (get_or row 0 0) ≡ each decode (take 1 row)
+unfolding each
+first-is [] q = absurd (q refl)
+first-is (a ∷ l) q = sym (append-nil (decode a))
 
 -- ---- the same list in other words
 

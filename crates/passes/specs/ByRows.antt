@@ -1,5 +1,6 @@
--- Where RETURNs go back to, where all lists together are too long to store: regions by closed rows of bits. Assumes nothing.
-use Rattle.std.specs.Prelude.{ℕ, ◌*◌, ◌≤◌, ◌<◌, ◌≡◌, Bool, true, false, ◌&&◌, not, List, [], ◌↔◌, ltb, eqb, length, get_or}
+-- Where RETURNs go back to, where all lists together are too long to store: regions by closed rows of bits. Assumes
+-- nothing.
+use Rattle.std.specs.Prelude.{Option, ℕ, ◌*◌, ◌≤◌, ◌<◌, ◌≡◌, Bool, true, false, ◌&&◌, not, List, [], ◌↔◌, ltb, eqb, length, get_or}
 use Rattle.listings.specs.Bytes.{pick}
 use Rattle.listings.specs.Listing.{Listing}
 use Rattle.graph.specs.Graph.{wire, region_return_edges}
@@ -12,6 +13,7 @@ use Rattle.passes.specs.Prepared.{Prepared, Roles}
 use Rattle.passes.specs.Regions.{ReturnsBy, RegionJoined, RegionsJoined, CallsReady}
 use Rattle.passes.specs.WalkTables.{calls_readable}
 use Rattle.passes.specs.Spans.{Spanned}
+use Rattle.passes.specs.declared.spans.Span.{Span}
 
 -- ---- entries
 
@@ -23,7 +25,7 @@ abbrev pub EntriesByRows : (stmts falls links : List ℕ) (n m : ℕ) (rows rows
 EntriesByRows stmts falls links n m rows rows' = (step : ℕ → List ℕ) → OthersClosed step stmts n rows → RegionsJoined stmts falls links step n m rows rows'
 
 -- the calls and their spans are known
-pub record ByRowsReady (stmts falls links : List ℕ) (n : ℕ) (calls spans rows : List ℕ) : Type 0 where
+pub record ByRowsReady (stmts falls links : List ℕ) (n : ℕ) (calls : List ℕ) (spans : List (Option Span)) (rows : List ℕ) : Type 0 where
   pub calls_ready : CallsReady stmts falls links n calls
   pub spanned : Spanned stmts links calls (length calls) spans
   pub in_rows : n * 64 ≤ length rows

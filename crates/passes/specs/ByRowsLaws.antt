@@ -1,5 +1,5 @@
 -- Laws of regions by closed rows of bits: the RETURNs' rows change, the others stay closed. Assumes nothing.
-use Rattle.std.specs.Prelude.{ℕ, ◌+◌, ◌*◌, ◌/◌, ◌≤◌, ◌<◌, ◌≡◌, Bool, ◌⊎◌, ◌↔◌, length, get_or}
+use Rattle.std.specs.Prelude.{Option, ℕ, ◌+◌, ◌*◌, ◌/◌, ◌≤◌, ◌<◌, ◌≡◌, Bool, ◌⊎◌, ◌↔◌, length, get_or}
 use Rattle.std.proofs.Common.{sym, ap, ◌∙◌, inl, inr, ⊎_elim, arith}
 use mathlib.Core.List.Memᴰ
 use mathlib.Core.List.{List, [], Memᴰ}
@@ -8,6 +8,7 @@ use Rattle.listings.specs.Listing.{Listing}
 use Rattle.graph.specs.Graph.{wire, skip_steps, region_return_edges}
 use Rattle.graph_laws.specs.ReturnLists.{region_asc}
 use Rattle.tables.specs.Columns.{word_of}
+use Rattle.passes.specs.declared.spans.Span.{Span}
 use Rattle.passes.specs.Compare.{eq-or}
 use Rattle.passes.specs.Sets.{In, members_of}
 use Rattle.passes.specs.SetLaws.{none_in, members_in, members_are}
@@ -35,7 +36,7 @@ entries_more stmts falls links n m xs ys zs fits s t step o =
     regions_more stmts falls links step n m xs ys zs a (t step (others_kept step stmts n xs ys fits a.size a.others o))
 
 -- the same tables, with other rows
-pub by_rows_again : {stmts falls links : List ℕ} {n : ℕ} {calls spans xs : List ℕ} (ys : List ℕ) → length ys ≡ length xs
+pub by_rows_again : {stmts falls links : List ℕ} {n : ℕ} {calls : List ℕ} {spans : List (Option Span)} {xs : List ℕ} (ys : List ℕ) → length ys ≡ length xs
     → ByRowsReady stmts falls links n calls spans xs → ByRowsReady stmts falls links n calls spans ys
 by_rows_again ys e r = record { calls_ready = r.calls_ready; spanned = r.spanned; in_rows = omega (arith, r.in_rows) }
 

@@ -1,5 +1,5 @@
--- Rows of bits, 64 words a node: where each node leads, and, once they are closed, all that it can reach in one step or more (Warshall).
--- Assumes nothing.
+-- Rows of bits, 64 words a node: where each node leads, and, once they are closed, all that it can reach in one step or
+-- more (Warshall). Assumes nothing.
 use Rattle.std.specs.Prelude.{◌≡◌, ◌⊎◌, ◌↔◌, ℕ, ◌*◌, ◌/◌, ◌≤◌, ◌<◌, length, get_or}
 use mathlib.Core.List.{List, [], Memᴰ}
 use Rattle.graph.specs.Reach.{Reach}
@@ -66,7 +66,8 @@ pub record ClosedTo (n k : ℕ) (rows rows' : List ℕ) : Type 0 where
 
 -- ---- a node and its closed row
 
--- The rows of nodes that are no RETURN hold all that their steps lead to. A RETURN takes no step, and its row may hold anything.
+-- The rows of nodes that are no RETURN hold all that their steps lead to. A RETURN takes no step, and its row may hold
+-- anything.
 pub record OthersClosed (step : ℕ → List ℕ) (stmts : List ℕ) (n : ℕ) (rows : List ℕ) : Type 0 where
   pub returning : (i : ℕ) → i < n → get_or stmts (i * 12) 0 ≡ return_word → step i ≡ []
   pub row : (i : ℕ) → i < n → (get_or stmts (i * 12) 0 ≡ return_word → ⊥) → (j : ℕ) → In (set_of rows i) j ↔ Leads step i j

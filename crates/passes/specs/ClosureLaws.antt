@@ -1,5 +1,5 @@
 -- Laws of the closure: ways below a node, one row, one round, all rounds. Assumes nothing.
-use Rattle.std.specs.Prelude.{◌≡◌, refl, ◌⊎◌, ◌↔◌, ℕ, suc, ◌+◌, ◌*◌, ◌/◌, ◌%◌, ◌^◌, ◌≤◌, ◌<◌, length, get_or, take, drop, replicate}
+use Rattle.std.specs.Prelude.{◌≡◌, refl, ◌⊎◌, ◌↔◌, ℕ, suc, ◌+◌, ◌*◌, ◌/◌, ◌≤◌, ◌<◌, length, get_or, take, drop, replicate}
 use Rattle.std.proofs.Common.{sym, ap, subst, ◌∙◌, inl, inr, add-one, arith, take-suc, length-take-le, get_or-take, ext_get_or}
 use mathlib.Core.List.Memᴰ
 use mathlib.Core.List.{List, [], ◌∷◌, ◌++◌, Memᴰ}
@@ -10,11 +10,11 @@ use Rattle.passes.specs.Compare.{eq-or, lt-or}
 use Rattle.graph_laws.specs.EdgeBounds.{Ids}
 use Rattle.graph.specs.Reach.{Reach, here, on}
 use Rattle.graph_laws.specs.ReachLaws.{Reach·join}
-use Rattle.passes.specs.Sets.{bit, In, inserted, joined, members_of}
+use Rattle.passes.specs.Sets.{In, inserted, joined, members_of}
 use Rattle.passes.specs.SetLaws.{none_in, in_inserted, inserted-length, joined_at, joined_length, in_joined, members_in}
 use Rattle.passes.specs.ReturnSets.{set_of}
 use Rattle.layout.specs.Layout.{return_word}
-use Rattle.passes.specs.ReturnSetLaws.{row_length, row_at, row_same, row_part, row_put}
+use Rattle.passes.specs.ReturnSetLaws.{row_length, row_same, row_part, row_put}
 use Rattle.passes.specs.WalkLaws.{id_at}
 use Rattle.passes.specs.Closure.{Leads, RowsClosed, StepsBelow, Closed, RowIs, Way, one, more, RowJoined, RowsJoined, ClosedTo, OthersClosed, RowReached, RowListed}
 
@@ -65,11 +65,6 @@ module _ (step : ℕ → List ℕ) where
     reach_way i (on {b = v} {c = u} r m) = more (reach_way i r) (steps_in v u m) m
 
 -- ---- rows
-
--- a bit of a row
-pub row_bit : (rows : List ℕ) (i j : ℕ) → i * 64 + 64 ≤ length rows → j < 4096 → get_or rows (i * 64 + j / 64) 0 / 2 ^ (j % 64) % 2 ≡ bit (set_of rows i) j
-unfolding bit
-row_bit rows i j fits h = ap (λ (x : ℕ). x / 2 ^ (j % 64) % 2) (sym (row_at rows i fits (j / 64) (omega arith)))
 
 -- a row joined into an empty one is copied
 pub row_copied : (empty row row' : List ℕ) → empty ≡ replicate 64 0 → length row ≡ 64 → row' ≡ joined empty row → row' ≡ row

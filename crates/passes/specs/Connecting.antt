@@ -202,7 +202,8 @@ module _ (entries : List ℕ) (k : ℕ) (rows : List ℕ) (depth i end next : �
 
 -- ---- the lines, from the last up
 
--- where the statements of line l begin that end at `end`, by the records: all from there on are of that line, and the one before is not
+-- where the statements of line l begin that end at `end`, by the records: all from there on are of that line, and the
+-- one before is not
 pub record Begins (rows : List ℕ) (l end from : ℕ) : Type 0 where
   pub within : from ≤ end
   pub own : (i : ℕ) → from ≤ i → i < end → get_or rows (i * 12 + 1) 0 ≡ l

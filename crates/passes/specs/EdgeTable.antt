@@ -1,4 +1,5 @@
--- The edge table: the nodes' lists one after the other, and for each node a row of four entries that says where its lists stand. Assumes nothing.
+-- The edge table: the nodes' lists one after the other, and for each node a row of four entries that says where its
+-- lists stand. Assumes nothing.
 use Rattle.std.specs.Prelude.{◌≡◌, eqb, take, drop, set}
 use Rattle.std.proofs.Math.Path.{refl, ap}
 use Rattle.std.proofs.Common.{sym, ◌∙◌, eq-eqb, ne_eqb, length-drop, length-set, take-append-drop, drop_of_length-le, drop-cons, drop-drop, take_all, take_at, drop_at, length-take-le, get_or-take, get_or-drop, get_or-append-add, get_or-set_same, get_or-set_other, ext_get_or}

@@ -1,5 +1,5 @@
 -- A row of the table of line entries; the first of its nodes, if there is one. Assumes nothing.
-use Rattle.std.specs.Prelude.{ℕ, zero, suc, ◌+◌, ◌*◌, ◌≡◌, List, [], ◌∷◌, ◌++◌, length, get_or, take}
+use Rattle.std.specs.Prelude.{ℕ, zero, suc, ◌+◌, ◌*◌, ◌≡◌, List, [], ◌∷◌, ◌++◌, get_or, take}
 use Rattle.std.proofs.Common.{sym, ap, ◌∙◌, arith}
 use Rattle.std.proofs.Math.Option.{some}
 use Rattle.std.proofs.Math.ListN.{get_elem?}
@@ -7,10 +7,9 @@ use Rattle.graph.specs.Lists.{each}
 use Rattle.graph.specs.Nodes.{LineEntry, Entries}
 use Rattle.graph_laws.specs.Adding.{node_number, decode}
 use Rattle.tables.specs.EntryRows.{entry_column, column_length, column_at}
-use Rattle.passes.specs.Growing.{Grows, RoomFor}
 use Rattle.passes.specs.LineEntries.{entry_pairs}
 use Rattle.passes.specs.LineSearch.{EntryTable}
-use Rattle.passes.specs.AddRoom.{RoomToAdd, first-none, first_room, first_one}
+use Rattle.passes.specs.AddRoom.{first-none, first-is}
 
 row_of : (ds : List LineEntry) (rest : List ℕ) (i : ℕ) (d : LineEntry) → get_elem? ds i ≡ some d
     → (get_or (entry_pairs ds ++ rest) (i * 2 + 0) 0 ≡ d.0) × (get_or (entry_pairs ds ++ rest) (i * 2 + 1) 0 ≡ node_number d.1)
@@ -28,19 +27,11 @@ pub table_row : {es : Entries} {entries : List ℕ} {k : ℕ} → EntryTable es 
     → (get_or entries (i * 2 + 0) 0 ≡ d.0) × (get_or entries (i * 2 + 1) 0 ≡ node_number d.1)
 table_row {es} t i d e = rw t.listed (row_of es.rows t.rest i d e)
 
-module _ (t p : List ℕ) (n rows : ℕ) where
-  pub column_none : rows ≡ 0 → Grows p n p n (each decode (take 1 (entry_column 1 rows t)))
-  column_none z = first-none (entry_column 1 rows t) p n (column_length 1 rows t ∙ z)
+module _ (t : List ℕ) (rows : ℕ) where
+  pub column_none : rows ≡ 0 → [] ≡ each decode (take 1 (entry_column 1 rows t))
+  column_none z = first-none (entry_column 1 rows t) (column_length 1 rows t ∙ z)
 
-  module _ (z : rows ≡ 0 → ⊥) where
-    not_empty : length (entry_column 1 rows t) ≡ 0 → ⊥
-    not_empty e = z (sym (column_length 1 rows t) ∙ e)
-
-    first_at : get_or (entry_column 1 rows t) 0 0 ≡ get_or t 1 0
-    first_at = column_at 1 rows t 0 (omega arith)
-
-    pub column_room : RoomToAdd p n (each decode (take 1 (entry_column 1 rows t))) → RoomFor p n (get_or t 1 0)
-    column_room w = rw first_at at (first_room (entry_column 1 rows t) p n not_empty w)
-
-    pub column_one : (q : List ℕ) (r : ℕ) → Grows p n q r (decode (get_or t 1 0)) → Grows p n q r (each decode (take 1 (entry_column 1 rows t)))
-    column_one q r a = first_one (entry_column 1 rows t) p n q r not_empty (rw first_at a)
+  pub column_one : (rows ≡ 0 → ⊥) → decode (get_or t 1 0) ≡ each decode (take 1 (entry_column 1 rows t))
+  column_one z =
+      let first_at : get_or (entry_column 1 rows t) 0 0 ≡ get_or t 1 0 = column_at 1 rows t 0 (omega arith) in
+      rw first_at at (first-is (entry_column 1 rows t) (λ e. z (sym (column_length 1 rows t) ∙ e)))

@@ -1,4 +1,5 @@
--- Laws of where statements fall: the definition's nodes have these rows; a list's statements one after the other. Assumes nothing.
+-- Laws of where statements fall: the definition's nodes have these rows; a list's statements one after the other.
+-- Assumes nothing.
 use Rattle.std.specs.Prelude.{ℕ, suc, ◌+◌, ◌*◌, ◌≤◌, ◌<◌, ◌≡◌, List, [], ◌∷◌, ◌++◌, length, get_or, set, replicate, drop}
 use Rattle.std.proofs.Math.Path.{refl}
 use Rattle.std.proofs.Common.{sym, ap, subst, ◌∙◌, append_assoc, arith, add-one, add-zero, length-append, get_or-append-add}

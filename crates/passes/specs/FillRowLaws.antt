@@ -4,22 +4,22 @@ use Rattle.std.proofs.Math.Path.{refl, ap, subst}
 use Rattle.std.proofs.Common.{sym, ◌∙◌, inl, inr, arith}
 use Rattle.std.proofs.Math.Bool.{true, false}
 use mathlib.Core.List.{List, [], ◌++◌}
-use borrow.Author.Tests.{eq-eqb, ne_eqb, eqb-true}
+use borrow.Author.Tests.{eq-eqb, eqb-true}
 use Rattle.std.proofs.Math.ListN.{get_or}
 use Rattle.listings.specs.Bytes.{pick}
 use Rattle.listings.specs.Listing.{Listing}
 use Rattle.passes.specs.Compare.{eq-or}
 use Rattle.graph_laws.specs.EdgeBounds.{Ids}
 use Rattle.graph_laws.specs.Members.{all_map}
-use Rattle.graph.specs.Graph.{Wired, wire, base, skip_steps}
+use Rattle.graph.specs.Graph.{Wired, wire, skip_steps}
 use Rattle.passes.specs.Prepared.{Prepared, KeysKept, Keys, Roles}
-use Rattle.tables.specs.Columns.{call_word, word_of, fall_entry}
-use Rattle.passes.specs.NodeList.{ListIs}
+use Rattle.tables.specs.Columns.{call_word, word_of}
+use Rattle.passes.specs.NodeList.{ListIs, ListMade}
 use Rattle.passes.specs.ReturnSets.{set_of}
 use Rattle.passes.specs.Closure.{RowIs}
 use Rattle.passes.specs.ReturnSetLaws.{row_put, row_same}
 use Rattle.passes.specs.FillRows.{SkipReady, SkipMade, Steps, in_pass, passes, RowReady, RowFilled, PassReady, PassFilled, FillReady, RowsFilled}
-use Rattle.passes.specs.SkipLists.{skip_ids, list-none}
+use Rattle.passes.specs.SkipLists.{skip_ids, skip_list, skip_list_lem}
 
 -- ---- a node's steps by its word
 
@@ -28,18 +28,13 @@ pub skip_none : (W : Wired) (stmts falls links : List ℕ) (n i : ℕ) → Roles
 unfolding word_of call_word
 skip_none W stmts falls links n i r h e = r.skipping i h ∙ rw e
 
--- as they stand at the front of a part
-module _ (W : Wired) (stmts falls links : List ℕ) (n i : ℕ) (r : Roles W stmts falls links n) (h : i < n) (part : List ℕ) where
-  pub skip_return : get_or stmts (i * 12) 0 ≡ 9 → ListIs (skip_steps W i) part part 0
-  skip_return e = rw (skip_none W stmts falls links n i r h e) (list-none part)
-
-  pub skip_call : (part' : List ℕ) (c : ℕ) → call_word (get_or stmts (i * 12) 0) ≡ true → ListIs (fall_entry falls i) part part' c → ListIs (skip_steps W i) part part' c
-  unfolding word_of
-  skip_call part' c e s = let q : skip_steps W i ≡ fall_entry falls i = r.skipping i h ∙ rw e in rw q s
-
-  pub skip_other : (part' : List ℕ) (c : ℕ) → call_word (get_or stmts (i * 12) 0) ≡ false → (get_or stmts (i * 12) 0 ≡ 9 → ⊥) → ListIs (base W i) part part' c → ListIs (skip_steps W i) part part' c
-  unfolding word_of
-  skip_other part' c e ne s = let q : skip_steps W i ≡ base W i = r.skipping i h ∙ rw (e, ne_eqb (get_or stmts (i * 12) 0) 9 ne) in rw q s
+-- the node's list, and then what skipping paths follow of it, at the front of a part
+pub skip_made : {stmts args entries falls links frames dispatched : List ℕ} {lines i : ℕ} {part part₁ part₂ : List ℕ} {count r : ℕ} → ListMade stmts args entries falls links frames dispatched lines i part part₁ count
+    → ListIs (skip_list stmts falls i (take count part₁)) part₁ part₂ r → SkipMade stmts args entries falls links frames dispatched lines i part part₂ r
+skip_made {stmts} {args} {entries} {falls} {links} {frames} {dispatched} {lines} {i} {part} {part₁} {part₂} {count} {r} m k = λ L ks n P R K l h.
+    let o = m L ks n P K l h in
+    let e : skip_list stmts falls i (take count part₁) ≡ skip_steps (wire L) i = ap (skip_list stmts falls i) o.list ∙ sym (skip_list_lem R i h) in
+    record { count = k.count ∙ ap length e; list = k.list ∙ e; size = k.size ∙ o.size; within = omega (arith, k.within, o.size) }
 
 -- ---- a pass
 

@@ -1,4 +1,5 @@
--- The rows of arguments, filled with where the nodes step on a skipping path: first those of the NEXTs, whose lists read arguments. Assumes nothing.
+-- The rows of arguments, filled with where the nodes step on a skipping path: first those of the NEXTs, whose lists
+-- read arguments. Assumes nothing.
 use Rattle.std.specs.Prelude.{ℕ, ◌+◌, ◌*◌, ◌/◌, ◌≤◌, ◌<◌, ◌≡◌, Bool, true, not, ◌↔◌, eqb, length, get_or}
 use mathlib.Core.List.{List, Memᴰ}
 use Rattle.layout.specs.Layout.{next_word}

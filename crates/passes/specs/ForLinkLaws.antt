@@ -1,4 +1,5 @@
--- The pass over the FOR stack makes the rows of links; each NEXT's row lists what PerNode says that it pops. Assumes nothing.
+-- The pass over the FOR stack makes the rows of links; each NEXT's row lists what PerNode says that it pops. Assumes
+-- nothing.
 use Prim.Native.Nat.{ℕ, zero, suc, ◌+◌, ◌*◌, ◌≤◌, ◌<◌}
 use Rattle.std.specs.Prelude.{◌≡◌, Bool}
 use Rattle.std.proofs.Math.Path.{refl, sym, ap, subst}

@@ -1,4 +1,5 @@
--- The FOR stack as the tables have it: the open FORs by their ids, newest first; a FOR's name is the first key of its row of arguments. Assumes nothing.
+-- The FOR stack as the tables have it: the open FORs by their ids, newest first; a FOR's name is the first key of its
+-- row of arguments. Assumes nothing.
 use Rattle.std.specs.Prelude.{ℕ, zero, suc, ◌+◌, ◌*◌, ◌≤◌, ◌≡◌, Bool, ◌||◌, List, [], ◌∷◌, ◌++◌, eqb, length, get_or, take, drop}
 use Rattle.std.proofs.Math.Option.{Option, none, some}
 use Rattle.layout.specs.Layout.{for_word, next_word}

@@ -1,4 +1,5 @@
--- One node's step on the loop stack or on the DO stack, and the table of frames as the passes write it. Assumes nothing.
+-- One node's step on the loop stack or on the DO stack, and the table of frames as the passes write it. Assumes
+-- nothing.
 use Rattle.std.specs.Prelude.{ℕ, zero, suc, ◌+◌, ◌*◌, ◌<◌, ◌≤◌, ◌≡◌, Bool, true, false, ◌||◌, List, eqb, leb, length, get_or, set}
 use Rattle.std.proofs.Math.ListN.{get_elem?}
 use Rattle.layout.specs.Layout.{exit_word, exitif_word, else_word}
@@ -70,7 +71,8 @@ pub record MetFrames (words : List ℕ) (n : ℕ) (t : List ℕ) : Type 0 where
 abbrev pub else_linked : ℕ → ℕ → List ℕ → List ℕ
 else_linked i o t = set (set t (i * 3 + 2) (get_or t (o * 3 + 2) 0)) (o * 3 + 2) (suc i)
 
--- node i with the opening word w, which meets the frame of opener o: an ELSE is linked to the other ELSEs, a closer is that of the frame
+-- node i with the opening word w, which meets the frame of opener o: an ELSE is linked to the other ELSEs, a closer is
+-- that of the frame
 unfoldable pub linked_to : ℕ → ℕ → ℕ → List ℕ → List ℕ
 linked_to w i zero t = t
 linked_to w i (suc o) t = pick (eqb w else_word) (else_linked i o t) (pick (eqb w exit_word || eqb w exitif_word) t (set t (o * 3 + 1) (suc i)))

@@ -1,4 +1,5 @@
--- A stack of frames as marks in words: the opener i is bit i % 64 of word i / 64; openers ascend, so that the highest mark is the top. Assumes nothing.
+-- A stack of frames as marks in words: the opener i is bit i % 64 of word i / 64; openers ascend, so that the highest
+-- mark is the top. Assumes nothing.
 use Rattle.std.specs.Prelude.{◌≡◌, List, [], ◌∷◌, ◌++◌, ℕ, zero, suc, ◌+◌, ◌-◌, ◌*◌, ◌/◌, ◌%◌, ◌^◌, ◌≤◌, ◌<◌, eqb, length, get_or, set, take, replicate}
 use Rattle.std.specs.Int.Count.{count_leading_zeros}
 use Rattle.listings.specs.Bytes.{pick}

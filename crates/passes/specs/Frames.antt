@@ -1,5 +1,5 @@
--- The table of frames: for each node the opener of the frame that it closes or joins, the closer of the frame that it opens, the next ELSE of its DOIF.
--- A node is one more than its id, none is 0. Assumes nothing.
+-- The table of frames: for each node the opener of the frame that it closes or joins, the closer of the frame that it
+-- opens, the next ELSE of its DOIF. A node is one more than its id, none is 0. Assumes nothing.
 use Rattle.std.specs.Prelude.{ℕ, suc, ◌*◌, ◌≡◌, Bool, List, [], ◌∷◌, eqb, ltb, length, drop, get_or}
 use Rattle.std.proofs.Math.Option.{Option, none, some}
 use Rattle.std.proofs.Math.ListN.{get_elem?}
@@ -70,7 +70,8 @@ unfoldable pub do_met_of : Option Fact → Met
 do_met_of none = nothing
 do_met_of (some f) = f.do_met
 
--- of node r: an ELSE has the next ELSE of its DOIF, any other node has the first ELSE, from node k on, that has joined its own frame
+-- of node r: an ELSE has the next ELSE of its DOIF, any other node has the first ELSE, from node k on, that has joined
+-- its own frame
 unfoldable pub else_entry : List Fact → ℕ → ℕ → Met → ℕ
 else_entry fs k r nothing = next_where (is_else_of r) k fs
 else_entry fs k r (closing o) = next_where (is_else_of r) k fs

@@ -1,4 +1,5 @@
--- Laws of the table of links: a row's entries, one turn at a time, and what the reader's records say of them. Assumes nothing.
+-- Laws of the table of links: a row's entries, one turn at a time, and what the reader's records say of them. Assumes
+-- nothing.
 use Rattle.std.specs.Prelude.{ℕ, zero, suc, ◌+◌, ◌*◌, ◌-◌, ◌≤◌, ◌<◌, ◌≡◌, refl, Bool, true, false, not, List, [], ◌∷◌, ◌++◌, eqb, leb, length, get_or, set, take, drop, replicate}
 use Rattle.std.proofs.Common.{sym, ap, ◌∙◌, append_assoc, arith, add-one, leb-true, le-leb, ne_eqb, length-append, length-take, length-drop, length-set, take-append-drop, take_at, take-suc, take_all}
 use Rattle.std.proofs.Math.Option.{none, some}

@@ -80,3 +80,4 @@ pub mod GraphReads
 pub mod ByRows
 pub mod ByRowsLaws
 pub mod TableForms
+pub mod Tested

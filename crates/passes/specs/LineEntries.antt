@@ -1,4 +1,5 @@
--- The table of line entries, and the two passes that fill it: a line's first statement, then the next line's entry for a line without. Assumes nothing.
+-- The table of line entries, and the two passes that fill it: a line's first statement, then the next line's entry for
+-- a line without. Assumes nothing.
 use Rattle.std.specs.Prelude.{ℕ, zero, suc, ◌+◌, ◌*◌, ◌-◌, ◌<◌, ◌≤◌, ◌≡◌, refl, set, drop, replicate}
 use Rattle.std.proofs.Math.Path.{ap, sym}
 use Rattle.std.proofs.Common.{◌∙◌, add-one, sub-one, arith, length-append, drop_of_length-le, set-set, ext_get_or}

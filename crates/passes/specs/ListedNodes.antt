@@ -1,4 +1,5 @@
--- A list of nodes as the tables hold it: the entries of the records that the passes over FOR and NEXT read. Assumes nothing.
+-- A list of nodes as the tables hold it: the entries of the records that the passes over FOR and NEXT read. Assumes
+-- nothing.
 use Rattle.std.specs.Prelude.{ℕ, ◌+◌, ◌*◌, ◌<◌, ◌≤◌, ◌≡◌, refl, Bool, true, false, List, [], ◌∷◌, eqb, length, get_or, take, drop}
 use Rattle.std.proofs.Common.{sym, ap, subst, ◌∙◌, arith, length-drop, ext_get_or, get_or-take, get_or-drop, length-take-le, eq-eqb, ne_eqb}
 use Rattle.std.proofs.Math.Option.{Option, some}

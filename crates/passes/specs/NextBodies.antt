@@ -1,7 +1,8 @@
--- What a NEXT's list gets of FORs: the bodies of those that it pops, and of the dispatched ones that an orphan's slots select. Assumes nothing.
+-- What a NEXT's list gets of FORs: the bodies of those that it pops, and of the dispatched ones that an orphan's slots
+-- select. Assumes nothing.
 use Rattle.std.specs.Prelude.{ℕ, zero, suc, ◌+◌, ◌*◌, ◌-◌, ◌≤◌, ◌<◌, ◌≡◌, Bool, ◌||◌, eqb, length, take, drop}
 use Rattle.std.proofs.Math.Path.{refl}
-use Rattle.std.proofs.Common.{sym, subst, ◌∙◌, add-one, drop-cons}
+use Rattle.std.proofs.Common.{sym, ◌∙◌, add-one, drop-cons}
 use Rattle.std.proofs.Math.Bool.{true, false}
 use mathlib.Core.List.{List, [], ◌∷◌, append-nil}
 use native.Mathlib.Omega.{arith}
@@ -18,6 +19,7 @@ use Rattle.graph_laws.specs.ForLaws.{each_append}
 use Rattle.passes.specs.ListedNodes.{keys_at}
 use Rattle.passes.specs.ForLinks.{popped_by}
 use Rattle.passes.specs.Growing.{Grown, Grows, RoomFor, grown_room, grows_none, all_left, all_right}
+use Rattle.passes.specs.Closing.{fall_by, fall_from}
 use Rattle.passes.specs.AddedAgain.{AllIn, grows_again}
 
 -- es: where nodes fall, 3 entries a node. Of m nodes, each falls to one of them or nowhere
@@ -50,19 +52,6 @@ orphan_bodies ts ks es os i = pick (eqb (get_or ts (i * 12) 0) next_word) (pick 
 
 -- ---- room: for some number of nodes all that may be added is below it
 
-pub record LinksRoom (es row part : List ℕ) (n : ℕ) : Type 0 where
-  pub nodes : ℕ
-  pub grown : Grown nodes part n
-  pub falls : FallsFit nodes es
-  pub links : All (λ (t : ℕ). t ≤ nodes) row
-
-pub record PoppedRoom (es t : List ℕ) (i count : ℕ) (part : List ℕ) (n : ℕ) : Type 0 where
-  pub row : i * 64 + count ≤ length t
-  pub nodes : ℕ
-  pub grown : Grown nodes part n
-  pub falls : FallsFit nodes es
-  pub popped : Ids nodes (popped_by t i count)
-
 pub record SelectRoom (ks es os part : List ℕ) (n : ℕ) : Type 0 where
   pub nodes : ℕ
   pub grown : Grown nodes part n
@@ -71,10 +60,6 @@ pub record SelectRoom (ks es os part : List ℕ) (n : ℕ) : Type 0 where
   pub ids : Ids nodes os
 
 -- one link, one FOR
-pub record LinkRoom (es : List ℕ) (t : ℕ) (part : List ℕ) (n : ℕ) : Type 0 where
-  pub table : t * 3 ≤ length es
-  pub room : (t ≡ 0 → ⊥) → RoomFor part n (get_or es ((t - 1) * 3) 0)
-
 pub record ForRoom (ks es : List ℕ) (o : ℕ) (part : List ℕ) (n : ℕ) : Type 0 where
   pub args : o * 64 < length ks
   pub falls : o * 3 < length es
@@ -101,10 +86,6 @@ module _ (m : ℕ) (es : List ℕ) (f : FallsFit m es) where
   unfolding body_at
   body_fits o h = decode-fits m (get_or es (o * 3) 0) (f.fits o h)
 
-  link_fits : (t : ℕ) → t ≤ m → Ids m (link_body es t)
-  unfolding link_body
-  link_fits t h = all-each (body_at es) body_fits (decode-fits m t h)
-
   selected_fits : (ks : List ℕ) (key o : ℕ) → o < m → Ids m (selected_body ks es key o)
   unfolding selected_body
   selected_fits ks key o h = go (selects_key key (get_or ks (o * 64) 0))
@@ -124,15 +105,6 @@ module _ (m : ℕ) (es : List ℕ) (f : FallsFit m es) where
 
 -- ---- so there is room at each turn
 
-module _ (es row p q : List ℕ) (n r k : ℕ) (w : LinksRoom es row p n) (a : Grows p n q r (each (link_body es) (take k row))) where
-  pub link_room : k < length row → LinkRoom es (get_or row k 0) q r
-  link_room h =
-      let m = w.nodes in
-      let f = w.falls in
-      let t = all_get w.links k h in
-      let g = a.grown m w.grown (all-each (link_body es) (link_fits m es f) (all_take k w.links)) in
-      record { table = omega (arith, t, f.table); room = λ z. grown_room m q r (get_or es ((get_or row k 0 - 1) * 3) 0) g (f.fits (get_or row k 0 - 1) (omega (arith, t))) }
-
 module _ (ks es os p q : List ℕ) (key n r k : ℕ) (w : SelectRoom ks es os p n) (a : Grows p n q r (each (selected_body ks es key) (take k os))) where
   pub for_room : k < length os → ForRoom ks es (get_or os k 0) q r
   for_room h =
@@ -148,20 +120,11 @@ slot_room ks es os vs p q n r k w a =
 
 -- ---- one link, one FOR
 
-pub link_fit : (es p : List ℕ) (n t u : ℕ) → u ≡ t → (t ≡ 0 → ⊥) → LinkRoom es t p n → RoomFor p n (get_or es ((u - 1) * 3) 0)
-link_fit es p n t u e z w = rw e (w.room z)
-
-pub link_none : (es p : List ℕ) (n t : ℕ) → t ≡ 0 → Grows p n p n (link_body es t)
-unfolding link_body each
-link_none es p n zero e = grows_none p n
-link_none es p n (suc t) e = absurd (omega arith)
-
-pub link_one : (es p q : List ℕ) (n r t u : ℕ) → u ≡ t → (t ≡ 0 → ⊥) → Grows p n q r (decode (get_or es ((u - 1) * 3) 0)) → Grows p n q r (link_body es t)
-unfolding link_body body_at each
-link_one es p q n r zero u i z a = absurd (z refl)
-link_one es p q n r (suc t) u i z a =
-    let e : u - 1 ≡ t = omega arith in
-    rw (append-nil (decode (get_or es (t * 3) 0))) (subst (λ (x : ℕ). Grows p n q r (decode (get_or es (x * 3) 0))) e a)
+-- where the node t - 1 falls
+pub link_is : (es : List ℕ) (t : ℕ) → fall_from es t ≡ link_body es t
+unfolding fall_from fall_by link_body body_at each
+link_is es zero = refl
+link_is es (suc j) = sym (append-nil (decode (get_or es (j * 3) 0)))
 
 pub selects_any : (key name : ℕ) → key ≡ 0 → true ≡ selects_key key name
 unfolding selects_key
@@ -236,25 +199,9 @@ unfolding each
 each-each f g [] = refl
 each-each f g (a ∷ l) = rw (each-each f g l) (sym (each_append g (f a) (each f l)))
 
-module _ (es t : List ℕ) (i count : ℕ) where
-  links_joined : each (link_body es) (take (i * 64 + count - i * 64) (drop (i * 64) t)) ≡ each (body_at es) (popped_by t i count)
-  unfolding link_body popped_by
-  links_joined = let z : i * 64 + count - i * 64 ≡ count = omega arith in rw z (each-each decode (body_at es) (take count (drop (i * 64) t)))
-
-  pub links_added : (p q : List ℕ) (n r : ℕ) → Grows p n q r (each (link_body es) (take (i * 64 + count - i * 64) (drop (i * 64) t))) → Grows p n q r (each (body_at es) (popped_by t i count))
-  links_added p q n r a = rw links_joined at a
-
-  row_fits : (m : ℕ) (row : List ℕ) → Ids m (each decode row) → All (λ (x : ℕ). x ≤ m) row
-  unfolding each
-  row_fits m [] h = all[]
-  row_fits m (zero ∷ row) h = all∷ {a = 0} (omega arith) (row_fits m row h)
-  row_fits m (suc x ∷ row) (all∷ p h) = all∷ p (row_fits m row h)
-
-  pub popped_room : (p : List ℕ) (n : ℕ) → PoppedRoom es t i count p n → LinksRoom es (take (i * 64 + count - i * 64) (drop (i * 64) t)) p n
-  unfolding popped_by
-  popped_room p n w =
-      let z : i * 64 + count - i * 64 ≡ count = omega arith in
-      record { nodes = w.nodes; grown = w.grown; falls = w.falls; links = rw z (row_fits w.nodes (take count (drop (i * 64) t)) w.popped) }
+pub links_joined : (es t : List ℕ) (i count : ℕ) → each (link_body es) (take count (drop (i * 64) t)) ≡ each (body_at es) (popped_by t i count)
+unfolding link_body popped_by
+links_joined es t i count = each-each decode (body_at es) (take count (drop (i * 64) t))
 
 -- ---- an orphan's slots
 

@@ -1,4 +1,5 @@
--- What a NEXT's list gets of FORs is what the definition says: the bodies of those that it pops, and an orphan's targets. Assumes nothing.
+-- What a NEXT's list gets of FORs is what the definition says: the bodies of those that it pops, and an orphan's
+-- targets. Assumes nothing.
 use Rattle.std.specs.Prelude.{ℕ, zero, suc, ◌+◌, ◌*◌, ◌≤◌, ◌<◌, ◌≡◌, length, get_or}
 use Rattle.std.proofs.Math.Path.{refl, sym, ap}
 use Rattle.std.proofs.Common.{◌∙◌, arith}

@@ -1,4 +1,5 @@
--- A node's list by itself, from the tables: what its statement adds, by the number of its opening word. Assumes nothing.
+-- A node's list by itself, from the tables: what its statement adds, by the number of its opening word. Assumes
+-- nothing.
 use Rattle.std.specs.Prelude.{ℕ, ◌+◌, ◌*◌, ◌≤◌, ◌<◌, ◌≡◌, Bool, ◌||◌, not, List, [], ◌++◌, eqb, ltb, length, get_or, take, drop}
 use Rattle.layout.specs.Layout.{goto_word, run_word, for_word, next_word, until_word, endloop_word, exit_word, else_word, stop_word, any_word, ongoto_word}
 use Rattle.listings.specs.Bytes.{pick}
@@ -7,14 +8,15 @@ use Rattle.graph.specs.Lists.{each}
 use Rattle.graph_laws.specs.Adding.{decode}
 use Rattle.graph.specs.Graph.{wire, base}
 use Rattle.passes.specs.ForLinks.{popped_by}
-use Rattle.passes.specs.NextBodies.{body_at, link_body, PoppedRoom}
+use Rattle.passes.specs.NextBodies.{body_at, link_body}
 use Rattle.passes.specs.AddRoom.{RoomToAdd}
 use Rattle.passes.specs.EntryOrder.{Rises}
 use Rattle.passes.specs.Prepared.{Prepared, Keys, link_entries}
 use Rattle.tables.specs.Columns.{word_of, fall_entry}
 use Rattle.tables.specs.EntryRows.{entry_column}
 
--- ---- what a statement adds to its own list, as Edges.own says it; ts, en, fs, ls, fr: the tables of statements, entries, falls, links and frames
+-- ---- what a statement adds to its own list, as Edges.own says it; ts, en, fs, ls, fr: the tables of statements,
+-- entries, falls, links and frames
 
 -- a RUN: its target, or the first line's entry
 unfoldable pub run_edges : (ts en ls : List ℕ) (lines i : ℕ) → List ℕ
@@ -59,9 +61,7 @@ pub record OwnRoom (ts en fs ls fr : List ℕ) (lines i : ℕ) (part : List ℕ)
   pub falls : i * 3 + 3 ≤ length fs
   pub links : i * 64 + 64 ≤ length ls
   pub frames : i * 3 + 3 ≤ length fr
-  pub opener : get_or fr (i * 3) 0 * 3 ≤ length fs
   pub few : 7 ≤ get_or ts (i * 12) 0 → get_or ts (i * 12 + 10) 0 ≤ 64
-  pub popped : get_or ts (i * 12) 0 ≡ next_word → PoppedRoom fs ls i (get_or ts (i * 12 + 10) 0) part n
   pub rises : Rises 0 (entry_column 1 lines en)
   pub room : RoomToAdd part n (own_edges ts en fs ls fr lines i)
 

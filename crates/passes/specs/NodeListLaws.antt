@@ -1,12 +1,11 @@
 -- What a statement adds to its own list, case by case as the code goes. Assumes nothing.
-use Rattle.std.specs.Prelude.{ℕ, zero, suc, ◌+◌, ◌*◌, ◌-◌, ◌≤◌, ◌<◌, ◌≡◌, refl, true, false, not, List, [], ◌++◌, eqb, length, get_or, take, drop}
-use Rattle.std.proofs.Common.{sym, append-nil, arith, sub-one}
+use Rattle.std.specs.Prelude.{ℕ, ◌+◌, ◌*◌, ◌-◌, ◌≤◌, ◌<◌, ◌≡◌, true, false, not, List, [], ◌++◌, eqb, get_or, take, drop}
+use Rattle.std.proofs.Common.{sym, append-nil, arith}
 use borrow.Author.Tests.{lt-ltb, le-ltb, ne_eqb}
 use Rattle.graph.specs.Lists.{each}
 use Rattle.graph_laws.specs.Adding.{decode}
 use Rattle.passes.specs.ForLinks.{popped_by}
-use Rattle.passes.specs.NextBodies.{body_at, link_body, LinkRoom}
-use Rattle.passes.specs.AddRoom.{RoomToAdd, room_one}
+use Rattle.passes.specs.NextBodies.{body_at, link_body}
 use Rattle.tables.specs.Columns.{word_of, fall_entry}
 use Rattle.passes.specs.Prepared.{link_entries}
 use Rattle.tables.specs.EntryRows.{entry_column}
@@ -92,12 +91,6 @@ module _ (w : ℕ) where
   pub others_fall : (w ≡ 19 → ⊥) → (w ≡ 22 → ⊥) → not (eqb w 25) ≡ falls_word w
   unfolding falls_word
   others_fall x y = rw (ne_eqb w 19 x, ne_eqb w 22 y)
-
--- where the node t - 1 falls
-pub body_room : (fs p : List ℕ) (n t : ℕ) → t * 3 ≤ length fs → RoomToAdd p n (link_body fs t) → LinkRoom fs t p n
-unfolding link_body body_at each
-body_room fs p n zero h w = record { table = h; room = λ z. absurd (z refl) }
-body_room fs p n (suc o) h w = record { table = h; room = λ z. rw (sub-one (suc o)) (room_one p n (get_or fs (o * 3) 0) (rw append-nil at w)) }
 
 -- ---- all words
 

@@ -18,20 +18,18 @@ use Rattle.graph.specs.Targets.{target_entries}
 use Rattle.graph.specs.Edges.{closes, Moves, on_stack, node_moves, loop_stack, do_stack}
 use Rattle.graph.specs.Graph.{wire}
 use Rattle.graph_laws.specs.GraphLaws.{node_count, fits}
-use Rattle.graph_laws.specs.EdgeBounds.{Ids}
 use Rattle.graph_laws.specs.PerNode.{Met, nothing, closing, joining, meets, move_on, met_on, no_openers, Fact, facts, fall_at, body_met}
 use Rattle.graph_laws.specs.PerNodeLaws.{length-facts}
 use Rattle.passes.specs.OpenerLaws.{some_at, MetIs, open_at, met_at, met-below}
 use Rattle.passes.specs.Frames.{met_number, either_met, frame_met, met_entry}
 use Rattle.passes.specs.FrameRows.{met_entry_lem}
 use Rattle.passes.specs.FramePassLaws.{either_nothing}
-use Rattle.passes.specs.LinkLaws.{frame_below}
 use Rattle.passes.specs.ClosingLaws.{number_below}
 use Rattle.passes.specs.ListedNodes.{Listed, FallsListed}
 use Rattle.passes.specs.ForLinks.{linked_rows, popped_by}
 use Rattle.passes.specs.ForLinkLaws.{other_links}
 use Rattle.passes.specs.NextBodies.{FallsFit, body_at}
-use Rattle.passes.specs.NextBodyLaws.{body_is, next_ids, next_bodies}
+use Rattle.passes.specs.NextBodyLaws.{body_is, next_bodies}
 use Rattle.tables.specs.EntryRows.{entry_column}
 use Rattle.passes.specs.LineSearch.{EntryTable, table-nodes, entry_table}
 use Rattle.passes.specs.EntryOrder.{all-entries, first_entry_lem}
@@ -87,12 +85,6 @@ module _ (fs : List ℕ) (F : List Fact) (i n : ℕ) (lt : i < n) (bodies : (o :
 
 -- ---- all tables
 
-met_within : (i : ℕ) (m : Met) → MetIs (λ (o : ℕ). o < i) m → met_number m ≤ i
-unfolding met_number
-met_within i nothing h = omega arith
-met_within i (closing o) h = h
-met_within i (joining o) h = h
-
 module _ {L : Listing} {stmts ks entries falls links frames dispatched : List ℕ} {lines n : ℕ} (P : Prepared L stmts ks entries falls links frames dispatched lines n) where
   pub falling : FallsListed falls (wire L).nodes
   falling = falls-listed (wire L).entries (wire L).nodes (length falls) falls P.falling
@@ -135,10 +127,6 @@ module _ {L : Listing} {stmts ks entries falls links frames dispatched : List �
       links_room : length (wire L).nodes * 64 ≤ length (linked (wire L).entries (replicate (length links) 0) 0 (wire L).nodes)
       links_room = omega (arith, linked-length (wire L).entries (replicate (length links) 0) 0 (wire L).nodes, length-replicate {A = ℕ} (length links) 0, P.links_fit, P.nodes_are)
 
-      pub popped-ids : Ids n (popped_by links i (get_or stmts (i * 12 + 10) 0))
-      unfolding link_table
-      popped-ids = rw (e, P.linking, P.nodes_are) (next_ids stmts ks falls (wire L).nodes P.listed _ links_room i f ef m ss s below-count)
-
       pub popped-bodies : each (body_at falls) (popped_by links i (get_or stmts (i * 12 + 10) 0)) ≡ each (fall_at (facts 0 (wire L).nodes no_openers)) f.popped
       unfolding link_table
       popped-bodies = rw (e, P.linking) (next_bodies stmts ks falls (wire L).nodes P.listed _ links_room i f ef m ss s below-count falling)
@@ -148,10 +136,6 @@ module _ {L : Listing} {stmts ks entries falls links frames dispatched : List �
     met_number_here =
         let F = facts 0 (wire L).nodes no_openers in
         ap (λ (t : List ℕ). get_or t (i * 3) 0) P.framed ∙ met_entry_lem F (length frames) i (omega (arith, length-facts 0 (wire L).nodes no_openers, below-count)) ∙ ap met_entry ef
-
-    -- the opener of the frame that it closes or joins comes before it
-    pub opener_fits : get_or frames (i * 3) 0 * 3 ≤ length falls
-    opener_fits = omega (arith, met_number_here, met_within i (frame_met f) (frame_below stmts (wire L).nodes (λ j y e. (P.listed j y e).word) i f ef), P.falls_fit)
 
     pub body_of : node_moves x.stmt ≡ on_stack loop_stack closes → BodyIs falls (get_or frames (i * 3) 0) (body_met (facts 0 (wire L).nodes no_openers) f.loop_met)
     unfolding on_stack met_on move_on meets frame_met

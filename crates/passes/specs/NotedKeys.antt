@@ -1,4 +1,5 @@
--- The keys of FORs are noted in a set, by their remainders. Names may share one: a key that is noted may be open, one that is not cannot be. Assumes nothing.
+-- The keys of FORs are noted in a set, by their remainders. Names may share one: a key that is noted may be open, one
+-- that is not cannot be. Assumes nothing.
 use Rattle.std.specs.Prelude.{ℕ, ◌*◌, ◌/◌, ◌%◌, ◌<◌, ◌≡◌, refl, Bool, true, false, List, [], ◌∷◌, ◌++◌, eqb, length, replicate}
 use Rattle.std.proofs.Common.{ap, ◌∙◌, inr, inl, arith, mod-lt, eqb-true}
 use Rattle.std.proofs.Math.Option.{Option, none, some}

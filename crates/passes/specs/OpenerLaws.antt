@@ -1,4 +1,5 @@
--- The openers of a stack before each node, newest first: they descend, each opens a frame of that stack, and none is met again once its frame is closed. Assumes nothing.
+-- The openers of a stack before each node, newest first: they descend, each opens a frame of that stack, and none is
+-- met again once its frame is closed. Assumes nothing.
 use Rattle.std.specs.Prelude.{ℕ, zero, suc, ◌+◌, ◌-◌, ◌<◌, ◌≤◌, length}
 use Rattle.std.proofs.Math.Path.{◌≡◌, refl, ap}
 use Rattle.std.proofs.Common.{sym, ◌∙◌}

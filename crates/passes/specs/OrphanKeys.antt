@@ -1,4 +1,5 @@
--- An orphan NEXT's targets from the prepared tables, where rows of arguments that it does not read may have changed. Assumes nothing.
+-- An orphan NEXT's targets from the prepared tables, where rows of arguments that it does not read may have changed.
+-- Assumes nothing.
 use Rattle.std.specs.Prelude.{ℕ, zero, suc, ◌+◌, ◌*◌, ◌≤◌, ◌<◌, ◌≡◌, Bool, true, false, eqb, get_or, drop}
 use Rattle.std.proofs.Math.Path.{refl, sym, ap}
 use Rattle.std.proofs.Common.{◌∙◌, arith, length-take, length-drop, drop_of_length-le, ext_get_or, get_or-take, get_or-drop}

@@ -1,4 +1,5 @@
--- The line and the path of each node by the reader's records: the path of the IF that holds it, and then its index. Assumes nothing.
+-- The line and the path of each node by the reader's records: the path of the IF that holds it, and then its index.
+-- Assumes nothing.
 use Prim.Native.Nat.{ℕ, zero, suc, ◌+◌, ◌*◌, ◌≤◌, ◌<◌}
 use Rattle.std.specs.Prelude.{◌≡◌}
 use Rattle.std.proofs.Math.Path.{refl, sym, ap}

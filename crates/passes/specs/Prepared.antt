@@ -1,4 +1,5 @@
--- The tables as the passes before the lists leave them, for a listing; and what each node is to a call, read off them. Assumes nothing.
+-- The tables as the passes before the lists leave them, for a listing; and what each node is to a call, read off them.
+-- Assumes nothing.
 use Rattle.std.specs.Prelude.{ℕ, suc, ◌*◌, ◌+◌, ◌≤◌, ◌<◌, ◌≡◌, Bool, true, false, List, [], ◌∷◌, ◌++◌, map, eqb, length, get_or, take, drop, replicate}
 use Rattle.layout.specs.Layout.{return_word, for_word, next_word}
 use Rattle.listings.specs.Bytes.{pick}
@@ -67,7 +68,8 @@ pub record Prepared (L : Listing) (stmts args entries falls links frames dispatc
   pub links_fit : n * 64 ≤ length links
   pub frames_fit : n * 3 ≤ length frames
 
--- Rows of arguments that no list needs may have changed from ks to args: for the NEXT i its own row and the names of FORs are kept.
+-- Rows of arguments that no list needs may have changed from ks to args: for the NEXT i its own row and the names of
+-- FORs are kept.
 pub record KeysKept (stmts ks args : List ℕ) (i : ℕ) : Type 0 where
   pub own : (j : ℕ) → j < 64 → get_or args (i * 64 + j) 0 ≡ get_or ks (i * 64 + j) 0
   pub names : (k : ℕ) → get_or stmts (k * 12) 0 ≡ for_word → get_or args (k * 64) 0 ≡ get_or ks (k * 64) 0

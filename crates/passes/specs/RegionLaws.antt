@@ -1,6 +1,6 @@
 -- Laws of regions: calls, sets that grow, and the sets of the RETURNs, entry after entry. Assumes nothing.
 use Prim.Native.Nat.{ℕ, zero, suc, ◌+◌, ◌-◌, ◌*◌, ◌/◌, ◌≤◌, ◌<◌}
-use Rattle.std.specs.Prelude.{◌≡◌, refl, Bool, true, false, ◌⊎◌, ◌↔◌, T, length, get_or, take, drop, replicate}
+use Rattle.std.specs.Prelude.{◌≡◌, refl, Bool, true, false, ◌⊎◌, ◌↔◌, T, Option, Some, None, length, get_or, take, drop, replicate}
 use Rattle.std.proofs.Common.{sym, ◌∙◌, ⊎_elim, length-take, length-drop, length-take-le, take-suc, get_or-take, get_or-drop, ext_get_or}
 use Rattle.std.proofs.Math.Path.{ap, subst}
 use mathlib.Core.List.{List, [], ◌∷◌, ◌++◌, Memᴰ}
@@ -29,7 +29,8 @@ use Rattle.tables.specs.Readable.{lists_readable, lists_read, read_lists, both_s
 use Rattle.listings.specs.Tests.{both_true}
 use Rattle.graph_laws.specs.EdgeBounds.{Ids}
 use Rattle.passes.specs.Prepared.{link_entries, Roles}
-use Rattle.passes.specs.Spans.{SpansGrow, Spanned, mem_place, mem_take, mem_drop, part_place}
+use Rattle.passes.specs.Spans.{SpansGrow, Spanned, same_first, same_end, no_span, mem_place, mem_take, mem_drop, part_place}
+use Rattle.passes.specs.declared.spans.Span.{Span}
 use Rattle.passes.specs.Regions.{is_call, calls_below, target_row, back_from, TargetsFit, CallFits, CallsReady, EntryCalls, SetAdded, CallsBack, ReturnsBy, RegionJoined, RegionsJoined, SetsFound, ReturnRows, SetsClear, ListedJoined, EntriesReady}
 use Rattle.passes.specs.WalkTables.{CallsRead, calls_readable, walks_readable, read_calls, RegionsAnswered}
 use Rattle.passes.specs.WalkLaws.{mem_get_d, id_at, all_take, stored_own}
@@ -79,7 +80,7 @@ targets_row stmts links c row e = e
 pub part_ids : (stmts links : List ℕ) (c : ℕ) (row : List ℕ) → row ≡ target_row stmts links c → TargetsFit stmts links c → All (λ (t : ℕ). t ≤ 4096) row
 part_ids stmts links c row e f = rw e f.ids
 
-pub target-entries : (stmts links : List ℕ) (c k : ℕ) (row s t : List ℕ) → row ≡ target_row stmts links c → SpansGrow k (each decode row) s t → SpansGrow k (link_entries stmts links c) s t
+pub target-entries : (stmts links : List ℕ) (c k : ℕ) (row : List ℕ) (s t : List (Option Span)) → row ≡ target_row stmts links c → SpansGrow k (each decode row) s t → SpansGrow k (link_entries stmts links c) s t
 unfolding target_row link_entries
 target-entries stmts links c k row s t e m = rw e at m
 
@@ -219,36 +220,36 @@ module _ (stmts falls links : List ℕ) (n e k : ℕ) where
       let h : m.0 ≤ n = all_mem (all-at (λ (x : ℕ). x ≤ n) (target_row stmts links c) t.targets) m.0 m.1 in
       omega (arith, decoded e m.0 m.2)
 
-  called_spanned : (calls spans : List ℕ) → calls ≡ calls_below stmts n → Spanned stmts links calls (length calls) spans → CallsBack stmts falls links n e k → 0 < get_or spans (e * 2 + 1) 0
-  called_spanned calls spans q p b =
+  called_spanned : (calls : List ℕ) (spans : List (Option Span)) → calls ≡ calls_below stmts n → Spanned stmts links calls (length calls) spans → CallsBack stmts falls links n e k → get_or spans e None ≡ None → ⊥
+  called_spanned calls spans q p b z =
       let m = mem_place {c = b.caller} calls (rw q (mem_where (is_call stmts) n b.caller b.node (goes_on b.caller b.continues).0)) in
       let i = p.covers m.0 m.1 e (rw m.2 b.exists) in
-      omega (arith, i.below)
+      no_span (sym z ∙ i.is)
 
 -- ---- a span has all calls of its entry
 
--- as code lends it: from a to b
-module _ (stmts falls links : List ℕ) (n e : ℕ) (calls spans : List ℕ) (r : CallsReady stmts falls links n calls) (p : Spanned stmts links calls (length calls) spans) (a b : ℕ)
-    (ea : a ≡ get_or spans (e * 2) 0) (eb : b ≡ get_or spans (e * 2 + 1) 0) where
-  pub span_fits : (a ≤ b) × (b ≤ length calls)
-  span_fits = let h = p.ends e in (omega arith, omega arith)
+module _ (stmts falls links : List ℕ) (n e : ℕ) (calls : List ℕ) (spans : List (Option Span)) (r : CallsReady stmts falls links n calls) (p : Spanned stmts links calls (length calls) spans) (s : Span)
+    (is : get_or spans e None ≡ Some s) where
+  pub span_fits : (s.first ≤ s.end) × (s.end ≤ length calls)
+  span_fits = let h = p.ends e s is in (omega (arith, h.1), h.0)
 
-  in_span : {k : ℕ} (c : ℕ) → Memᴰ c calls → Memᴰ k (back_from stmts falls links e c) → Memᴰ c (take (b - a) (drop a calls))
+  in_span : {k : ℕ} (c : ℕ) → Memᴰ c calls → Memᴰ k (back_from stmts falls links e c) → Memᴰ c (take (s.end - s.first) (drop s.first calls))
   unfolding back_from target_row link_entries
   in_span c mc mk =
       let h = has_row e (target_row stmts links c) (picked (has (e + 1) (target_row stmts links c)) (fall_entry falls c) mk).0 in
       let m = mem_place calls mc in
       let i = p.covers m.0 m.1 e (rw m.2 h) in
-      subst (λ (x : ℕ). Memᴰ x (take (b - a) (drop a calls))) m.2 (part_place calls a b m.0 (omega (arith, i.above)) (omega (arith, i.below)) span_fits.1)
+      let q : Some i.span ≡ Some s = sym i.is ∙ is in
+      subst (λ (x : ℕ). Memᴰ x (take (s.end - s.first) (drop s.first calls))) m.2 (part_place calls s.first s.end m.0 (omega (arith, i.above, same_first q)) (omega (arith, i.below, same_end q)) span_fits.1)
 
-  pub entry_calls : EntryCalls stmts falls links n e (take (b - a) (drop a calls))
+  pub entry_calls : EntryCalls stmts falls links n e (take (s.end - s.first) (drop s.first calls))
   entry_calls =
       record {
         few = r.few;
         in_stmts = r.in_stmts;
-        fit = all_take (CallFits stmts falls links) (b - a) (drop a calls) (λ j h. rw (get_or-drop a calls j 0) (all_get_d r.fit (a + j) _ (omega (arith, span_fits.1)) refl));
+        fit = all_take (CallFits stmts falls links) (s.end - s.first) (drop s.first calls) (λ j h. rw (get_or-drop s.first calls j 0) (all_get_d r.fit (s.first + j) _ (omega (arith, span_fits.1)) refl));
         backs = λ k. (
-          λ m. let t = each_mem (back_from stmts falls links e) (take (b - a) (drop a calls)) m in mem_each (back_from stmts falls links e) (subst (Memᴰ t.0) r.listed (mem_drop a calls (mem_take (b - a) (drop a calls) t.1))) t.2,
+          λ m. let t = each_mem (back_from stmts falls links e) (take (s.end - s.first) (drop s.first calls)) m in mem_each (back_from stmts falls links e) (subst (Memᴰ t.0) r.listed (mem_drop s.first calls (mem_take (s.end - s.first) (drop s.first calls) t.1))) t.2,
           λ m. let t = each_mem (back_from stmts falls links e) (calls_below stmts n) m in mem_each (back_from stmts falls links e) (in_span t.0 (subst (Memᴰ t.0) (sym r.listed) t.1) t.2) t.2,
         );
       }
@@ -283,10 +284,10 @@ listed-joined stmts falls links n e l none backs calls xs ys z r a j step w =
     let empty : (k : ℕ) → In none k → ⊥ = λ k m. none_in 64 k (rw z at m) in
     region_joined stmts falls links step n e l backs xs ys (λ k. backs_are stmts falls links n e k none backs calls empty r a) w j
 
--- an entry with an empty span has no calls
-pub uncalled_joined : (stmts falls links : List ℕ) (n e : ℕ) (calls spans xs : List ℕ) (b : ℕ) → calls ≡ calls_below stmts n → Spanned stmts links calls (length calls) spans
-    → b ≡ get_or spans (e * 2 + 1) 0 → b ≡ 0 → (step : ℕ → List ℕ) → RegionJoined stmts falls links step n e xs xs
-uncalled_joined stmts falls links n e calls spans xs b q p eb z step = region_skipped stmts falls links step n e xs (λ k c. omega (arith, called_spanned stmts falls links n e k calls spans q p c))
+-- an entry with no span has no calls
+pub uncalled_joined : (stmts falls links : List ℕ) (n e : ℕ) (calls : List ℕ) (spans : List (Option Span)) (xs : List ℕ) → calls ≡ calls_below stmts n → Spanned stmts links calls (length calls) spans
+    → get_or spans e None ≡ None → (step : ℕ → List ℕ) → RegionJoined stmts falls links step n e xs xs
+uncalled_joined stmts falls links n e calls spans xs q p z step = region_skipped stmts falls links step n e xs (λ k c. called_spanned stmts falls links n e k calls spans q p c z)
 
 -- ---- entry after entry
 
@@ -328,7 +329,7 @@ module _ (stmts falls links : List ℕ) (step : ℕ → List ℕ) (n : ℕ) wher
       }
 
 -- the same tables, with other sets
-pub entries_again : {stmts falls links lists edges : List ℕ} {n : ℕ} {calls spans xs : List ℕ} (ys : List ℕ) → length ys ≡ length xs
+pub entries_again : {stmts falls links lists edges : List ℕ} {n : ℕ} {calls : List ℕ} {spans : List (Option Span)} {xs : List ℕ} (ys : List ℕ) → length ys ≡ length xs
     → EntriesReady stmts falls links lists edges n calls spans xs → EntriesReady stmts falls links lists edges n calls spans ys
 entries_again ys e r = record { calls_ready = r.calls_ready; spanned = r.spanned; stored = r.stored; in_sets = omega (arith, r.in_sets) }
 

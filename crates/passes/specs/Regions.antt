@@ -1,6 +1,6 @@
--- Where RETURNs go back to without handlers: the calls, the continuations of the calls of one entry, and what the walks from all called
--- entries leave in the sets of the RETURNs. Assumes nothing.
-use Rattle.std.specs.Prelude.{ℕ, Bool, ◌+◌, ◌*◌, ◌/◌, ◌≤◌, ◌<◌, ◌≡◌, ◌⊎◌, ◌↔◌, length, get_or, take, drop}
+-- Where RETURNs go back to without handlers: the calls, the continuations of the calls of one entry, and what the walks
+-- from all called entries leave in the sets of the RETURNs. Assumes nothing.
+use Rattle.std.specs.Prelude.{Option, ℕ, Bool, ◌+◌, ◌*◌, ◌/◌, ◌≤◌, ◌<◌, ◌≡◌, ◌⊎◌, ◌↔◌, length, get_or, take, drop}
 use mathlib.Core.List.{List, [], Memᴰ}
 use Rattle.listings.specs.Bytes.{pick}
 use Rattle.listings.specs.Every.{All}
@@ -9,6 +9,7 @@ use Rattle.graph.specs.Reach.{Reach}
 use Rattle.graph.specs.Graph.{Wired, region_return_edges}
 use Rattle.passes.specs.Walk.{Reached, Stored, stored_list}
 use Rattle.passes.specs.Spans.{Spanned}
+use Rattle.passes.specs.declared.spans.Span.{Span}
 use Rattle.passes.specs.ListedWhere.{listed_where}
 use Rattle.passes.specs.Sets.{In, members_of}
 use Rattle.passes.specs.ReturnSets.{IsReturn, set_of}
@@ -94,8 +95,8 @@ pub record RegionsJoined (stmts falls links : List ℕ) (step : ℕ → List ℕ
   pub members : (r : ℕ) → IsReturn stmts n r → (k : ℕ) → In (set_of sets' r) k ↔ (In (set_of sets r) k ⊎ ((e : ℕ) × (e < m) × ReturnsBy stmts falls links step n e r k))
   pub others : (i : ℕ) → (IsReturn stmts n (i / 64) → ⊥) → get_or sets' i 0 ≡ get_or sets i 0
 
--- "RETURN .. the list of demand 3": the set of each RETURN r takes in the continuations of the calls that have an entry from which steps lead
--- to r; no other row changes
+-- "RETURN .. the list of demand 3": the set of each RETURN r takes in the continuations of the calls that have an entry
+-- from which steps lead to r; no other row changes
 pub record SetsFound (stmts falls links : List ℕ) (step : ℕ → List ℕ) (n : ℕ) (sets sets' : List ℕ) : Type 0 where
   pub size : length sets' ≡ length sets
   pub members : (r : ℕ) → IsReturn stmts n r → (k : ℕ) → In (set_of sets' r) k ↔ (In (set_of sets r) k ⊎ ((e : ℕ) × ReturnsBy stmts falls links step n e r k))
@@ -118,7 +119,7 @@ abbrev pub ListedJoined : (stmts falls links : List ℕ) (n e : ℕ) (l sets set
 ListedJoined stmts falls links n e l sets sets' = (step : ℕ → List ℕ) → Reached step e l → RegionJoined stmts falls links step n e sets sets'
 
 -- the walks can start
-pub record EntriesReady (stmts falls links lists edges : List ℕ) (n : ℕ) (calls spans sets : List ℕ) : Type 0 where
+pub record EntriesReady (stmts falls links lists edges : List ℕ) (n : ℕ) (calls : List ℕ) (spans : List (Option Span)) (sets : List ℕ) : Type 0 where
   pub calls_ready : CallsReady stmts falls links n calls
   pub spanned : Spanned stmts links calls (length calls) spans
   pub stored : Stored lists edges n (stored_list lists edges)

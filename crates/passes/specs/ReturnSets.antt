@@ -1,4 +1,5 @@
--- The sets of the RETURNs, 64 words a node: a region's continuations are joined into those of its RETURNs. Assumes nothing.
+-- The sets of the RETURNs, 64 words a node: a region's continuations are joined into those of its RETURNs. Assumes
+-- nothing.
 use Rattle.std.specs.Prelude.{◌≡◌, ◌⊎◌, ◌↔◌, ℕ, ◌*◌, ◌/◌, ◌<◌, length, get_or, take, drop}
 use mathlib.Core.List.{List, Memᴰ}
 use Rattle.layout.specs.Layout.{return_word}

@@ -1,5 +1,5 @@
--- The return targets by the tables: where the calls continue, in the order in which the calls stand, each once. Marks say which are in the
--- list already, so that nothing is searched. Assumes nothing.
+-- The return targets by the tables: where the calls continue, in the order in which the calls stand, each once. Marks
+-- say which are in the list already, so that nothing is searched. Assumes nothing.
 use Rattle.std.specs.Prelude.{◌≡◌, Bool, true, false, ◌||◌, List, [], ◌∷◌, ◌++◌, ℕ, zero, suc, ◌+◌, ◌-◌, ◌*◌, ◌≤◌, ◌<◌, eqb, length, get_or, set, take, drop, replicate}
 use Rattle.std.proofs.Math.Path.{refl}
 use Rattle.std.proofs.Common.{sym, ap, ◌∙◌, ⊎_elim, add-one, arith, eq-eqb, ne_eqb, length-set, get_or-set_same, get_or-set_other, take-suc-set, drop-set-lt}

@@ -24,7 +24,8 @@ unfoldable pub return_size : Bool → ℕ → List ℕ → ℕ → ℕ
 return_size true targets sets i = targets
 return_size false targets sets i = length (members_of (set_of sets i))
 
--- the edges of all RETURNs; 0 where the tables hold no n statements with their sets, or there are more targets than a graph has nodes
+-- the edges of all RETURNs; 0 where the tables hold no n statements with their sets, or there are more targets than a
+-- graph has nodes
 unfoldable pub return_total : Bool → List ℕ → List ℕ → ℕ → ℕ → ℕ
 return_total handlers stmts sets n targets =
     pick (sets_fit stmts n sets && leb targets 4096) (sum_where (λ i. eqb (word_of stmts i) return_word) (λ i. return_size handlers targets sets i) n) 0

@@ -1,4 +1,5 @@
--- How many statements the lent tables have room for: the least of what the tables with entries for each statement hold. Assumes nothing.
+-- How many statements the lent tables have room for: the least of what the tables with entries for each statement hold.
+-- Assumes nothing.
 use Rattle.std.specs.Prelude.{ℕ, ◌*◌, ◌/◌, ◌≤◌, min}
 use Rattle.std.proofs.Math.Nat.{min-le_left, min-le_right, le-min}
 use Rattle.std.proofs.Common.{arith}

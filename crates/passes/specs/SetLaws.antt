@@ -1,4 +1,5 @@
--- Laws of sets in words: what is in a set with one more id, in a union, and in the list of the members. Assumes nothing.
+-- Laws of sets in words: what is in a set with one more id, in a union, and in the list of the members. Assumes
+-- nothing.
 use Rattle.std.specs.Prelude.{◌≡◌, refl, Bool, true, false, ◌⊎◌, ◌↔◌, ℕ, zero, suc, ◌+◌, ◌-◌, ◌*◌, ◌/◌, ◌%◌, ◌^◌, ◌≤◌, ◌<◌, max, eqb, get_or, set, take, drop, replicate}
 use Rattle.std.proofs.Common.{sym, subst, ◌∙◌, inl, inr, arith, mod-lt, mod-eq_of_lt, pow-suc, lt_of_lt_of_le, one-mul, add-one, one-add, length-set, pow_pos, pow_mono, pow-add, shl_exact, shr-shr, get_or-set_same, get_or-set_other, take-suc-set, drop-set-lt, drop-drop}
 use Rattle.std.proofs.Math.Path.{ap}

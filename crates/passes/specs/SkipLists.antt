@@ -1,4 +1,5 @@
--- The lists that skipping paths follow, as a loop over the nodes stores them in a scratch table, and how many edges all nodes have that are no RETURNs. Assumes nothing.
+-- The lists that skipping paths follow, as a loop over the nodes stores them in a scratch table, and how many edges all
+-- nodes have that are no RETURNs. Assumes nothing.
 use Rattle.std.specs.Prelude.{◌≡◌, Bool, eqb, take, drop, get_or, set}
 use Rattle.std.proofs.Math.Path.{refl, sym}
 use Rattle.std.proofs.Common.{ap, subst, ◌∙◌, add-one, length-append, length-take-le, take-take}

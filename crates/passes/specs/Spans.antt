@@ -1,57 +1,72 @@
--- Where in a list of calls those of an entry stand: from the first of them to behind the last. A table has 2 entries for each node, both 0
--- where no call has it among its targets. Assumes nothing.
-use Rattle.std.specs.Prelude.{ℕ, zero, suc, ◌+◌, ◌-◌, ◌*◌, ◌≤◌, ◌<◌, ◌≡◌, refl, ◌⊎◌, eqb, length, get_or, set, take, drop, replicate}
-use Rattle.std.proofs.Common.{sym, ap, subst, ◌∙◌, inl, inr, ⊎_elim, add-one, arith, ne_eqb, length-set, length-drop, take-suc, get_or-set_same, get_or-set_other, get_or-take, get_or-drop, length-take-le}
+-- Where in a list of calls those of an entry stand: from the first of them to behind the last. A table has a span for
+-- each node, or none where no call has it among its targets. Assumes nothing.
+use Rattle.std.specs.Prelude.{ℕ, zero, suc, ◌+◌, ◌-◌, ◌≤◌, ◌<◌, ◌≡◌, refl, ◌⊎◌, Option, Some, None, length, get_or, set, take, drop, replicate}
+use Rattle.std.proofs.Common.{sym, ap, subst, ◌∙◌, inl, inr, ⊎_elim, add-one, arith, length-set, length-drop, take-suc, get_or-set_same, get_or-set_other, get_or-take, get_or-drop, length-take-le}
 use mathlib.Core.List.Memᴰ
 use mathlib.Core.List.{List, [], ◌∷◌, ◌++◌, Memᴰ}
-use Rattle.listings.specs.Bytes.{pick}
 use Rattle.graph.specs.Lists.{each}
 use Rattle.graph_laws.specs.Adding.{decode}
 use Rattle.passes.specs.Compare.{eq-or}
-use Rattle.listings.specs.WordTable.{zeros}
 use Rattle.passes.specs.Growing.{each_snoc}
 use Rattle.passes.specs.Prepared.{link_entries}
 use Rattle.passes.specs.WalkLaws.{mem_get_d}
+use Rattle.passes.specs.declared.spans.Span.{Span}
 
 -- place j is in the span of entry e
-pub record InSpan (spans : List ℕ) (e j : ℕ) : Type 0 where
-  pub above : get_or spans (e * 2) 0 ≤ j
-  pub below : j < get_or spans (e * 2 + 1) 0
+pub record InSpan (spans : List (Option Span)) (e j : ℕ) : Type 0 where
+  pub span : Span
+  pub is : get_or spans e None ≡ Some span
+  pub above : span.first ≤ j
+  pub below : j < span.end
 
--- each span is empty or lies in the first m places
-abbrev pub SpansTo : List ℕ → ℕ → Type 0
-SpansTo spans m = (e : ℕ) → (get_or spans (e * 2 + 1) 0 ≤ m) × (get_or spans (e * 2) 0 ≤ get_or spans (e * 2 + 1) 0 - 1)
+-- each span has places, all among the first m
+abbrev pub SpansTo : List (Option Span) → ℕ → Type 0
+SpansTo spans m = (e : ℕ) (s : Span) → get_or spans e None ≡ Some s → (s.end ≤ m) × (s.first < s.end)
 
 -- place k, the last so far, came into the spans of the entries l, and no place left one
-pub record SpansGrow (k : ℕ) (l spans spans' : List ℕ) : Type 0 where
+pub record SpansGrow (k : ℕ) (l : List ℕ) (spans spans' : List (Option Span)) : Type 0 where
   pub size : length spans' ≡ length spans
   pub ends : SpansTo spans (k + 1) → SpansTo spans' (k + 1)
   pub stays : SpansTo spans (k + 1) → (e j : ℕ) → InSpan spans e j → InSpan spans' e j
   pub comes : SpansTo spans (k + 1) → (e : ℕ) → Memᴰ e l → InSpan spans' e k
 
 -- the spans of the first k calls
-pub record Spanned (stmts links calls : List ℕ) (k : ℕ) (spans : List ℕ) : Type 0 where
+pub record Spanned (stmts links calls : List ℕ) (k : ℕ) (spans : List (Option Span)) : Type 0 where
   pub ends : SpansTo spans k
   pub covers : (j : ℕ) → j < k → (e : ℕ) → Memᴰ e (link_entries stmts links (get_or calls j 0)) → InSpan spans e j
 
 -- where a span begins that gets place k
-unfoldable pub first_of : ℕ → ℕ → ℕ → ℕ
-first_of first end k = pick (eqb end 0) k first
+unfoldable pub first_of : Option Span → ℕ → ℕ
+first_of None k = k
+first_of (Some s) k = s.first
 
-pub first_new : (first end k : ℕ) → end ≡ 0 → k ≡ first_of first end k
-unfolding first_of
-first_new first end k e = rw e
+-- what is said of a span is said of its numbers
+end_of : Option Span → ℕ
+end_of None = 0
+end_of (Some s) = s.end
 
-pub first_old : (first end k : ℕ) → (end ≡ 0 → ⊥) → first ≡ first_of first end k
+some_of : Option Span → ℕ
+some_of None = 0
+some_of (Some s) = 1
+
+pub same_first : {s t : Span} → Some s ≡ Some t → s.first ≡ t.first
 unfolding first_of
-first_old first end k ne = rw (ne_eqb end 0 ne)
+same_first e = ap (λ (o : Option Span). first_of o 0) e
+
+pub same_end : {s t : Span} → Some s ≡ Some t → s.end ≡ t.end
+unfolding end_of
+same_end e = ap end_of e
+
+pub no_span : {A : Type 0} {s : Span} → None ≡ Some s → A
+unfolding some_of
+no_span e = let z = ap some_of e in absurd (omega (arith, z))
 
 -- ---- entries come into spans
 
-grow_none : (k : ℕ) (s : List ℕ) → SpansGrow k [] s s
+grow_none : (k : ℕ) (s : List (Option Span)) → SpansGrow k [] s s
 grow_none k s = record { size = refl; ends = λ h. h; stays = λ h e j i. i; comes = λ h e m. absurd (Memᴰ.not-nil m) }
 
-grow_both : (k : ℕ) (l m s t u : List ℕ) → SpansGrow k l s t → SpansGrow k m t u → SpansGrow k (l ++ m) s u
+grow_both : (k : ℕ) (l m : List ℕ) (s t u : List (Option Span)) → SpansGrow k l s t → SpansGrow k m t u → SpansGrow k (l ++ m) s u
 grow_both k l m s t u a b =
     record {
       size = b.size ∙ a.size;
@@ -61,62 +76,70 @@ grow_both k l m s t u a b =
     }
 
 -- entry e₀ alone
-module _ (k e₀ : ℕ) (s : List ℕ) (fits : e₀ * 2 + 1 < length s) (f : ℕ) (ef : f ≡ first_of (get_or s (e₀ * 2) 0) (get_or s (e₀ * 2 + 1) 0) k) where
-  abbrev t : List ℕ
-  t = set (set s (e₀ * 2) f) (e₀ * 2 + 1) (k + 1)
+module _ (k e₀ : ℕ) (s : List (Option Span)) (fits : e₀ < length s) (f : ℕ) (ef : f ≡ first_of (get_or s e₀ None) k) where
+  abbrev n : Span
+  n = record { first = f; end = k + 1 }
 
-  first_here : get_or t (e₀ * 2) 0 ≡ f
-  first_here = get_or-set_other (set s (e₀ * 2) f) (e₀ * 2 + 1) (e₀ * 2) (k + 1) 0 (λ q. omega arith) ∙ get_or-set_same s (e₀ * 2) f 0 (omega arith)
+  abbrev t : List (Option Span)
+  t = set s e₀ (Some n)
 
-  end_here : get_or t (e₀ * 2 + 1) 0 ≡ k + 1
-  end_here = get_or-set_same (set s (e₀ * 2) f) (e₀ * 2 + 1) (k + 1) 0 (omega (arith, length-set s (e₀ * 2) f))
+  now : get_or t e₀ None ≡ Some n
+  now = get_or-set_same s e₀ (Some n) None fits
 
-  away : (i : ℕ) → (i ≡ e₀ * 2 → ⊥) → (i ≡ e₀ * 2 + 1 → ⊥) → get_or t i 0 ≡ get_or s i 0
-  away i p q = get_or-set_other (set s (e₀ * 2) f) (e₀ * 2 + 1) i (k + 1) 0 q ∙ get_or-set_other s (e₀ * 2) i f 0 p
+  away : (e : ℕ) → (e ≡ e₀ → ⊥) → get_or t e None ≡ get_or s e None
+  away e ne = get_or-set_other s e₀ e (Some n) None ne
 
-  first_away : (e : ℕ) → (e ≡ e₀ → ⊥) → get_or t (e * 2) 0 ≡ get_or s (e * 2) 0
-  first_away e ne = away (e * 2) (λ q. ne (omega arith)) (λ q. omega arith)
-
-  end_away : (e : ℕ) → (e ≡ e₀ → ⊥) → get_or t (e * 2 + 1) 0 ≡ get_or s (e * 2 + 1) 0
-  end_away e ne = away (e * 2 + 1) (λ q. omega arith) (λ q. ne (omega arith))
+  -- the span that stood there
+  first_was : (x : Span) → get_or s e₀ None ≡ Some x → f ≡ x.first
+  unfolding first_of
+  first_was x q = ef ∙ ap (λ (o : Option Span). first_of o k) q
 
   first_few : SpansTo s (k + 1) → f ≤ k
-  first_few h =
-      ⊎_elim (λ z. omega (arith, ef ∙ sym (first_new (get_or s (e₀ * 2) 0) (get_or s (e₀ * 2 + 1) 0) k z))) (λ z. omega (arith, h e₀, ef ∙ sym (first_old (get_or s (e₀ * 2) 0) (get_or s (e₀ * 2 + 1) 0) k z)))
-      (eq-or (get_or s (e₀ * 2 + 1) 0) 0)
+  unfolding first_of
+  first_few h = go (get_or s e₀ None) refl
+    where
+      go : (o : Option Span) → get_or s e₀ None ≡ o → f ≤ k
+      go None q = omega (arith, ef ∙ ap (λ (o : Option Span). first_of o k) q)
+      go (Some x) q = let b = h e₀ x q in omega (arith, first_was x q, b.0, b.1)
 
   ends-one : SpansTo s (k + 1) → SpansTo t (k + 1)
-  ends-one h e =
-      ⊎_elim (λ q. rw q (omega (arith, end_here), omega (arith, first_here, end_here, first_few h)))
-      (λ q. (omega (arith, end_away e q, (h e).0), omega (arith, first_away e q, end_away e q, (h e).1))) (eq-or e e₀)
+  ends-one h e x q = ⊎_elim (λ p. here p) (λ ne. h e x (sym (away e ne) ∙ q)) (eq-or e e₀)
+    where
+      here : e ≡ e₀ → (x.end ≤ k + 1) × (x.first < x.end)
+      here p =
+          let i : Some n ≡ Some x = sym now ∙ ap (λ (y : ℕ). get_or t y None) (sym p) ∙ q in
+          (omega (arith, same_end i), omega (arith, same_end i, same_first i, first_few h))
 
   stays_one : SpansTo s (k + 1) → (e j : ℕ) → InSpan s e j → InSpan t e j
-  stays_one h e j i = ⊎_elim (λ q. here q) (λ q. record { above = omega (arith, first_away e q, i.above); below = omega (arith, end_away e q, i.below) }) (eq-or e e₀)
+  stays_one h e j i = ⊎_elim (λ p. here p) (λ ne. record { span = i.span; is = away e ne ∙ i.is; above = i.above; below = i.below }) (eq-or e e₀)
     where
       here : e ≡ e₀ → InSpan t e j
-      here q =
-          let a : get_or s (e₀ * 2) 0 ≤ j = rw q at i.above in
-          let b : j < get_or s (e₀ * 2 + 1) 0 = rw q at i.below in
-          let o = first_old (get_or s (e₀ * 2) 0) (get_or s (e₀ * 2 + 1) 0) k (λ z. omega arith) in
-          rw q (record { above = omega (arith, first_here, ef, o); below = omega (arith, end_here, (h e₀).0) })
+      here p =
+          let q : get_or s e₀ None ≡ Some i.span = ap (λ (y : ℕ). get_or s y None) (sym p) ∙ i.is in
+          record {
+            span = n;
+            is = ap (λ (y : ℕ). get_or t y None) p ∙ now;
+            above = omega (arith, first_was i.span q, i.above);
+            below = omega (arith, (h e₀ i.span q).0, i.below);
+          }
 
   grow_one : SpansGrow k (e₀ ∷ []) s t
   grow_one =
       record {
-        size = length-set (set s (e₀ * 2) f) (e₀ * 2 + 1) (k + 1) ∙ length-set s (e₀ * 2) f;
+        size = length-set s e₀ (Some n);
         ends = ends-one;
         stays = stays_one;
         comes = λ h e m.
-            ⊎_elim (λ q. rw q (record { above = omega (arith, first_here, first_few h); below = omega (arith, end_here) })) (λ x. absurd (Memᴰ.not-nil x)) (Memᴰ.cases_cons m);
+            ⊎_elim (λ p. record { span = n; is = ap (λ (y : ℕ). get_or t y None) p ∙ now; above = first_few h; below = omega arith }) (λ x. absurd (Memᴰ.not-nil x)) (Memᴰ.cases_cons m);
       }
 
 -- the entry t - 1, where t is not 0
-pub grow_zero : (k : ℕ) (s : List ℕ) (t : ℕ) → t ≡ 0 → SpansGrow k (decode t) s s
+pub grow_zero : (k : ℕ) (s : List (Option Span)) (t : ℕ) → t ≡ 0 → SpansGrow k (decode t) s s
 grow_zero k s zero e = grow_none k s
 grow_zero k s (suc t) e = absurd (omega arith)
 
-pub grow_some : (k : ℕ) (s : List ℕ) (t u f w : ℕ) → u ≡ t → (t ≡ 0 → ⊥) → t * 2 ≤ length s → f ≡ first_of (get_or s ((u - 1) * 2) 0) (get_or s ((u - 1) * 2 + 1) 0) k → w ≡ k + 1
-    → SpansGrow k (decode t) s (set (set s ((u - 1) * 2) f) ((u - 1) * 2 + 1) w)
+pub grow_some : (k : ℕ) (s : List (Option Span)) (t u f w : ℕ) → u ≡ t → (t ≡ 0 → ⊥) → t ≤ length s → f ≡ first_of (get_or s (u - 1) None) k → w ≡ k + 1
+    → SpansGrow k (decode t) s (set s (u - 1) (Some (record { first = f; end = w })))
 grow_some k s zero u f w q z h ef ew = absurd (z refl)
 grow_some k s (suc t) u f w q z h ef ew =
     let v : u - 1 ≡ t = omega arith in
@@ -124,28 +147,34 @@ grow_some k s (suc t) u f w q z h ef ew =
 
 -- a loop over a row of links
 module _ (k : ℕ) (row : List ℕ) where
-  pub row_start : (s : List ℕ) → SpansGrow k (each decode (take 0 row)) s s
+  pub row_start : (s : List (Option Span)) → SpansGrow k (each decode (take 0 row)) s s
   unfolding each
   row_start s = grow_none k s
 
-  pub row_more : (i : ℕ) (s t u : List ℕ) → i < length row → SpansGrow k (each decode (take i row)) s t → SpansGrow k (decode (get_or row i 0)) t u → SpansGrow k (each decode (take (i + 1) row)) s u
+  pub row_more : (i : ℕ) (s t u : List (Option Span)) → i < length row → SpansGrow k (each decode (take i row)) s t → SpansGrow k (decode (get_or row i 0)) t u → SpansGrow k (each decode (take (i + 1) row)) s u
   row_more i s t u h a b = rw (add-one, take-suc row i 0 h, each_snoc) (grow_both k (each decode (take i row)) (decode (get_or row i 0)) s t u a b)
 
 -- ---- call after call
 
+nones : (n i : ℕ) → get_or {A = Option Span} (replicate n None) i None ≡ None
+nones zero zero = refl
+nones zero (suc i) = refl
+nones (suc n) zero = refl
+nones (suc n) (suc i) = nones n i
+
 module _ (stmts links calls : List ℕ) where
-  pub spanned_none : (n : ℕ) (s : List ℕ) → s ≡ replicate n 0 → Spanned stmts links calls 0 s
+  pub spanned_none : (n : ℕ) (s : List (Option Span)) → s ≡ replicate n None → Spanned stmts links calls 0 s
   spanned_none n s e =
       record {
-        ends = λ i. let a = ap (λ (l : List ℕ). get_or l (i * 2 + 1) 0) e ∙ zeros n (i * 2 + 1) in let b = ap (λ (l : List ℕ). get_or l (i * 2) 0) e ∙ zeros n (i * 2) in (omega arith, omega arith);
+        ends = λ i x q. no_span (sym (ap (λ (l : List (Option Span)). get_or l i None) e ∙ nones n i) ∙ q);
         covers = λ j h. absurd (omega arith);
       }
 
-  pub spanned_more : (k c : ℕ) (s t : List ℕ) → c ≡ get_or calls k 0 → Spanned stmts links calls k s → SpansGrow k (link_entries stmts links c) s t → Spanned stmts links calls (k + 1) t
+  pub spanned_more : (k c : ℕ) (s t : List (Option Span)) → c ≡ get_or calls k 0 → Spanned stmts links calls k s → SpansGrow k (link_entries stmts links c) s t → Spanned stmts links calls (k + 1) t
   spanned_more k c s t ec a b = record { ends = b.ends wider; covers = λ j h e m. go j h e m (eq-or j k) }
     where
       wider : SpansTo s (k + 1)
-      wider e = let h = a.ends e in (omega (arith, h.0), h.1)
+      wider e x q = let h = a.ends e x q in (omega (arith, h.0), h.1)
 
       go : (j : ℕ) → j < k + 1 → (e : ℕ) → Memᴰ e (link_entries stmts links (get_or calls j 0)) → (j ≡ k) ⊎ (j ≡ k → ⊥) → InSpan t e j
       go j h e m (inl q) = rw q (b.comes wider e (subst (λ (x : ℕ). Memᴰ e (link_entries stmts links x)) (ap (λ (x : ℕ). get_or calls x 0) q ∙ sym ec) m))

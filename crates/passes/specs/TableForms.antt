@@ -85,7 +85,8 @@ sizes_of l t a e f k i r u p =
       pred = length p;
     }
 
--- "A table is too short if it cannot hold its fixed number of entries .. for each of these": how many lines, statements and edges all tables can hold
+-- "A table is too short if it cannot hold its fixed number of entries .. for each of these": how many lines, statements
+-- and edges all tables can hold
 pub capacity : Sizes → Capacity
 capacity s =
     record {

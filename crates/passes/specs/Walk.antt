@@ -1,5 +1,5 @@
--- A walk with a mark for each node and a list of the marked nodes, whose end is the worklist: those whose steps are still to be marked.
--- Lists of steps as tables store them.
+-- A walk with a mark for each node and a list of the marked nodes, whose end is the worklist: those whose steps are
+-- still to be marked. Lists of steps as tables store them.
 -- Assumes nothing.
 use Rattle.std.specs.Prelude.{◌≡◌, Bool, true, false, ◌⊎◌, ℕ, suc, ◌+◌, ◌*◌, ◌≤◌, ◌<◌, length, get_or, take, drop}
 use mathlib.Core.List.{List, [], ◌∷◌, Memᴰ}

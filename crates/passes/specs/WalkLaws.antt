@@ -1,5 +1,5 @@
--- Laws of the walk: one node marked, a list marked, the steps of the next node marked, the end. Sizes are variables, so that nothing writes
--- 4,096 marks out. Assumes nothing.
+-- Laws of the walk: one node marked, a list marked, the steps of the next node marked, the end. Sizes are variables, so
+-- that nothing writes 4,096 marks out. Assumes nothing.
 use Rattle.std.specs.Prelude.{◌≡◌, refl, Bool, true, false, ◌⊎◌, ℕ, zero, suc, ◌+◌, ◌-◌, ◌*◌, ◌≤◌, ◌<◌, length, get_or, take, drop, set, replicate}
 use Rattle.std.proofs.Common.{sym, ap, subst, ◌∙◌, inl, inr, ⊎_elim, not-suc-le-zero, le_of_suc-le-suc, add-one, arith, length-set, get_or-set_same, get_or-set_other, take-suc, get_or-take, length-take-le}
 use mathlib.Core.List.Memᴰ

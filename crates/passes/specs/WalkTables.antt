@@ -1,4 +1,5 @@
--- The tables that walks read, whoever wrote them: whether they can be read, and what a call that tests them leaves. Assumes nothing.
+-- The tables that walks read, whoever wrote them: whether they can be read, and what a call that tests them leaves.
+-- Assumes nothing.
 use Rattle.std.specs.Prelude.{ℕ, ◌+◌, ◌*◌, ◌≤◌, ◌<◌, ◌≡◌, Bool, ◌&&◌, List, length, get_or}
 use Rattle.std.proofs.Math.Path.{refl, ap}
 use Rattle.std.proofs.Common.{◌∙◌, arith}

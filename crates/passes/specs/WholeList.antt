@@ -1,18 +1,17 @@
--- A node's whole list from the prepared tables: own edges, late edges, an orphan's targets; room for each, and the list that they make. Assumes nothing.
+-- A node's whole list from the prepared tables: own edges, late edges, an orphan's targets; room for each, and the list
+-- that they make. Assumes nothing.
 use Rattle.std.specs.Prelude.{ℕ, ◌+◌, ◌*◌, ◌≤◌, ◌<◌, ◌≡◌, refl, Bool, true, false, ◌||◌, List, [], ◌++◌, ◌⊎◌, eqb, get_or}
 use Rattle.std.proofs.Math.Path.{sym, ap}
 use Rattle.std.proofs.Common.{◌∙◌, append-nil, append_assoc, inl, inr, eqb-true, ne_eqb, length-take-le}
 use Rattle.std.proofs.Math.Logic.{⊎_elim}
 use Rattle.std.proofs.Math.Option.{some}
 use native.Mathlib.Omega.{arith}
-use Rattle.std.proofs.lemmas.Bool.{eqb-false}
-use Rattle.std.proofs.Math.ListN.{length, get_elem?, take, length-map}
+use Rattle.std.proofs.Math.ListN.{length, get_elem?, take}
 use Rattle.listings.specs.Bytes.{same, bytes}
-use Rattle.listings.specs.Listing.{Mark, Slot, if, ifelse, rcomp, Simple, next, Listing}
+use Rattle.listings.specs.Listing.{if, ifelse, rcomp, Simple, Listing}
 use Rattle.listings.specs.ListingText.{cond_word}
 use Rattle.listings.specs.Rows.{opening_words}
 use Rattle.listings.specs.WordTable.{words, first, word_index}
-use Rattle.listings.specs.Records.{slot_key, args_of}
 use Rattle.graph.specs.Lists.{add_all}
 use Rattle.graph_laws.specs.Adding.{node_number, Added, added_both}
 use Rattle.graph_laws.specs.Members.{all_map}
@@ -27,12 +26,12 @@ use Rattle.graph_laws.specs.PerNode.{no_openers, Fact, facts, late, per_node}
 use Rattle.graph_laws.specs.PerNodeLaws.{length-facts, per_node_lem}
 use Rattle.graph_laws.specs.Theorems.{facts_of, lists_per_node}
 use Rattle.passes.specs.OpenerLaws.{some_at, node_of, fall_at_lem, stmt_at_lem}
-use Rattle.passes.specs.ListedNodes.{SimpleListed, SlotsCounted, ForKind, is_for, is_next, is_other, for_kind, for_number}
+use Rattle.passes.specs.ListedNodes.{SimpleListed, SlotsCounted}
 use Rattle.passes.specs.LineSearch.{table-nodes}
 use Rattle.passes.specs.Closing.{FitsPart, ClosingTables, ClosingReady, closing_edges, ClosingAdded}
 use Rattle.passes.specs.ClosingLaws.{closing_ready}
 use Rattle.passes.specs.Growing.{Grown, Grows, all_left, all_right, grown_added}
-use Rattle.passes.specs.NextBodies.{PoppedRoom, SelectRoom, orphan_bodies}
+use Rattle.passes.specs.NextBodies.{SelectRoom, orphan_bodies}
 use Rattle.passes.specs.NextBodyLaws.{dispatched_below}
 use Rattle.passes.specs.AddRoom.{grown_start}
 use Rattle.passes.specs.EntryOrder.{entries_rise}
@@ -41,7 +40,7 @@ use Rattle.tables.specs.Columns.{call_word}
 use Rattle.passes.specs.NodeList.{jump_edges, own_edges, OwnRoom, ListIs}
 use Rattle.passes.specs.NodeListLaws.{own_jump}
 use Rattle.passes.specs.PreparedLaws.{call_moves}
-use Rattle.passes.specs.NodeTables.{falling, falls_ok, entered, popped-ids, opener_fits}
+use Rattle.passes.specs.NodeTables.{falling, falls_ok, entered}
 use Rattle.passes.specs.OwnTables.{own_are}
 use Rattle.passes.specs.OrphanKeys.{dispatched_are, slots-counted, orphan_are}
 
@@ -52,11 +51,6 @@ cond_low (simple o) h = (o, refl)
 cond_low (cond if a b) h = absurd (omega arith)
 cond_low (cond ifelse a b) h = absurd (omega arith)
 cond_low (cond rcomp a b) h = absurd (omega arith)
-
-next_word : (s : NodeStmt) → ForKind s → stmt_number s ≡ 14 → (m : Mark) × (ss : List Slot) × (s ≡ simple (next m ss))
-next_word s (is_for v t) e = absurd (omega (arith, for_number v t))
-next_word s (is_next m ss) e = (m, ss, refl)
-next_word s (is_other n) e = absurd (eqb-false (stmt_number s) 14 n.not_next e)
 
 call_number : (w : ℕ) → call_word w ≡ true → (w ≡ 8) ⊎ (w ≡ 12)
 unfolding call_word
@@ -108,19 +102,6 @@ module _ {L : Listing} {stmts ks entries falls links frames ds : List ℕ} {line
           let s : SimpleListed stmts ks i o.0 = rw o.1 at (P.listed i x ex).stmt in
           omega (arith, s.count, s.few)
 
-      popped-fits : (part : List ℕ) → n ≤ length part → get_or stmts (i * 12) 0 ≡ 14 → PoppedRoom falls links i (get_or stmts (i * 12 + 10) 0) part 0
-      unfolding args_of
-      popped-fits part h e =
-          let k = next_word x.stmt (for_kind x.stmt) (sym (P.listed i x ex).word ∙ e) in
-          let s : SimpleListed stmts ks i (next k.0 k.1) = rw k.2 at (P.listed i x ex).stmt in
-          record {
-            row = omega (arith, few_args (omega arith), P.links_fit);
-            nodes = n;
-            grown = grown_start n part h;
-            falls = falls_ok P;
-            popped = popped-ids P i lt x f ex ef k.0 k.1 (stmt_at_lem loop_stack (wire L).nodes i x f ex ef ∙ k.2) (s.count ∙ length-map k.1 slot_key);
-          }
-
       own-fits : (part : List ℕ) → n ≤ length part → OwnRoom stmts entries falls links frames lines i part 0
       own-fits part h = record {
         fresh = refl;
@@ -129,9 +110,7 @@ module _ {L : Listing} {stmts ks entries falls links frames ds : List ℕ} {line
         falls = omega (arith, P.falls_fit);
         links = omega (arith, P.links_fit);
         frames = omega (arith, P.frames_fit);
-        opener = opener_fits P i lt x f ex ef;
         few = few_args;
-        popped = popped-fits part h;
         rises = rw (table-nodes (entered P)) (entries_rise L.lines);
         room = record { nodes = n; grown = grown_start n part h; ids = own-ids };
       }

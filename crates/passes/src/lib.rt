@@ -2,3 +2,4 @@
 #![tactic(auto)]
 
 pub mod moves;
+pub mod spans;

@@ -6,6 +6,7 @@ use program_text::program::list_page;
 use std::io::Write;
 
 // The file ends where the input does; one that goes on past the room for it is refused by its length.
+// Kept: these lines stand in four programs; `filling` says why.
 fn main(rt: HostRuntime) {
     let mut file = [0u8; 65537];
     let mut out = [0u8; 2097152];

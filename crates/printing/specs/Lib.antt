@@ -1,4 +1,5 @@
 pub mod PrintedTables
+pub mod FromGraph
 pub mod PrintLaws
 pub mod ListGraph
 pub mod PrintLength

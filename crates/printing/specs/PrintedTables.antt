@@ -1,6 +1,7 @@
 -- What is printed, in terms of the tables that hold a graph; and what the tables must be for it to be read off them. Assumes nothing.
-use Prim.Native.Nat.{ℕ, zero, suc, ◌+◌, ◌*◌, ◌-◌, ◌<◌}
-use Rattle.std.specs.Prelude.{◌≡◌, refl, true, false, List, [], ◌∷◌, ◌++◌, length, get_or}
+use Prim.Native.Nat.{ℕ, zero, suc, ◌+◌, ◌*◌, ◌-◌, ◌<◌, ◌≤◌}
+use Rattle.std.specs.Prelude.{◌≡◌, refl, true, false, Option, Some, None, List, [], ◌∷◌, ◌++◌, length, get_or}
+use Rattle.std.specs.Option.{SomeIff, option_to_list}
 use Rattle.std.proofs.Common.{sym, ◌∙◌, append_assoc, append-nil, arith, length-append}
 use Rattle.std.proofs.Math.Path.{ap}
 use Rattle.std.proofs.Math.Numerals.{sub-one}
@@ -14,8 +15,6 @@ use Rattle.tables.specs.Columns.{call_word, word_of, holder_of, index_of, line_o
 use Rattle.formatting.specs.Printing.{Puts}
 use Rattle.formatting.specs.Pages.{Wrote, wrote_none, wrote_both, wrote_is, spaced_snoc, pair_text}
 use Rattle.formatting.specs.declared.page.Page.{Page}
-
--- ---- a node's path
 
 -- ---- a node's row
 
@@ -128,15 +127,27 @@ wrote_node {p} {q} {s} {t} lines stmts lists succ pred i number line e f a b c =
 
 -- ---- the pieces of the other rows
 
-pub wrote_zero : (p : Page) (w : List ℕ) (a e : ℕ) → e ≡ 0 → Wrote p p (some_text w a e)
-unfolding some_text each
-wrote_zero p w a zero z = wrote_none p
-wrote_zero p w a (suc e) z = absurd (omega arith)
+-- the row of a node or none
+pub no_row : (p : Page) (w : List ℕ) (a : ℕ) (o : Option ℕ) → o ≡ None → Wrote p p (each (pair_text w a) (option_to_list o))
+unfolding each
+no_row p w a None e = wrote_none p
+no_row p w a (Some x) e = absurd cc
 
-pub wrote_some : {p q : Page} (w : List ℕ) (a e x : ℕ) → (e ≡ 0 → ⊥) → x ≡ e → Wrote p q (pair_text w a (x - 1)) → Wrote p q (some_text w a e)
-unfolding some_text each
-wrote_some w a zero x z f b = absurd (z refl)
-wrote_some w a (suc e) x z f b = wrote_is (ap (λ (y : ℕ). pair_text w a (y - 1)) f ∙ rw (sub-one (suc e)) (sym (append-nil (pair_text w a e)))) b
+pub one_row : {p q : Page} (w : List ℕ) (a : ℕ) (o : Option ℕ) (x : ℕ) → o ≡ Some x → Wrote p q (pair_text w a x) → Wrote p q (each (pair_text w a) (option_to_list o))
+unfolding each
+one_row w a None x e b = absurd cc
+one_row w a (Some y) x e b = let z : x ≡ y = cc in wrote_is (ap (pair_text w a) z ∙ sym (append-nil (pair_text w a y))) b
+
+less_listed : (e : ℕ) (o : Option ℕ) → SomeIff o (1 ≤ e) (e - 1) → option_to_list o ≡ decode e
+less_listed zero None h = refl
+less_listed zero (Some i) h = absurd (omega (arith, h.0))
+less_listed (suc e) None h = absurd (h (omega arith))
+less_listed (suc e) (Some i) h = let z : i ≡ e = omega (arith, h.1) in ap (λ (k : ℕ). k ∷ []) z
+
+-- by an entry, one more than the node or 0
+pub some_read : {p q : Page} (w : List ℕ) (a x e : ℕ) (o : Option ℕ) → x ≡ e → SomeIff o (1 ≤ x) (x - 1) → Wrote p q (each (pair_text w a) (option_to_list o)) → Wrote p q (some_text w a e)
+unfolding some_text
+some_read w a x e o f h b = wrote_is (ap (each (pair_text w a)) (less_listed x o h ∙ ap decode f)) b
 
 pub wrote_entry : {p q : Page} (entries : List ℕ) (k x : ℕ) → x ≡ get_or entries (k * 2 + 0) 0 → Wrote p q (some_text (bytes "(entry") x (get_or entries (k * 2 + 1) 0))
     → Wrote p q (entry_text entries k)
@@ -169,8 +180,3 @@ GraphPrinted lines stmts entries falls lists returns succ pred rows n targets ou
 abbrev pub GraphWrote : (lines stmts entries falls lists returns succ pred : List ℕ) (rows n targets : ℕ) (p p' : Page) → Type 0
 GraphWrote lines stmts entries falls lists returns succ pred rows n targets p p' =
     (L : Listing) → GraphHeld L lines stmts entries falls lists returns succ pred rows n targets → Wrote p p' (printed L)
-
--- with the counts as they were read
-pub held_as : {L : Listing} {lines stmts entries falls lists returns succ pred : List ℕ} (a b c : ℕ) {rows n targets : ℕ} → a ≡ rows → b ≡ n → c ≡ targets
-    → GraphHeld L lines stmts entries falls lists returns succ pred rows n targets → GraphHeld L lines stmts entries falls lists returns succ pred a b c
-held_as a b c e f g h = rw (e, f, g) h

@@ -1,41 +1,38 @@
 // An input's graph, printed.
-ghost use Rattle.std.specs.Prelude.{get_or};
 ghost use Rattle.passes.specs.TableForms.{sizes_of};
 ghost use Rattle.wiring.specs.BuiltAnswer.{built_told};
-ghost use Rattle.printing.specs.PrintedTables.{SomeGraph, GraphPrinted};
+ghost use Rattle.printing.specs.FromGraph.{SomeGraphFrom, GraphPrintedFrom};
 ghost use Rattle.printing.specs.ListGraph.{InputListed, GraphListed};
 ghost use Rattle.reader.specs.Inputs.{is_program, bytes_of};
 
 use crate::print::print_graph;
 use formatting::page::{Page, print_refusal};
 use layout::refusals::Refusal;
-use layout::widths::count_of;
 use reader::listing::Input;
 use tables::graphs::Graph;
 use wiring::build::build_input;
 
-// Prints the graph that the tables hold, with the counts as their table has them.
-// Kept: `count_of`, since std has no conversion from `u32` to `usize` that cannot fail.
+// Prints the graph that the tables hold, on a page of its own.
+// Kept: what the tables hold in a `requires`: in a ghost field it would stand in `∥ ∥₁`, for each reader to open.
 fn print_counted(g: &Graph<'_>, out: &mut [u8]) -> usize
-    requires { SomeGraph g.now.lines.now g.now.stmts.now g.now.entries.now g.now.falls.now g.now.lists.now g.now.returns.now g.now.succ.now g.now.pred.now (get_or g.now.counts.now 5 0) (get_or g.now.counts.now 1 0) (get_or g.now.counts.now 4 0) }
-    ensures { GraphPrinted g.now.lines.now g.now.stmts.now g.now.entries.now g.now.falls.now g.now.lists.now g.now.returns.now g.now.succ.now g.now.pred.now (get_or g.now.counts.now 5 0) (get_or g.now.counts.now 1 0) (get_or g.now.counts.now 4 0) out.old out.new result }
+    requires { SomeGraphFrom g.now }
+    ensures { GraphPrintedFrom g.now out.old out.new result }
 {
     let mut page = Page::new(out);
-    let rows = count_of(g.counts[5]);
-    let n = count_of(g.counts[1]);
-    let targets = count_of(g.counts[4]);
-    print_graph(g, rows, n, targets, &mut page);
+    print_graph(g, &mut page);
     page.len()
 }
 
 // What was built, and where the next byte of what was printed would go (the length of the part if it did not fit).
-#[derive(Drop)]
+// Kept: a length, not the part, since one as long as `out` says that what was printed did not fit.
+#[derive(Clone, Copy)]
 pub struct Printed {
     pub built: Result<(), Refusal>,
     pub len: usize,
 }
 
-// Builds the graph of an input, a saved program or a text, in the lent tables and prints it, or its refusal. Inlined, so that a program that makes the tables as zeros does not zero them twice.
+// Builds the graph of an input, a saved program or a text, in the lent tables and prints it, or its refusal.
+// Inlined, so that a program that makes the tables as zeros does not zero them twice.
 // Kept: the C interface lends the tables one by one.
 #[inline(always)]
 pub fn list_input(
@@ -58,28 +55,23 @@ pub fn list_input(
     let built = build_input(
         input, counts, lines, stmts, args, entries, falls, links, lists, returns, succ, pred,
     );
-    match built {
-        Err(refusal) => Printed {
-            built,
-            len: print_refusal(out, refusal),
-        },
-        Ok(()) => {
-            let graph = Graph {
-                counts,
-                lines,
-                stmts,
-                args,
-                entries,
-                falls,
-                lists,
-                returns,
-                succ,
-                pred,
-            };
-            let len = print_counted(&graph, out);
-            Printed { built, len }
-        }
-    }
+    let graph = Graph {
+        counts,
+        lines,
+        stmts,
+        args,
+        entries,
+        falls,
+        lists,
+        returns,
+        succ,
+        pred,
+    };
+    let len = match built {
+        Ok(()) => print_counted(&graph, out),
+        Err(refusal) => print_refusal(out, refusal),
+    };
+    Printed { built, len }
 }
 
 // The same of a text.

@@ -1,20 +1,23 @@
 // The printed graph.
-ghost use Rattle.std.specs.Prelude.{◌≡◌, ◌+◌, ◌*◌, ◌<◌, ◌≤◌, length, get_or, take};
+ghost use Rattle.std.specs.Prelude.{◌≡◌, ◌+◌, ◌*◌, ◌≤◌, length, take};
+ghost use Rattle.std.specs.Option.{option_to_list};
 ghost use Rattle.graph.specs.Lists.{each, below};
-ghost use Rattle.formatting.specs.Pages.{Wrote};
-ghost use Rattle.printing.specs.PrintedTables.{SomeGraph, GraphWrote, some_text, entry_text, back_text, returns_text};
+ghost use Rattle.formatting.specs.Pages.{Wrote, pair_text};
+ghost use Rattle.printing.specs.FromGraph.{SomeGraphFrom, GraphWroteFrom};
+ghost use Rattle.printing.specs.PrintedTables.{entry_text, back_text, returns_text};
 
 use crate::print_nodes::put_nodes;
 use formatting::page::Page;
 use layout::columns::{ENTRY_ENTRIES, ENTRY_NODE, ENTRY_NUMBER, FALL_ENTRIES, STMT_ENTRIES};
 use tables::calls::is_call;
+use tables::counts::Counts;
 use tables::graphs::Graph;
 
-// The row of a number with a node, one more than its id, or nothing where it is 0.
-fn put_some(page: &mut Page<'_>, word: &[u8], a: usize, e: u16)
-    ensures { Wrote page.old page.new (some_text word.now a e) }
+// The row of a number with a node, or nothing where there is none.
+fn put_some(page: &mut Page<'_>, word: &[u8], a: usize, node: Option<usize>)
+    ensures { Wrote page.old page.new (each (pair_text word.now a) (option_to_list node)) }
 {
-    if let Some(i) = usize::from(e).checked_sub(1) {
+    if let Some(i) = node {
         page.put_pair_row(word, a, i);
     }
 }
@@ -24,12 +27,9 @@ fn put_entry(page: &mut Page<'_>, entries: &[u16], k: usize)
     requires { k * 2 + 2 ≤ length entries.now }
     ensures { Wrote page.old page.new (entry_text entries.now k) }
 {
-    put_some(
-        page,
-        b"(entry",
-        usize::from(entries[k * ENTRY_ENTRIES + ENTRY_NUMBER]),
-        entries[k * ENTRY_ENTRIES + ENTRY_NODE],
-    );
+    let number = usize::from(entries[k * ENTRY_ENTRIES + ENTRY_NUMBER]);
+    let node = usize::from(entries[k * ENTRY_ENTRIES + ENTRY_NODE]).checked_sub(1);
+    put_some(page, b"(entry", number, node);
 }
 
 // The entries of so many rows, by number.
@@ -48,7 +48,8 @@ fn put_back(page: &mut Page<'_>, stmts: &[u16], falls: &[u16], i: usize)
     ensures { Wrote page.old page.new (back_text stmts.now falls.now i) }
 {
     if is_call(stmts[i * STMT_ENTRIES]) {
-        put_some(page, b"(back", i, falls[i * FALL_ENTRIES]);
+        let fall = usize::from(falls[i * FALL_ENTRIES]).checked_sub(1);
+        put_some(page, b"(back", i, fall);
     }
 }
 
@@ -72,16 +73,18 @@ fn put_returns(page: &mut Page<'_>, returns: &[u16], targets: usize)
     page.put_bytes(b")\n");
 }
 
-// Prints the graph that the tables hold, of so many entry rows, n nodes and so many return targets.
-pub(crate) fn print_graph(g: &Graph<'_>, rows: usize, n: usize, targets: usize, page: &mut Page<'_>)
-    requires { SomeGraph g.now.lines.now g.now.stmts.now g.now.entries.now g.now.falls.now g.now.lists.now g.now.returns.now g.now.succ.now g.now.pred.now rows n targets × (n ≡ get_or g.now.counts.now 1 0) }
-    ensures { GraphWrote g.now.lines.now g.now.stmts.now g.now.entries.now g.now.falls.now g.now.lists.now g.now.returns.now g.now.succ.now g.now.pred.now rows n targets page.old page.new }
+// Prints the graph that the tables hold.
+// Kept: what the tables hold in a `requires`: in a ghost field it would stand in `∥ ∥₁`, for each reader to open.
+pub(crate) fn print_graph(g: &Graph<'_>, page: &mut Page<'_>)
+    requires { SomeGraphFrom g.now }
+    ensures { GraphWroteFrom g.now page.old page.new }
 {
-    page.put_pair(b"(graph", 0, n);
+    let used = Counts(g.counts);
+    page.put_pair(b"(graph", 0, used.nodes());
     page.put_bytes(b"\n");
-    put_nodes(page, g, n);
-    put_entries(page, g.entries, rows);
-    put_returns(page, g.returns, targets);
-    put_backs(page, g.stmts, g.falls, n);
+    put_nodes(page, g);
+    put_entries(page, g.entries, used.rows());
+    put_returns(page, g.returns, used.targets());
+    put_backs(page, g.stmts, g.falls, used.nodes());
     page.put_bytes(b")\n");
 }

@@ -1,20 +1,25 @@
 // The rows of the nodes, read off the tables.
-ghost use Rattle.std.specs.Prelude.{◌≡◌, ◌++◌, ◌+◌, ◌*◌, ◌<◌, ◌≤◌, length, get_or};
+ghost use Rattle.std.specs.Prelude.{◌≡◌, ◌++◌, ◌+◌, ◌*◌, ◌<◌, ◌≤◌, length};
 ghost use Rattle.graph.specs.Lists.{each, below};
 ghost use Rattle.graph.specs.Print.{spaced, joined};
-ghost use Rattle.tables.specs.Columns.{succ_start, succ_count, pred_start, pred_count, Holders, path_in, succ_part, pred_part, NodesReadable};
+ghost use Rattle.tables.specs.Columns.{succ_start, succ_count, pred_start, pred_count, path_in};
 ghost use Rattle.formatting.specs.Pages.{Wrote};
-ghost use Rattle.printing.specs.PrintedTables.{head_text, lists_text, node_text};
+ghost use Rattle.printing.specs.FromGraph.{nodes_from, NodesReadableFrom, lists_text_from, node_text_from};
+ghost use Rattle.printing.specs.PrintedTables.{head_text};
 
 use adjacency::successors::{predecessors, successors};
 use formatting::page::Page;
 use layout::columns::{HOLDER, INDEX, LINE, STMT_ENTRIES};
 use layout::limits::MAX_DEPTH;
+use tables::counts::Counts;
 use tables::graphs::Graph;
 
-// The path of node i: that of the IF that holds it, and then its own number. It goes up through `left` IFs at most.
+// Kept: here and below, functions of a page and a graph, since both types are of crates below.
+// The path of node i: that of the IF that holds it, and then its own number.
+// It goes up through `left` IFs at most.
+// Kept: what can be read in a `requires`: in a ghost field it would stand in `∥ ∥₁`, for each reader to open.
 fn put_path(page: &mut Page<'_>, g: &Graph<'_>, i: usize, left: usize)
-    requires { (i < get_or g.now.counts.now 1 0) × NodesReadable g.now.lines.now g.now.stmts.now g.now.lists.now g.now.succ.now g.now.pred.now (get_or g.now.counts.now 1 0) }
+    requires { (i < nodes_from g.now) × NodesReadableFrom g.now }
     ensures { Wrote page.old page.new (joined (path_in g.now.stmts.now left i)) }
 {
     let row = i * STMT_ENTRIES;
@@ -48,8 +53,8 @@ fn put_list(page: &mut Page<'_>, word: &[u8], list: &[u16])
 
 // Both lists of node i, which are parts of the edge tables, and the end of the row.
 fn put_lists(page: &mut Page<'_>, g: &Graph<'_>, i: usize)
-    requires { (i < get_or g.now.counts.now 1 0) × (get_or g.now.counts.now 1 0 * 4 ≤ length g.now.lists.now) × (succ_start g.now.lists.now i + succ_count g.now.lists.now i ≤ length g.now.succ.now) × (pred_start g.now.lists.now i + pred_count g.now.lists.now i ≤ length g.now.pred.now) }
-    ensures { Wrote page.old page.new (lists_text (succ_part g.now.lists.now g.now.succ.now i) (pred_part g.now.lists.now g.now.pred.now i)) }
+    requires { (i < nodes_from g.now) × (nodes_from g.now * 4 ≤ length g.now.lists.now) × (succ_start g.now.lists.now i + succ_count g.now.lists.now i ≤ length g.now.succ.now) × (pred_start g.now.lists.now i + pred_count g.now.lists.now i ≤ length g.now.pred.now) }
+    ensures { Wrote page.old page.new (lists_text_from g.now i) }
 {
     let own = successors(g.counts, g.lists, g.succ, i);
     let before = predecessors(g.counts, g.lists, g.pred, i);
@@ -59,9 +64,10 @@ fn put_lists(page: &mut Page<'_>, g: &Graph<'_>, i: usize)
 }
 
 // The row of node i.
+// Kept: a `requires`, as `put_path`.
 fn put_node(page: &mut Page<'_>, g: &Graph<'_>, i: usize)
-    requires { (i < get_or g.now.counts.now 1 0) × NodesReadable g.now.lines.now g.now.stmts.now g.now.lists.now g.now.succ.now g.now.pred.now (get_or g.now.counts.now 1 0) }
-    ensures { Wrote page.old page.new (node_text g.now.lines.now g.now.stmts.now g.now.lists.now g.now.succ.now g.now.pred.now i) }
+    requires { (i < nodes_from g.now) × NodesReadableFrom g.now }
+    ensures { Wrote page.old page.new (node_text_from g.now i) }
 {
     let line = usize::from(g.stmts[i * STMT_ENTRIES + LINE]);
     put_head(page, i, usize::from(g.lines[line]), line);
@@ -69,12 +75,13 @@ fn put_node(page: &mut Page<'_>, g: &Graph<'_>, i: usize)
     put_lists(page, g, i);
 }
 
-// The rows of n nodes.
-pub(crate) fn put_nodes(page: &mut Page<'_>, g: &Graph<'_>, n: usize)
-    requires { NodesReadable g.now.lines.now g.now.stmts.now g.now.lists.now g.now.succ.now g.now.pred.now n × (n ≡ get_or g.now.counts.now 1 0) }
-    ensures { Wrote page.old page.new (each (node_text g.now.lines.now g.now.stmts.now g.now.lists.now g.now.succ.now g.now.pred.now) (below n)) }
+// The rows of all nodes.
+// Kept: a `requires`, as `put_path`.
+pub(crate) fn put_nodes(page: &mut Page<'_>, g: &Graph<'_>)
+    requires { NodesReadableFrom g.now }
+    ensures { Wrote page.old page.new (each (node_text_from g.now) (below (nodes_from g.now))) }
 {
-    for i in 0..n {
+    for i in 0..Counts(g.counts).nodes() {
         put_node(page, g, i);
     }
 }

@@ -1,4 +1,5 @@
--- The text that a saved program is printed as: the listing that it means in the bracket form, or its refusal. Assumes nothing.
+-- The text that a saved program is printed as: the listing that it means in the bracket form, or its refusal.
+-- Assumes nothing.
 use Rattle.std.specs.Prelude.{ℕ, List}
 use Rattle.listings.specs.Read.{Answer, listing, refusal}
 use Rattle.listings.specs.ListingText.{listing_text}

@@ -1,6 +1,6 @@
 -- A statement's row from the number of its opening word and its arguments. Assumes nothing.
 use Rattle.std.specs.Prelude.{ℕ, ◌≡◌, refl, List, [], ◌∷◌, ◌++◌, map, true, false, ◌||◌, eqb, get_or}
-use Rattle.std.proofs.Common.{sym, ap, ◌∙◌, append_assoc, append-nil, arith, ne_eqb}
+use Rattle.std.proofs.Common.{sym, ap, ◌∙◌, append_assoc, append-nil, arith, eq-eqb, ne_eqb}
 use Rattle.std.proofs.Math.Option.{none, some}
 use Rattle.listings.specs.Bytes.{bytes, decimal, pick, same}
 use Rattle.listings.specs.Listing.{Name, static, framed, dispatched, Mark, orphan, Slot, goto, gosub, runto, ongoto, ongosub, repeat, loop, until, endloop, exit, exitif, doif, else, done, BareWord, return, run, clr, stop, any, Simple, jump, on, for, next, block, bare}
@@ -150,21 +150,11 @@ pub arg_number : (w v : ℕ) → (w ≡ 13 → ⊥) → (w ≡ 14 → ⊥) → d
 unfolding arg_text
 arg_number w v g h = rw (ne_eqb w 13 g, ne_eqb w 14 h)
 
-pub mark_next : (w : ℕ) → w ≡ 14 → bytes " plain" ≡ mark_text w
-unfolding mark_text
-mark_next w h = rw h
+pub only_own : (w k : ℕ) (t : List ℕ) → w ≡ k → t ≡ pick (eqb w k) t []
+only_own w k t h = rw (eq-eqb w k h)
 
-pub mark_none : (w : ℕ) → (w ≡ 14 → ⊥) → [] ≡ mark_text w
-unfolding mark_text
-mark_none w h = rw (ne_eqb w 14 h)
-
-pub tier_for : (w : ℕ) → w ≡ 13 → bytes " static" ≡ tier_text w
-unfolding tier_text
-tier_for w h = rw h
-
-pub tier_none : (w : ℕ) → (w ≡ 13 → ⊥) → [] ≡ tier_text w
-unfolding tier_text
-tier_none w h = rw (ne_eqb w 13 h)
+pub only_other : (w k : ℕ) (t : List ℕ) → (w ≡ k → ⊥) → [] ≡ pick (eqb w k) t []
+only_other w k t h = rw (ne_eqb w k h)
 
 pub wrote_stmt : {p q s t u v : Page} (w : ℕ) (vs : List ℕ) → Wrote p q (40 ∷ get_or words w []) → Wrote q s (mark_text w) → Wrote s t (arg_texts w vs)
     → Wrote t u (tier_text w) → Wrote u v (bytes ")\n") → Wrote p v (stmt_text w vs)

@@ -14,7 +14,8 @@ use basic::rows::{first_row, row_at};
 use formatting::page::{Page, print_refusal};
 
 // Every row of an accepted file, one after the other.
-// Kept: `while let`; as an iterator of rows it is no plainer: std's laws want the items as a function of what is left, and a row is told by what it means (`RowIs`).
+// Kept: `while let`; as an iterator of rows it is no plainer: std's laws want the items as a function of what is left,
+// and a row is told by what it means (`RowIs`).
 fn put_rows(file: &[u8], out: &mut [u8]) -> usize
     requires { All Printable (module_row false ∷ lines_at file.now 2) }
     ensures { Puts out.old 0 out.new result (rows_text (module_row false ∷ lines_at file.now 2)) }
@@ -28,7 +29,8 @@ fn put_rows(file: &[u8], out: &mut [u8]) -> usize
     page.len()
 }
 
-// The listing that a file means, in the bracket form, or its refusal. Bytes that do not fit are dropped; the answer is where the next byte would go.
+// The listing that a file means, in the bracket form, or its refusal. Bytes that do not fit are dropped; the answer is
+// where the next byte would go.
 pub fn list_program(file: &[u8], out: &mut [u8]) -> usize
     ensures { Puts out.old 0 out.new result (prglist file.now) }
 {

@@ -1,9 +1,10 @@
 // A statement's row, from the number of its opening word and its arguments.
-ghost use Rattle.std.specs.Prelude.{◌≡◌, ◌+◌, ◌%◌, [], ◌∷◌, get_or};
+ghost use Rattle.std.specs.Prelude.{◌≡◌, ◌+◌, ◌%◌, [], ◌∷◌, eqb, get_or};
+ghost use Rattle.listings.specs.Bytes.{pick};
 ghost use Rattle.listings.specs.WordTable.{words};
 ghost use Rattle.formatting.specs.Pages.{Wrote};
 ghost use Rattle.program_text.specs.KeyText.{key_bytes};
-ghost use Rattle.program_text.specs.StmtText.{slot_text, arg_text, arg_texts, mark_text, tier_text, stmt_text};
+ghost use Rattle.program_text.specs.StmtText.{slot_text, arg_text, arg_texts, stmt_text};
 
 use formatting::page::Page;
 use layout::words::{FOR, NEXT};
@@ -27,6 +28,7 @@ fn put_key(page: &mut Page<'_>, key: u64, most: usize)
 }
 
 // A name of three bytes at most, or `*`.
+// Kept: a number, 0 for `*`; the lent table has it so.
 fn put_slot(page: &mut Page<'_>, key: u64)
     ensures { Wrote page.old page.new (slot_text key) }
 {
@@ -71,31 +73,22 @@ fn put_opening(page: &mut Page<'_>, word: u16)
     page.put_word(usize::from(word));
 }
 
-// "NEXT plain"
-fn put_mark(page: &mut Page<'_>, word: u16)
-    ensures { Wrote page.old page.new (mark_text word) }
+// A text that the rows of one opening word alone have.
+fn put_only(page: &mut Page<'_>, word: u16, owner: u16, text: &[u8])
+    ensures { Wrote page.old page.new (pick (eqb word owner) text.now []) }
 {
-    if word == NEXT {
-        page.put_bytes(b" plain");
+    if word == owner {
+        page.put_bytes(text);
     }
 }
 
-// "FOR is static"
-fn put_tier(page: &mut Page<'_>, word: u16)
-    ensures { Wrote page.old page.new (tier_text word) }
-{
-    if word == FOR {
-        page.put_bytes(b" static");
-    }
-}
-
-// The whole row, with its end.
+// The whole row, with its end: a NEXT is plain, a FOR static.
 pub(crate) fn put_stmt(page: &mut Page<'_>, word: u16, args: &[u64])
     ensures { Wrote page.old page.new (stmt_text word args.now) }
 {
     put_opening(page, word);
-    put_mark(page, word);
+    put_only(page, word, NEXT, b" plain");
     put_args(page, word, args);
-    put_tier(page, word);
+    put_only(page, word, FOR, b" static");
     page.put_bytes(b")\n");
 }

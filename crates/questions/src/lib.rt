@@ -1,4 +1,5 @@
-// The questions that a user asks of tables, under the original's names where it has one. On tables that a build wrote their answers are the graph's: laws in specs/.
+// The questions that a user asks of tables, under the original's names where it has one.
+// On tables that a build wrote their answers are the graph's: laws in specs/.
 #![tactic(auto)]
 
 pub mod entry;

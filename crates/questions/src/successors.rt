@@ -6,7 +6,7 @@ ghost use Rattle.adjacency.specs.ListsAt.{successors_at, predecessors_at, part_o
 use layout::refusals::Refusal;
 
 // The successors: that part of the lent edge table; empty where the question is refused.
-// Kept: two public names, each thin over one function.
+// Kept: two names, as C has them: with one, each caller would have to pair a side with its table.
 pub fn successors<'a>(counts: &[u32; 6], lists: &[u16], succ: &'a [u16], node: usize) -> &'a [u16]
     ensures { result.now ≡ part_of (successors_at counts.now lists.now (length succ.now) node) succ.now }
 {
@@ -14,7 +14,7 @@ pub fn successors<'a>(counts: &[u32; 6], lists: &[u16], succ: &'a [u16], node: u
 }
 
 // The predecessors, as the successors.
-// Kept: two public names, each thin over one function.
+// Kept: two names, as `successors`.
 pub fn predecessors<'a>(counts: &[u32; 6], lists: &[u16], pred: &'a [u16], node: usize) -> &'a [u16]
     ensures { result.now ≡ part_of (predecessors_at counts.now lists.now (length pred.now) node) pred.now }
 {
@@ -22,7 +22,7 @@ pub fn predecessors<'a>(counts: &[u32; 6], lists: &[u16], pred: &'a [u16], node:
 }
 
 // Where that part stands, start and length, or the refusal.
-// Kept: two public names, each thin over one function.
+// Kept: two names, as `successors`.
 pub fn ask_successors(
     counts: &[u32; 6],
     lists: &[u16],
@@ -35,7 +35,7 @@ pub fn ask_successors(
 }
 
 // The same of the predecessors.
-// Kept: two public names, each thin over one function.
+// Kept: two names, as `successors`.
 pub fn ask_predecessors(
     counts: &[u32; 6],
     lists: &[u16],

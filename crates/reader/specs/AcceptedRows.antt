@@ -1,21 +1,21 @@
 -- The rows of an accepted text: each is in form, so that less has to be judged when it is read again. Assumes nothing.
-use Rattle.std.specs.Prelude.{ℕ, ◌<◌, ◌≡◌, refl, List, [], ◌∷◌, Bool, true, false, eqb, ltb, leb, length, get_or, Option as Maybe, Some, None, Ok, Err}
-use Rattle.std.proofs.Common.{sym, ap, ◌∙◌, subst, arith, eqb-true}
+use Rattle.std.specs.Prelude.{ℕ, ◌≡◌, refl, List, [], ◌∷◌, Bool, true, false, eqb, ltb, leb, Option as Maybe, Some, None, Ok, Err}
+use Rattle.std.proofs.Common.{sym, ap, ◌∙◌, subst, arith}
 use Rattle.std.proofs.Math.Option.{Option, none, some}
+use Rattle.std.specs.Result.{IsOk}
 use Rattle.std.proofs.Math.Decide.{dec_lt}
-use Rattle.std.proofs.lemmas.Bool.{eqb-false}
 use Rattle.listings.specs.Bytes.{same, pick}
-use Rattle.listings.specs.Rows.{split, are_words, form_row, row_of, lookup, Parse, malformed, invalid, parsed, single, handler_facts, module_by, module_content, content_of}
+use Rattle.listings.specs.Rows.{split, are_words, close, bad, form_row, row_of, lookup, Parse, malformed, invalid, parsed, single, handler_facts, module_by, module_content, content_of}
 use Rattle.listings.specs.WordTable.{word_index}
 use Rattle.listing_laws.specs.WordSlots.{candidate_of, own_candidate}
+use Rattle.tokens.specs.Numbers.{as_number}
 use Rattle.tokens.specs.Arguments.{Verdict, check_kind}
 use Rattle.tokens.specs.Kinds.{opened_kind, opened_past}
 use Rattle.tokens.specs.declared.words.Kind.{Kind}
 use Rattle.tokens.specs.declared.words.Kind.TheVariants as kind
-use Rattle.reader.specs.CodedRows.{place_number, as_line, as_to, as_row, Said, simple_of, closed_args, opened_args, args_row, closed_bare, opened_bare, bare_row, closed_others, form_false, form_one, form_more, row_empty, row_end, row_bad}
+use Rattle.reader.specs.CodedRows.{place_number, number_due, as_line, as_to, as_row, Said, simple_of, closed_args, opened_args, args_row, closed_bare, opened_bare, bare_row, closed_others, form_false, form_one, form_more, row_end, row_bad}
 use Rattle.reader.specs.Machine.{State, one_more, step_simple, step_row}
 use Rattle.reader.specs.declared.rows.Position.TheVariants as at
-use Rattle.reader.specs.declared.rows.Misfit.{Misfit}
 use Rattle.reader.specs.declared.rows.Cond.TheVariants as cond
 use Rattle.layout.specs.declared.refusals.Reason.TheVariants as reason
 use Rattle.reader.specs.declared.rows.Row.TheVariants as row
@@ -42,15 +42,9 @@ uncounted (Ok (row.To n)) = Ok (row.To n)
 uncounted (Ok (row.Simple k n)) = Ok (row.Simple k 0)
 uncounted (Ok (row.Cond k)) = Ok (row.Cond k)
 
-pub formed_ok : (d : Said) (m : Misfit) → WellFormed d → uncounted d ≡ Err m → ⊥
-formed_ok (Err m) n f e = f
-formed_ok (Ok row.End) m f e = cc
-formed_ok (Ok row.Stmts) m f e = cc
-formed_ok (Ok (row.Module h)) m f e = cc
-formed_ok (Ok (row.Line n)) m f e = cc
-formed_ok (Ok (row.To n)) m f e = cc
-formed_ok (Ok (row.Simple k n)) m f e = cc
-formed_ok (Ok (row.Cond k)) m f e = cc
+pub formed_ok : (d : Said) → WellFormed d → IsOk d
+formed_ok (Err m) f = absurd f
+formed_ok (Ok r) f = refl
 
 -- ---- what is taken is in form, and is taken without its count
 
@@ -123,6 +117,12 @@ opened_same kind.Run ws = refl
 opened_same kind.For ws = refl
 opened_same kind.Next ws = refl
 
+-- the number of `(to N)`
+pub to_ok : (g : Parse ℕ) → WellFormed (as_to g) → IsOk (number_due at.InCond (as_number g))
+to_ok malformed f = absurd f
+to_ok invalid f = absurd f
+to_ok (parsed n) f = refl
+
 pub closed_to : (k : ℕ) (ws : List (List ℕ)) → as_to (single ws) ≡ uncounted (closed_args kind.To k ws)
 unfolding closed_args
 closed_to k ws = to_same (single ws)
@@ -194,21 +194,26 @@ module _ (c : Bool) (s : List ℕ) (formed : WellFormed (as_row (content_of (for
   words = formed_words c (split 32 s) formed
 
   module _ (alone : split 32 s ≡ s ∷ []) where
-    -- there is an opening word, which opens a form
-    pub one_kind : opened_kind (word_index s) ≡ None → ⊥
+    -- there is an opening word
+    one_kind : opened_kind (word_index s) ≡ None → ⊥
     one_kind q = bare-none (word_index s) c (subst (λ (n : Maybe Kind). WellFormed (bare_row n (word_index s) c)) q (subst WellFormed (form_one c s words alone) formed))
 
     pub one_candidate : (k : ℕ) → k ≡ candidate_of s → k ≡ word_index s
     one_candidate k q = q ∙ own_candidate s (elim (dec_lt (word_index s) 28) [ yes h ↦ h | no h ↦ absurd (one_kind (opened_past (word_index s) (omega (arith, h)))) ])
 
     -- g: what the opening word opens
-    pub formed_one : (k : ℕ) (g : Maybe Kind) → k ≡ word_index s → g ≡ opened_kind k → bare_row g k c ≡ uncounted (as_row (content_of (form_row c (split 32 s))))
-    formed_one k g opening is =
-        let p = ap (λ (x : Maybe Kind). bare_row x k c) is ∙ ap (λ (n : ℕ). bare_row (opened_kind n) n c) opening ∙ sym (form_one c s words alone) in
-        bare-same g k c ∙ ap uncounted p
+    module _ (k : ℕ) (g : Maybe Kind) (opening : k ≡ word_index s) (is : g ≡ opened_kind k) where
+      formed_bare : bare_row g k c ≡ as_row (content_of (form_row c (split 32 s)))
+      formed_bare = ap (λ (x : Maybe Kind). bare_row x k c) is ∙ ap (λ (n : ℕ). bare_row (opened_kind n) n c) opening ∙ sym (form_one c s words alone)
+
+      pub one_formed : WellFormed (bare_row g k c)
+      one_formed = subst WellFormed (sym formed_bare) formed
+
+      pub formed_one : bare_row g k c ≡ uncounted (as_row (content_of (form_row c (split 32 s))))
+      formed_one = bare-same g k c ∙ ap uncounted formed_bare
 
   module _ (w v : List ℕ) (cut : split 32 s ≡ w ∷ split 32 v) where
-    pub more_kind : opened_kind (word_index w) ≡ None → ⊥
+    more_kind : opened_kind (word_index w) ≡ None → ⊥
     more_kind q = args_none (word_index w) c (split 32 v) (subst (λ (n : Maybe Kind). WellFormed (args_row n (word_index w) c (split 32 v))) q (subst WellFormed (form_more c s words w v cut) formed))
 
     pub more_candidate : (k : ℕ) → k ≡ candidate_of w → k ≡ word_index w
@@ -223,17 +228,10 @@ module _ (c : Bool) (s : List ℕ) (formed : WellFormed (as_row (content_of (for
       pub formed_more : WellFormed (args_row g k c (split 32 v))
       formed_more = subst WellFormed (sym formed_args) formed
 
-module _ (s : List ℕ) (formed : WellFormed (as_row (content_of (row_of s)))) where
-  pub formed_some : 0 < length s
-  formed_some = go (eqb (length s) 0) refl
-    where
-      go : (t : Bool) → eqb (length s) 0 ≡ t → 0 < length s
-      go true e = absurd (subst WellFormed (row_empty s (eqb-true (length s) 0 e)) formed)
-      go false e = omega (arith, eqb-false (length s) 0 e)
-
-  pub formed_end : (get_or s 0 0 ≡ 40 → ⊥) → Ok row.End ≡ uncounted (as_row (content_of (row_of s)))
-  formed_end k = go (same s (41 ∷ [])) refl
-    where
-      go : (t : Bool) → same s (41 ∷ []) ≡ t → Ok row.End ≡ uncounted (as_row (content_of (row_of s)))
-      go true e = ap uncounted (sym (row_end s formed_some k e))
-      go false e = absurd (subst WellFormed (row_bad s formed_some k e) formed)
+-- a row without an opening bracket
+pub formed_end : (s : List ℕ) → WellFormed (as_row (content_of (row_of s))) → row_of s ≡ pick (same s (41 ∷ [])) close bad → Ok row.End ≡ uncounted (as_row (content_of (row_of s)))
+formed_end s formed is = go (same s (41 ∷ [])) refl
+  where
+    go : (t : Bool) → same s (41 ∷ []) ≡ t → Ok row.End ≡ uncounted (as_row (content_of (row_of s)))
+    go true e = ap uncounted (sym (row_end s is e))
+    go false e = absurd (subst WellFormed (row_bad s is e) formed)

@@ -1,22 +1,24 @@
 -- What a row says, as the code answers it, and how the code finds it. Assumes nothing.
-use Rattle.std.specs.Prelude.{ℕ, zero, suc, ◌+◌, ◌-◌, ◌≤◌, ◌<◌, ◌≡◌, refl, List, [], ◌∷◌, Bool, true, false, eqb, ltb, length, get_or, take, drop, Option as Maybe, Some, None, Result, Ok, Err}
-use Rattle.std.proofs.Common.{sym, ◌∙◌, subst, arith, not-suc-le-zero, take_all, eq-eqb, ne_eqb, eqb-true}
+use Rattle.std.specs.Prelude.{ℕ, zero, suc, ◌+◌, ◌-◌, ◌≤◌, ◌<◌, ◌≡◌, refl, List, [], ◌∷◌, ◌++◌, Bool, true, false, ◌&&◌, eqb, ltb, length, take, drop, Option as Maybe, Some, None, Result, Ok, Err}
+use Rattle.std.proofs.Common.{sym, ◌∙◌, subst, arith, not-suc-le-zero, le_of_suc-le-suc, ne_eqb}
 use Rattle.std.proofs.Math.Path.{ap}
 use Rattle.std.proofs.Math.Option.{Option, none, some}
 use Rattle.std.proofs.Math.ListN.{get_elem?}
+use Rattle.std.specs.Option.{IsSome}
 use borrow.Author.Tests.{ltb-true, ltb-false}
-use Rattle.std.proofs.lemmas.Bool.{eqb-false}
+use denote.Ref.{Bor}
 use Rattle.listings.specs.Bytes.{bytes, same, pick}
 use Rattle.listings.specs.Listing.{Simple, jump, runto, on, for, next, CondWord, if, ifelse, rcomp}
-use Rattle.listings.specs.Rows.{split, on_first, are_words, strip_close, Row as FormRow, close, bad, form, form_row, row_of, Form, module_form, line_form, to_form, stmts_form, run_form, for_form, next_form, cond_form, bare_form, number_form, numbers_form, opening_words, lookup, Parse, malformed, invalid, parsed, map_parse, with_parse, parse_numbers, parse_name, parse_slots, parse_tier, parse_mark, Counted, Content, no_form, end_row, stmts_row, module_row, line_row, to_row, simple_row, cond_row, bare_stmt, single, run_stmt, for_stmt, next_stmt, if_no_words, handler_facts, module_by, module_content, form_content, word_content, content_of}
+use Rattle.listings.specs.Rows.{split, on_first, all, is_word, are_words, strip_close, Row as FormRow, close, bad, form, form_row, row_of, Form, module_form, line_form, to_form, stmts_form, run_form, for_form, next_form, cond_form, bare_form, number_form, numbers_form, opening_words, lookup, Parse, malformed, invalid, parsed, map_parse, with_parse, parse_numbers, parse_name, parse_slots, parse_tier, parse_mark, Counted, Content, no_form, end_row, stmts_row, module_row, line_row, to_row, simple_row, cond_row, bare_stmt, single, run_stmt, for_stmt, next_stmt, if_no_words, handler_facts, module_by, module_content, form_content, word_content, content_of}
 use Rattle.listing_laws.specs.WordText.{same_equal}
 use Rattle.listings.specs.ListingText.{jump_word, on_word, simple_word}
+use Rattle.listings.specs.Tests.{both_true}
 use Rattle.listings.specs.WordTable.{words, forms, first, word_index, content_at}
 use Rattle.listings.specs.Scan.{index_of, index_le, split_last, split_more, split-some}
 use Rattle.tokens.specs.Numbers.{as_number, flag_of}
 use Rattle.tokens.specs.Arguments.{Verdict, verdict, lowest, check_for, check_next, check_kind, refusal_with, numbers_refusal, slots_refusal}
 use Rattle.tokens.specs.declared.arguments.Checked.{Checked}
-use Rattle.tokens.specs.Kinds.{form_kind, kind_found, opened_kind}
+use Rattle.tokens.specs.Kinds.{form_kind, kind_found, opened_kind, word_found, word_is, no_word_is, opened_past}
 use Rattle.tokens.specs.declared.words.Kind.{Kind}
 use Rattle.tokens.specs.declared.words.Kind.TheVariants as kind
 use Rattle.layout.specs.declared.refusals.Reason.{Reason}
@@ -26,8 +28,11 @@ use Rattle.reader.specs.declared.rows.Position.TheVariants as at
 use Rattle.reader.specs.declared.rows.Misfit.{Misfit}
 use Rattle.reader.specs.declared.rows.Cond.{Cond}
 use Rattle.reader.specs.declared.rows.Cond.TheVariants as cond
+use Rattle.reader.specs.declared.rows.Which.{Which}
+use Rattle.reader.specs.declared.rows.Which.TheVariants as which
 use Rattle.reader.specs.declared.rows.Bracket.{Bracket}
 use Rattle.reader.specs.declared.rows.Bracket.TheVariants as bracket
+use Rattle.reader.specs.declared.rows.Opening.{Opening}
 use Rattle.reader.specs.declared.rows.Row.{Row}
 use Rattle.reader.specs.declared.rows.Row.TheVariants as row
 
@@ -70,6 +75,10 @@ pub cond_back : (k : CondWord) → cond_by (cond_number k) ≡ as_cond k
 cond_back if = refl
 cond_back ifelse = refl
 cond_back rcomp = refl
+
+abbrev pub is_second : Which → Bool
+is_second which.First = false
+is_second which.Second = true
 
 -- a row, or why it is refused where such a row is due
 abbrev pub Said : Type 0
@@ -485,91 +494,139 @@ module _ (c : Bool) (s : List ℕ) (ok : are_words (split 32 s) ≡ true) where
   unfolding args_row
   more_unopened w v p q = form_more w v p ∙ ap (λ (g : Maybe Kind). args_row g (word_index w) c (split 32 v)) q
 
+-- ---- each opening word is a word
+
+word_among : (ds : List (List ℕ)) → are_words ds ≡ true → (w : List ℕ) → first ds w < length ds → is_word w ≡ true
+unfolding are_words first
+word_among [] h w q = absurd (not-suc-le-zero q)
+word_among (d ∷ ds) h w q = go (same d w) refl q (word_among ds (both_true (is_word d) (are_words ds) h).1 w)
+  where
+    go : (t : Bool) → same d w ≡ t → pick t 0 (suc (first ds w)) < suc (length ds) → (first ds w < length ds → is_word w ≡ true) → is_word w ≡ true
+    go true e b more = subst (λ (x : List ℕ). is_word x ≡ true) (same_equal d w e) (both_true (is_word d) (are_words ds) h).0
+    go false e b more = more (le_of_suc-le-suc b)
+
+found_below : (w : List ℕ) (k : ℕ) → Some k ≡ word_found w → word_index w < 28
+unfolding word_found
+found_below w k e = go (ltb (word_index w) 28) refl e
+  where
+    go : (t : Bool) → ltb (word_index w) 28 ≡ t → Some k ≡ pick t (Some (word_index w)) None → word_index w < 28
+    go true q e = ltb-true (word_index w) 28 q
+    go false q e = cc
+
+pub found_number : (w : List ℕ) (k : ℕ) → Some k ≡ word_found w → k < 28
+found_number w k e = omega (arith, word_is w k e, found_below w k e)
+
+-- each of the 28 opens a form
+kind_below : (hs : List Form) (k : ℕ) → k < length hs → IsSome (kind_found (get_elem? hs k))
+kind_below [] k h = absurd (not-suc-le-zero h)
+kind_below (f ∷ hs) zero h = refl
+kind_below (f ∷ hs) (suc k) h = kind_below hs k (le_of_suc-le-suc h)
+
+pub opened_below : (k : ℕ) → k < 28 → IsSome (opened_kind k)
+unfolding forms opening_words opened_kind
+opened_below k h = kind_below forms k h
+
+opens : (w : List ℕ) → word_index w < 28 → is_word w ≡ true
+unfolding word_index are_words is_word words opening_words bytes all
+opens w h = word_among words refl w h
+
+none_words : are_words [] ≡ true
+unfolding are_words
+none_words = refl
+
+words_of : (w : List ℕ) (ws : List (List ℕ)) → is_word w ≡ true → are_words ws ≡ true → are_words (w ∷ ws) ≡ true
+unfolding are_words
+words_of w ws p q = rw (p, q)
+
+not_words : (w : List ℕ) (ws : List (List ℕ)) → are_words ws ≡ false → are_words (w ∷ ws) ≡ false
+unfolding are_words
+not_words w ws q = go (is_word w) (are_words ws) q
+  where
+    go : (x y : Bool) → y ≡ false → (x && y) ≡ false
+    go true y e = e
+    go false y e = refl
+
+-- a row whose opening word was not found is no form
+module _ (c : Bool) (s : List ℕ) where
+  no_one : split 32 s ≡ s ∷ [] → 28 ≤ word_index s → as_row (content_of (form_row c (split 32 s))) ≡ no_row
+  no_one p h = go (are_words (split 32 s)) refl
+    where
+      go : (t : Bool) → are_words (split 32 s) ≡ t → as_row (content_of (form_row c (split 32 s))) ≡ no_row
+      go true ok = one_unopened c s ok p (opened_past _ h)
+      go false f = form_bad c s f
+
+  no_more : (w v : List ℕ) → split 32 s ≡ w ∷ split 32 v → 28 ≤ word_index w → as_row (content_of (form_row c (split 32 s))) ≡ no_row
+  no_more w v p h = go (are_words (split 32 s)) refl
+    where
+      go : (t : Bool) → are_words (split 32 s) ≡ t → as_row (content_of (form_row c (split 32 s))) ≡ no_row
+      go true ok = more_unopened c s ok w v p (opened_past _ h)
+      go false f = form_bad c s f
+
+-- by the word that was found, and by whether the others are words; o: its number and its kind
+module _ (c : Bool) (s : List ℕ) where
+  module _ (p : split 32 s ≡ s ∷ []) where
+    pub one_none : None ≡ word_found s → no_row ≡ as_row (content_of (form_row c (split 32 s)))
+    one_none e = sym (no_one c s p (no_word_is s e))
+
+    pub one_opened : (k : ℕ) → Some k ≡ word_found s → (o : Opening) → o.number ≡ k → Some o.kind ≡ opened_kind k → bare_row (Some o.kind) o.number c ≡ as_row (content_of (form_row c (split 32 s)))
+    one_opened k e o n g =
+        let ok = ap are_words p ∙ words_of s [] (opens s (found_below s k e)) none_words in
+        ap (λ (x : Maybe Kind). bare_row x o.number c) g ∙ ap (λ (m : ℕ). bare_row (opened_kind k) m c) n ∙ ap (λ (m : ℕ). bare_row (opened_kind m) m c) (word_is s k e) ∙ sym (form_one c s ok p)
+
+  module _ (w v : List ℕ) (p : split 32 s ≡ w ∷ split 32 v) where
+    pub more_none : None ≡ word_found w → no_row ≡ as_row (content_of (form_row c (split 32 s)))
+    more_none e = sym (no_more c s w v p (no_word_is w e))
+
+    pub more_bad : are_words (split 32 v) ≡ false → no_row ≡ as_row (content_of (form_row c (split 32 s)))
+    more_bad h = sym (form_bad c s (ap are_words p ∙ not_words w (split 32 v) h))
+
+    pub more_opened : are_words (split 32 v) ≡ true → (k : ℕ) → Some k ≡ word_found w → (o : Opening) → o.number ≡ k → Some o.kind ≡ opened_kind k → args_row (Some o.kind) o.number c (split 32 v) ≡ as_row (content_of (form_row c (split 32 s)))
+    more_opened h k e o n g =
+        let ok = ap are_words p ∙ words_of w (split 32 v) (opens w (found_below w k e)) h in
+        ap (λ (x : Maybe Kind). args_row x o.number c (split 32 v)) g ∙ ap (λ (m : ℕ). args_row (opened_kind k) m c (split 32 v)) n
+        ∙ ap (λ (m : ℕ). args_row (opened_kind m) m c (split 32 v)) (word_is w k e) ∙ sym (form_more c s ok w v p)
+
 -- ---- a whole row
 
-pub row_empty : (s : List ℕ) → length s ≡ 0 → as_row (content_of (row_of s)) ≡ as_row no_form
-unfolding row_of content_of
-row_empty [] h = refl
-row_empty (b ∷ l) h = absurd (omega arith)
+strip_closed : (l : List ℕ) → strip_close (l ++ (41 ∷ [])) ≡ (true, l)
+unfolding strip_close
+strip_closed [] = refl
+strip_closed (b ∷ []) = refl
+strip_closed (b ∷ c ∷ l) = let r : strip_close (c ∷ (l ++ (41 ∷ []))) ≡ (true, c ∷ l) = strip_closed (c ∷ l) in rw r
 
-pub row_other : (s : List ℕ) → 0 < length s → (get_or s 0 0 ≡ 40 → ⊥) → row_of s ≡ pick (same s (41 ∷ [])) close bad
-unfolding row_of
-row_other [] h k = absurd (not-suc-le-zero h)
-row_other (b ∷ l) h k = rw (ne_eqb b 40 k)
+strip_open : (l : List ℕ) → ((w : List ℕ) → l ≡ w ++ (41 ∷ []) → ⊥) → strip_close l ≡ (false, l)
+unfolding strip_close
+strip_open [] h = refl
+strip_open (b ∷ []) h = rw (ne_eqb b 41 (λ e. h [] (ap (λ (z : ℕ). z ∷ []) e)))
+strip_open (b ∷ c ∷ l) h = let r : strip_close (c ∷ l) ≡ (false, c ∷ l) = strip_open (c ∷ l) (λ w e. h (b ∷ w) (ap (λ (z : List ℕ). b ∷ z) e)) in rw r
 
-module _ (s : List ℕ) (some : 0 < length s) where
-  pub row_end : (get_or s 0 0 ≡ 40 → ⊥) → same s (41 ∷ []) ≡ true → as_row (content_of (row_of s)) ≡ as_row end_row
+-- what stands between its brackets, if it begins with one
+abbrev pub Inside : List ℕ → Maybe (Bor (List ℕ) × Bracket) → Type 0
+Inside s None = row_of s ≡ pick (same s (41 ∷ [])) close bad
+Inside s (Some d) = row_of s ≡ form_row (is_closed d.1) (split 32 d.0.now)
+
+pub unbracketed : (s : List ℕ) → ((l : List ℕ) → s ≡ (40 ∷ []) ++ l → ⊥) → row_of s ≡ pick (same s (41 ∷ [])) close bad
+unfolding row_of same
+unbracketed [] h = refl
+unbracketed (b ∷ l) h = rw (ne_eqb b 40 (λ e. h l (ap (λ (z : ℕ). z ∷ l) e)))
+
+module _ (s l : List ℕ) (is : s ≡ (40 ∷ []) ++ l) where
+  bracketed : (t : Bool) (w : List ℕ) → strip_close l ≡ (t, w) → row_of s ≡ form_row t (split 32 w)
+  unfolding row_of
+  bracketed t w e = rw (is, e)
+
+  -- the last byte is the closing bracket, or it is not
+  pub row_closed : (w : List ℕ) → l ≡ w ++ (41 ∷ []) → row_of s ≡ form_row true (split 32 w)
+  row_closed w e = bracketed true w (ap strip_close e ∙ strip_closed w)
+
+  pub row_open : ((w : List ℕ) → l ≡ w ++ (41 ∷ []) → ⊥) → row_of s ≡ form_row false (split 32 l)
+  row_open h = bracketed false l (strip_open l h)
+
+module _ (s : List ℕ) (is : row_of s ≡ pick (same s (41 ∷ [])) close bad) where
+  pub row_end : same s (41 ∷ []) ≡ true → as_row (content_of (row_of s)) ≡ as_row end_row
   unfolding content_of
-  row_end k q = let t : pick (same s (41 ∷ [])) close bad ≡ close = rw q in ap (λ (r : FormRow). as_row (content_of r)) (row_other s some k ∙ t)
+  row_end q = let t : pick (same s (41 ∷ [])) close bad ≡ close = rw q in ap (λ (r : FormRow). as_row (content_of r)) (is ∙ t)
 
-  pub row_bad : (get_or s 0 0 ≡ 40 → ⊥) → same s (41 ∷ []) ≡ false → as_row (content_of (row_of s)) ≡ as_row no_form
+  pub row_bad : same s (41 ∷ []) ≡ false → as_row (content_of (row_of s)) ≡ as_row no_form
   unfolding content_of
-  row_bad k q = let t : pick (same s (41 ∷ [])) close bad ≡ bad = rw q in ap (λ (r : FormRow). as_row (content_of r)) (row_other s some k ∙ t)
-
-strip_closed : (l : List ℕ) (n : ℕ) → length l ≡ suc n → get_or l n 0 ≡ 41 → strip_close l ≡ (true, take n l)
-unfolding strip_close
-strip_closed [] n h e = absurd (omega arith)
-strip_closed (b ∷ []) zero h e = rw (eq-eqb b 41 e)
-strip_closed (b ∷ []) (suc n) h e = absurd (omega arith)
-strip_closed (b ∷ c ∷ l) zero h e = absurd (omega arith)
-strip_closed (b ∷ c ∷ l) (suc n) h e = let r : strip_close (c ∷ l) ≡ (true, take n (c ∷ l)) = strip_closed (c ∷ l) n (omega arith) e in rw r
-
-strip_open : (l : List ℕ) (n : ℕ) → length l ≡ suc n → (get_or l n 0 ≡ 41 → ⊥) → strip_close l ≡ (false, l)
-unfolding strip_close
-strip_open [] n h e = absurd (omega arith)
-strip_open (b ∷ []) zero h e = rw (ne_eqb b 41 e)
-strip_open (b ∷ []) (suc n) h e = absurd (omega arith)
-strip_open (b ∷ c ∷ l) zero h e = absurd (omega arith)
-strip_open (b ∷ c ∷ l) (suc n) h e = let r : strip_close (c ∷ l) ≡ (false, c ∷ l) = strip_open (c ∷ l) n (omega arith) e in rw r
-
-strip_nil : strip_close [] ≡ (false, [])
-unfolding strip_close
-strip_nil = refl
-
-pub closed_form_lem : (s : List ℕ) → 0 < length s → get_or s 0 0 ≡ 40 → get_or s (length s - 1) 0 ≡ 41 → row_of s ≡ form_row true (split 32 (take (length s - 1 - 1) (drop 1 s)))
-unfolding row_of
-closed_form_lem [] h k q = absurd (not-suc-le-zero h)
-closed_form_lem (b ∷ []) h k q = absurd (let z : ◌≡◌ {A = ℕ} 40 41 = cc in omega arith)
-closed_form_lem (b ∷ c ∷ l) h k q =
-    let n : suc (suc (length l)) - 1 - 1 ≡ length l = omega arith in
-    let m : suc (suc (length l)) - 1 ≡ suc (length l) = omega arith in
-    let u : strip_close (c ∷ l) ≡ (true, take (length l) (c ∷ l)) = strip_closed (c ∷ l) (length l) refl (ap (λ (z : ℕ). get_or (b ∷ c ∷ l) z 0) (sym m) ∙ q) in
-    rw (eq-eqb b 40 k, u, n)
-
-pub opened_form : (s : List ℕ) → 0 < length s → get_or s 0 0 ≡ 40 → (get_or s (length s - 1) 0 ≡ 41 → ⊥) → row_of s ≡ form_row false (split 32 (take (length s - 1) (drop 1 s)))
-unfolding row_of
-opened_form [] h k q = absurd (not-suc-le-zero h)
-opened_form (b ∷ []) h k q = let u : strip_close [] ≡ (false, []) = strip_nil in rw (eq-eqb b 40 k, u)
-opened_form (b ∷ c ∷ l) h k q =
-    let m : suc (suc (length l)) - 1 ≡ suc (length l) = omega arith in
-    let u : strip_close (c ∷ l) ≡ (false, c ∷ l) = strip_open (c ∷ l) (length l) refl (λ x. q (ap (λ (z : ℕ). get_or (b ∷ c ∷ l) z 0) m ∙ x)) in
-    let t : take (suc (length l)) (c ∷ l) ≡ c ∷ l = take_all (suc (length l)) (c ∷ l) (omega arith) in
-    rw (eq-eqb b 40 k, u, m, t)
-
-module _ (s : List ℕ) (some : 0 < length s) (opens : get_or s 0 0 ≡ 40) where
-  pub row_closed : get_or s (length s - 1) 0 ≡ 41 → as_row (content_of (row_of s)) ≡ as_row (content_of (form_row true (split 32 (take (length s - 1 - 1) (drop 1 s)))))
-  row_closed q = ap (λ (r : FormRow). as_row (content_of r)) (closed_form_lem s some opens q)
-
-  pub row_opened : (get_or s (length s - 1) 0 ≡ 41 → ⊥) → as_row (content_of (row_of s)) ≡ as_row (content_of (form_row false (split 32 (take (length s - 1) (drop 1 s)))))
-  row_opened q = ap (λ (r : FormRow). as_row (content_of r)) (opened_form s some opens q)
-
--- the two brackets are two bytes
-pub two_or_more : (s : List ℕ) (n : ℕ) → 0 < n → get_or s 0 0 ≡ 40 → get_or s (n - 1) 0 ≡ 41 → 1 ≤ n - 1
-two_or_more s zero h p q = absurd (not-suc-le-zero h)
-two_or_more s (suc zero) h p q = absurd (let z : ◌≡◌ {A = ℕ} 40 41 = sym p ∙ q in omega arith)
-two_or_more s (suc (suc n)) h p q = omega arith
-
--- where the words of a row of n bytes end
-abbrev pub words_end : ℕ → Bool → ℕ
-words_end n true = n - 1
-words_end n false = n
-
-module _ (s : List ℕ) (some : 0 < length s) (opens : get_or s 0 0 ≡ 40) where
-  pub row_form : (t : Bool) → eqb (get_or s (length s - 1) 0) 41 ≡ t → (e : ℕ) → e ≡ words_end (length s) t
-      → (1 ≤ e) × (e ≤ length s) × (as_row (content_of (row_of s)) ≡ as_row (content_of (form_row t (split 32 (take (e - 1) (drop 1 s))))))
-  row_form true q e p =
-      let b = eqb-true (get_or s (length s - 1) 0) 41 q in
-      let l = two_or_more s (length s) some opens b in
-      (omega arith, omega arith, row_closed s some opens b ∙ ap (λ (z : ℕ). as_row (content_of (form_row true (split 32 (take (z - 1) (drop 1 s)))))) (sym p))
-  row_form false q e p =
-      (omega arith, omega arith, row_opened s some opens (eqb-false (get_or s (length s - 1) 0) 41 q) ∙ ap (λ (z : ℕ). as_row (content_of (form_row false (split 32 (take (z - 1) (drop 1 s)))))) (sym p))
+  row_bad q = let t : pick (same s (41 ∷ [])) close bad ≡ bad = rw q in ap (λ (r : FormRow). as_row (content_of r)) (is ∙ t)

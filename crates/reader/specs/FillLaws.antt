@@ -1,4 +1,5 @@
--- A row that is taken: the tables hold the records of the reading after it, and the walk stands where it stands. Assumes nothing.
+-- A row that is taken: the tables hold the records of the reading after it, and the walk stands where it stands.
+-- Assumes nothing.
 use Rattle.std.specs.Prelude.{◌≡◌, Bool, leb, ltb, set, Some}
 use Rattle.std.proofs.Math.Path.{refl, sym, ap, subst}
 use Rattle.std.proofs.Common.{◌∙◌}

@@ -1,8 +1,10 @@
--- The loop that writes, over what its rows say: room for all that is still to come, the invariant, and what it gives. Assumes nothing.
-use Rattle.std.specs.Prelude.{◌≡◌, Bool, true, false, List, [], ◌∷◌, ℕ, ◌*◌, ◌≤◌, leb, ltb, length, replicate, Ok, Err}
+-- The loop that writes, over what its rows say: room for all that is still to come, the invariant, and what it gives.
+-- Assumes nothing.
+use Rattle.std.specs.Prelude.{◌≡◌, refl, Bool, true, false, List, [], ◌∷◌, ℕ, ◌*◌, ◌≤◌, leb, ltb, length, replicate, Ok, Err}
 use Rattle.std.proofs.Common.{sym, ◌∙◌, subst, append-nil, arith}
 use Rattle.std.proofs.Math.Path.{ap}
 use Rattle.std.proofs.Math.Option.{Option, none, some}
+use Rattle.std.specs.Result.{IsOk}
 use Rattle.listings.specs.Listing.{CondWord, Stmts, Listing, total, count}
 use Rattle.listings.specs.Rows.{Parse, malformed, invalid, parsed, Content, no_form, end_row, stmts_row, module_row, line_row, to_row, simple_row, cond_row}
 use Rattle.listings.specs.Read.{OpenCond, Branches, Position, begin, in_module, ended, in_stmts, in_cond, Reading, Outcome, taken, refused, start, go_to, one_more, or_refused, check, ascends, at_begin, read_line, at_module, read_simple, read_cond, end_stmts, at_stmts, NextBranch, no_more, may_follow, next_branch, cond_stmt, end_cond, read_to, read_stmts, at_cond, read_row}
@@ -23,7 +25,6 @@ use Rattle.reader.specs.Fill.{Operands, Says, as_given, arg_table, line_table, s
 use Rattle.reader.specs.Holds.{Holds, holds_as}
 use Rattle.reader.specs.FillLaws.{walk_at, Fits, fill_law}
 use Rattle.reader.specs.FillReady.{Long, holds_long, ready_law}
-use Rattle.layout.specs.declared.refusals.Reason.{Reason}
 use Rattle.reader.specs.declared.fill.Walk.{Walk}
 
 -- ---- lines and statements are never fewer after a row
@@ -243,8 +244,9 @@ module _ {L : Listing} {nl ns na : ℕ} {d : Content} {ds : List Content} {s : S
     takes v z q = q ∙ ap (step_row s) says.row ∙ taken-uncounted s (as_state after.reading) (as_row d) steps_on
 
     -- v, z: what the machine answers, and the state that it leaves
-    pub fills_refused : (v : Verdict) (z : State) {m : Reason} → stepped v z ≡ step_row s e → v ≡ Err m → ⊥
-    fills_refused v z q h = let y = sym (takes v z q) ∙ ap (λ (x : Verdict). stepped x z) h in let k : ◌≡◌ {A = ℕ} 0 1 = cc in omega arith
+    pub fills_ok : (v : Verdict) (z : State) → stepped v z ≡ step_row s e → IsOk v
+    fills_ok (Ok u) z q = refl
+    fills_ok (Err m) z q = let y = takes (Err m) z q in cc
 
     pub fills_taken : (v : Verdict) (z : State) {n' t' a' : List ℕ} {u : Walk} → stepped v z ≡ step_row s e → v ≡ Ok tt → Recorded n t a s w e x n' t' a' u → Fills L nl ns na ds z u n' t' a'
     fills_taken v z q h o =

@@ -1,4 +1,5 @@
--- Tables that are filled with the records of the listing that an input means: before and after, whatever the input is. Assumes nothing.
+-- Tables that are filled with the records of the listing that an input means: before and after, whatever the input is.
+-- Assumes nothing.
 use Rattle.std.specs.Prelude.{◌≡◌, List, [], ℕ, length, replicate}
 use Rattle.std.proofs.Common.{sym, ap, ◌∙◌, subst}
 use Rattle.listings.specs.Listing.{Listing}

@@ -1,4 +1,5 @@
--- What the code takes as an input, as the definition does: whether it is a saved program, and its bytes. Assumes nothing.
+-- What the code takes as an input, as the definition does: whether it is a saved program, and its bytes.
+-- Assumes nothing.
 use Rattle.std.specs.Prelude.{ℕ, List, Bool, true, false}
 use Rattle.reader.specs.declared.listing.Input.{Input}
 use Rattle.reader.specs.declared.listing.Input.TheVariants as input

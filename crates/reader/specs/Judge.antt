@@ -96,7 +96,7 @@ pub record Follows (text : List ℕ) (s : State) (i at : ℕ) : Type 0 where
 pub follows_start : (text : List ℕ) (s : State) → s ≡ as_state start → Follows text s 0 0
 follows_start text s e = record { reading = start; state = e; good = good_start; rest = refl }
 
-module _ (text : List ℕ) (s : State) (i at e : ℕ) (short : length text ≤ 65536) (f : Follows text s i at) (fits : at ≤ length text)
+module _ {text : List ℕ} {s : State} {i at e : ℕ} (f : Follows text s i at) (short : length text ≤ 65536) (fits : at ≤ length text)
     (found : e ≡ index_of 10 (take (length text - at) (drop at text))) where
   -- the text ends in this row
   pub follows_last : at + e ≡ length text → by_number (finish_state s i e) ≡ listed_of (read text)
@@ -117,9 +117,9 @@ module _ (text : List ℕ) (s : State) (i at e : ℕ) (short : length text ≤ 6
     outcome : numbered_step (stepped v t) ≡ as_step (read_row f.reading f.reading.position (content_of (row_of (piece_at text at e))))
     outcome = ap numbered_step steps ∙ ap (λ (z : State). numbered_step (step_row z (as_row (content_of (row_of (piece_at text at e)))))) f.state ∙ step_law f.reading (content_of (row_of (piece_at text at e)))
 
-    pub follows_refused : (n : Reason) → v ≡ Err n → by_number (Err (refusal_at n i)) ≡ listed_of (read text)
+    pub follows_refused : {n : Reason} → v ≡ Err n → by_number (Err (refusal_at n i)) ≡ listed_of (read text)
     unfolding listed_of
-    follows_refused n h =
+    follows_refused {n} h =
         let r = f.reading in
         let vs = split 10 (drop (at + e + 1) text) in
         let q = step-refused (read_row r r.position (content_of (row_of (piece_at text at e)))) (number_of n) (sym outcome ∙ ap (λ (x : Verdict). numbered_step (stepped x t)) h) in

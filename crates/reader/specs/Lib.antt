@@ -15,6 +15,7 @@ pub mod FillReady
 pub mod FillSteps
 pub mod RowOperands
 pub mod Filling
+pub mod Lent
 pub mod FillLoop
 pub mod FileLoop
 pub mod Listed

@@ -1,7 +1,7 @@
 -- What reading an input answers and writes: the contract of the exported routine. Assumes nothing.
 use Rattle.std.specs.Prelude.{◌≡◌, refl, Bool, true, false, List, [], ◌∷◌, ℕ, ◌/◌, ◌≤◌, ◌<◌, ltb, replicate, Result, Ok, Err}
 use Rattle.std.proofs.Math.Path.{sym, ap}
-use Rattle.std.proofs.Common.{◌∙◌, subst, arith}
+use Rattle.std.proofs.Common.{◌∙◌, arith}
 use Rattle.std.proofs.Math.ListN.{length}
 use Rattle.std.proofs.lemmas.List.{length-replicate}
 use borrow.Author.Tests.{le-leb, lt-leb, ltb-true, ltb-false}
@@ -80,7 +80,7 @@ pub record Judged (q : Answer) (counts lines stmts args : List ℕ) (h : Bool) (
   pub zero_stmts : stmts ≡ replicate (length stmts) 0
   pub zero_args : args ≡ replicate (length args) 0
 
-module _ (q : Answer) (counts lines stmts args : List ℕ) (h : Bool) (nl ns : ℕ) (j : Judged q counts lines stmts args h nl ns) where
+module _ {q : Answer} {counts lines stmts args : List ℕ} {h : Bool} {nl ns : ℕ} (j : Judged q counts lines stmts args h nl ns) where
   pub judged_small : (nl ≤ 1024) × (ns ≤ 4096)
   judged_small = (omega (arith, j.within.line_count, j.line_count), omega (arith, j.within.stmt_count, j.stmt_count))
 
@@ -147,14 +147,14 @@ module _ (q : Answer) (counts lines stmts args : List ℕ) (h : Bool) (nl ns : �
         let s : m ≤ length args / 64 = omega (arith, j.stmt_count) in
         ap (answer_of (length lines) (length stmts) (length args)) j.reads ∙ rw (le-leb k (length lines) p, le-leb m (length stmts / 12) y, le-leb m (length args / 64) s)
 
-    pub judged-written : (x y z : ℕ) (k n t a : List ℕ) → x ≡ nl → y ≡ ns → z ≡ handler_number h → k ≡ x ∷ y ∷ z ∷ 0 ∷ 0 ∷ 0 ∷ [] → Filled q lines stmts args n t a
+    pub judged-written : {k n t a : List ℕ} → k ≡ nl ∷ ns ∷ handler_number h ∷ 0 ∷ 0 ∷ 0 ∷ [] → Filled q lines stmts args n t a
         → RecordsWritten q (length lines) (length stmts) (length args) k n t a (Ok (record { handlers = h; lines = nl; stmts = ns }))
     unfolding table_of listed_of line_entries stmt_entries arg_entries padded counts_of
-    judged-written x y z k n t a u v s i f =
+    judged-written i f =
         let g = f j.tree j.reads in
         record {
           answer = answers j.handlers j.line_count j.stmt_count ∙ sym (ap listed_of fits);
-          counts = i ∙ counted x y z j.tree (u ∙ j.line_count) (v ∙ j.stmt_count) (s ∙ ap handler_number j.handlers) ∙ sym (ap (λ (o : Answer). table_of counts_of o 6) fits);
+          counts = i ∙ counted nl ns (handler_number h) j.tree j.line_count j.stmt_count (ap handler_number j.handlers) ∙ sym (ap (λ (o : Answer). table_of counts_of o 6) fits);
           lines = g.lines ∙ sym (ap (λ (o : Answer). table_of line_entries o (length lines)) fits);
           stmts = g.stmts ∙ sym (ap (λ (o : Answer). table_of stmt_entries o (length stmts)) fits);
           args = g.args ∙ sym (ap (λ (o : Answer). table_of arg_entries o (length args)) fits);
@@ -169,21 +169,21 @@ module _ (q : Answer) (counts lines stmts args : List ℕ) (h : Bool) (nl ns : �
 
 -- ---- zeroed tables of nl, ns and na entries
 
-module _ (q : Answer) (within : (L : Listing) → q ≡ listing L → Within L) (c n t a : List ℕ) (nl ns na : ℕ) (zc : c ≡ 0 ∷ 0 ∷ 0 ∷ 0 ∷ 0 ∷ 0 ∷ []) (zn : n ≡ replicate nl 0) (zt : t ≡ replicate ns 0) (za : a ≡ replicate na 0) (v : Result Accepted Refusal) (judged : by_number v ≡ listed_of q) where
-  long : (m : ℕ) (l : List ℕ) → l ≡ replicate m 0 → length l ≡ m
-  long m l e = ap length e ∙ length-replicate m 0
+long : (m : ℕ) (l : List ℕ) → l ≡ replicate m 0 → length l ≡ m
+long m l e = ap length e ∙ length-replicate m 0
 
-  zeros : (m : ℕ) (l : List ℕ) → l ≡ replicate m 0 → l ≡ replicate (length l) 0
-  zeros m l e = e ∙ ap (λ (k : ℕ). replicate k 0) (sym (long m l e))
+zeros : (m : ℕ) (l : List ℕ) → l ≡ replicate m 0 → l ≡ replicate (length l) 0
+zeros m l e = e ∙ ap (λ (k : ℕ). replicate k 0) (sym (long m l e))
 
-  pub zeroed_judged : (x : Accepted) → v ≡ Ok x → Judged q c n t a x.handlers x.lines x.stmts
-  zeroed_judged x e =
+module _ {q : Answer} (within : (L : Listing) → q ≡ listing L → Within L) {c n t a : List ℕ} (nl ns na : ℕ) (zc : c ≡ 0 ∷ 0 ∷ 0 ∷ 0 ∷ 0 ∷ 0 ∷ []) (zn : n ≡ replicate nl 0) (zt : t ≡ replicate ns 0) (za : a ≡ replicate na 0) {v : Result Accepted Refusal} (judged : by_number v ≡ listed_of q) where
+  pub zeroed_judged : {x : Accepted} → v ≡ Ok x → Judged q c n t a x.handlers x.lines x.stmts
+  zeroed_judged {x} e =
       let o = was_accepted q x (sym (ap by_number e) ∙ judged) in
       record { tree = o.0; reads = o.1; within = within o.0 o.1; handlers = o.2; line_count = o.3; stmt_count = o.4; zero_counts = zc; zero_lines = zeros nl n zn; zero_stmts = zeros ns t zt; zero_args = zeros na a za }
 
-  pub zeroed_refused : (r : Refusal) → v ≡ Err r → RecordsWritten q nl ns na c n t a (Err r)
+  pub zeroed_refused : {r : Refusal} → v ≡ Err r → RecordsWritten q nl ns na c n t a (Err r)
   unfolding answer_of table_of listed_of
-  zeroed_refused r e =
+  zeroed_refused {r} e =
       let o : answer_of nl ns na q ≡ refusal (number_of r.reason) r.place = ap (answer_of nl ns na) (was_refused q r (sym (ap by_number e) ∙ judged)) in
       record {
         answer = sym (ap listed_of o);
@@ -192,9 +192,3 @@ module _ (q : Answer) (within : (L : Listing) → q ≡ listing L → Within L) 
         stmts = zt ∙ sym (ap (λ (z : Answer). table_of stmt_entries z ns) o);
         args = za ∙ sym (ap (λ (z : Answer). table_of arg_entries z na) o);
       }
-
-  -- by the lengths of the zeroed tables
-  pub zeroed_written : (c' n' t' a' : List ℕ) (r : Result Accepted Refusal) → RecordsWritten q (length n) (length t) (length a) c' n' t' a' r → RecordsWritten q nl ns na c' n' t' a' r
-  zeroed_written c' n' t' a' r w =
-      subst (λ (k : ℕ). RecordsWritten q k ns na c' n' t' a' r) (long nl n zn)
-      (subst (λ (k : ℕ). RecordsWritten q (length n) k na c' n' t' a' r) (long ns t zt) (subst (λ (k : ℕ). RecordsWritten q (length n) (length t) k c' n' t' a' r) (long na a za) w))

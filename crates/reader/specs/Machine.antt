@@ -14,6 +14,7 @@ use Rattle.reader.specs.declared.rows.Row.TheVariants as row
 use Rattle.layout.specs.Refusals.{number_of}
 use Rattle.layout.specs.declared.refusals.Reason.{Reason}
 use Rattle.layout.specs.declared.refusals.Reason.TheVariants as reason
+use Rattle.tokens.specs.Numbers.{ascends}
 
 -- ---- the state that stands for a reading
 
@@ -150,11 +151,6 @@ one_more s p w = record { position = p; handlers = s.handlers; last = s.last; li
 abbrev pub step_module : State → Bool → Step
 step_module s h = pick (eqb (place_number s.position) 0) (Ok (record { position = at.InModule; handlers = h; last = s.last; lines = s.lines; stmts = s.stmts; depth = 0; open_conds = 0; word = cond.If; branches = 0 })) (Err reason.NotAForm)
 
--- whether a line's number is above the last one's
-abbrev pub ascends : Maybe ℕ → ℕ → Bool
-ascends None n = true
-ascends (Some m) n = ltb m n
-
 abbrev pub step_line : State → ℕ → Step
 step_line s n =
     pick (eqb (place_number s.position) 1)
@@ -215,7 +211,8 @@ step_to s =
     (Err reason.NotAForm))
     (Err reason.NotAForm)
 
--- "2 not a form allowed here": a number or name is judged only where its row is due, that of a branch only where one may follow; outside of branches word and branches are 0
+-- "2 not a form allowed here": a number or name is judged only where its row is due, that of a branch only where one
+-- may follow; outside of branches word and branches are 0
 abbrev pub reason_at : State → Misfit → Reason
 reason_at s m = pick (eqb (place_number s.position) (place_number m.due)) (pick (may_branch s.word s.branches) m.reason reason.NotAForm) reason.NotAForm
 

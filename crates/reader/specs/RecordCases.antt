@@ -10,7 +10,8 @@ use Rattle.listings.specs.WordTable.{words, first, word_index}
 use Rattle.listings.specs.Records.{name_key, slot_key, args_of, tier_number, mark_number, detail_of, branch_number, branch_line, simple_rec, cond_rec, stmt_recs, line_recs, line_numbers, padded, rec_row, joined, arg_row, handler_number, counts_of, fitted, answer_of, table_of}
 use Rattle.reader.specs.Listed.{line_entries, stmt_entries, arg_entries}
 
--- a text, how many entries its tables have, and what stands in the counts, the line table, the statement table and each row of arguments
+-- a text, how many entries its tables have, and what stands in the counts, the line table, the statement table and each
+-- row of arguments
 record Case : Type 0 where
   text : String
   line_table : ℕ

@@ -1,4 +1,5 @@
--- Tables with a stride: rows one after the other and zeros after them. Storing, appending and reading back, stated once for every table. Assumes nothing.
+-- Tables with a stride: rows one after the other and zeros after them. Storing, appending and reading back, stated once
+-- for every table. Assumes nothing.
 use Rattle.std.specs.Prelude.{◌≡◌, refl, take, drop, replicate}
 use Rattle.std.proofs.Math.Path.{sym, ap}
 use Rattle.std.proofs.Common.{◌∙◌, not-suc-le-zero, le_of_suc-le-suc, drop_of_length-le, drop-drop, take_all}

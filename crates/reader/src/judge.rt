@@ -40,7 +40,8 @@ fn step(s: &mut State, row: &[u8]) -> Result<(), Reason>
 }
 
 // "The first bad row decides": the rows one after the other.
-// Kept: the last piece is no row, which `split` does not tell; where a text ends with a row `split_inclusive` has no last piece, so `finish` would stand twice and i be counted all the same.
+// Kept: the last piece is no row, which `split` does not tell; where a text ends with a row `split_inclusive` has no
+// last piece, so `finish` would stand twice and i be counted all the same.
 pub(crate) fn judge(text: &[u8]) -> Result<Accepted, Refusal>
     ensures { by_number result ≡ listed_of (read text.now) }
 {

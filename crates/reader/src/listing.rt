@@ -1,17 +1,19 @@
-// Reads an input, a listing's text or a saved program: judges the whole of it, then, where the tables can hold it, writes its records.
-ghost use Rattle.std.specs.Prelude.{◌≡◌, length, replicate};
+// Reads an input, a listing's text or a saved program: judges the whole of it, then, where the tables can hold it,
+// writes its records.
+ghost use Rattle.std.specs.Prelude.{◌≡◌, ◌≤◌, [], ◌∷◌, length};
 ghost use Rattle.listings.specs.Cut.{meant};
+ghost use Rattle.listings.specs.Records.{handler_number};
 ghost use Rattle.program_files.specs.Inputs.{meaning};
 ghost use Rattle.reader.specs.Answer.{by_number, listed_of};
 ghost use Rattle.reader.specs.Inputs.{is_program, bytes_of};
-ghost use Rattle.reader.specs.Filling.{Zeroed, Filled};
+ghost use Rattle.reader.specs.Lent.{Same, ZeroedIn, FilledIn};
 ghost use Rattle.reader.specs.Listed.{Judged as JudgedInput, RecordsWritten};
 ghost use Rattle.reader.specs.FileLoop.{accepted_counts};
 
 use super::file_rows::fill_program;
 use super::fill::fill;
 use super::judge::judge;
-use super::tables::put_counts;
+use super::tables::Records;
 use basic::judge::{Counts, judge_program};
 use layout::columns::{ARG_ENTRIES, STMT_ENTRIES};
 use layout::refusals::{Reason, Refusal};
@@ -29,6 +31,17 @@ pub struct Accepted {
     pub handlers: bool,
     pub lines: usize,
     pub stmts: usize,
+}
+
+impl Accepted {
+    // The used counts; those of the edges, return targets and entry rows are not the reader's.
+    fn counts(self) -> [u32; 6]
+        requires { (self.lines ≤ 1024) × (self.stmts ≤ 4096) }
+        ensures { result ≡ self.lines ∷ self.stmts ∷ handler_number self.handlers ∷ 0 ∷ 0 ∷ 0 ∷ [] }
+    {
+        let handlers = u32::from(self.handlers);
+        [self.lines as u32, self.stmts as u32, handlers, 0, 0, 0]
+    }
 }
 
 // A program has no handlers.
@@ -55,51 +68,35 @@ fn judge_input(input: Input<'_>) -> Result<Accepted, Refusal>
 }
 
 // The records of an input that is accepted, into zeroed tables that can hold them.
-fn fill_input(input: Input<'_>, lines: &mut [u16], stmts: &mut [u16], args: &mut [u64])
-    requires { Zeroed (meaning (is_program input) (bytes_of input)) lines.old stmts.old args.old }
-    ensures { Filled (meaning (is_program input.entry) (bytes_of input.entry)) lines.old stmts.old args.old lines.new stmts.new args.new }
+fn fill_input(input: Input<'_>, t: &mut Records<'_>)
+    requires { ZeroedIn (meaning (is_program input) (bytes_of input)) t.old }
+    ensures { FilledIn (meaning (is_program input.entry) (bytes_of input.entry)) t.old t.new }
 {
     match input {
-        Input::Text(text) => fill(text, lines, stmts, args),
-        Input::Program(file) => fill_program(file, lines, stmts, args),
+        Input::Text(text) => fill(text, t),
+        Input::Program(file) => fill_program(file, t),
     }
-}
-
-// The tables become zero.
-fn clear_tables(lines: &mut [u16], stmts: &mut [u16], args: &mut [u64])
-    ensures { (lines.new ≡ replicate (length lines.old) 0) × (stmts.new ≡ replicate (length stmts.old) 0) × (args.new ≡ replicate (length args.old) 0) }
-{
-    lines.fill(0);
-    stmts.fill(0);
-    args.fill(0);
 }
 
 // An accepted input, into zeroed tables.
-// Kept: tables that are written go one by one; of a struct of `&mut` a clause names what is left behind it by nested pairs.
 fn write_listing(
     input: Input<'_>,
     counts: &mut [u32; 6],
-    lines: &mut [u16],
-    stmts: &mut [u16],
-    args: &mut [u64],
+    t: &mut Records<'_>,
     a: Accepted,
 ) -> Result<Accepted, Refusal>
-    requires { JudgedInput (meaning (is_program input) (bytes_of input)) counts.old lines.old stmts.old args.old a.handlers a.lines a.stmts }
-    ensures { RecordsWritten (meaning (is_program input.entry) (bytes_of input.entry)) (length lines.old) (length stmts.old) (length args.old) counts.new lines.new stmts.new args.new result }
+    requires { JudgedInput (meaning (is_program input) (bytes_of input)) counts.old t.old.lines.now t.old.stmts.now t.old.args.now a.handlers a.lines a.stmts }
+    ensures same { Same t.old t.new }
+    ensures written { RecordsWritten (meaning (is_program input.entry) (bytes_of input.entry)) (length t.old.lines.now) (length t.old.stmts.now) (length t.old.args.now) counts.new t.new.lines.now t.new.stmts.now t.new.args.now result }
 {
-    if lines.len() < a.lines {
+    if t.lines.len() < a.lines {
         return Err(Reason::LineTables.at(a.lines));
     }
-    if stmts.len() / STMT_ENTRIES < a.stmts || args.len() / ARG_ENTRIES < a.stmts {
+    if t.stmts.len() / STMT_ENTRIES < a.stmts || t.args.len() / ARG_ENTRIES < a.stmts {
         return Err(Reason::NodeTables.at(a.stmts));
     }
-    fill_input(input, lines, stmts, args);
-    put_counts(
-        counts,
-        a.lines as u32,
-        a.stmts as u32,
-        u32::from(a.handlers),
-    );
+    fill_input(input, t);
+    *counts = a.counts();
     Ok(a)
 }
 
@@ -115,10 +112,11 @@ pub fn read_input(
 ) -> Result<Accepted, Refusal>
     ensures { RecordsWritten (meaning (is_program input.entry) (bytes_of input.entry)) (length lines.old) (length stmts.old) (length args.old) counts.new lines.new stmts.new args.new result }
 {
-    put_counts(counts, 0, 0, 0);
-    clear_tables(lines, stmts, args);
+    *counts = [0; 6];
+    let mut t = Records { lines, stmts, args };
+    t.clear();
     let a = judge_input(input)?;
-    write_listing(input, counts, lines, stmts, args, a)
+    write_listing(input, counts, &mut t, a)
 }
 
 // The same of a text.

@@ -1,16 +1,59 @@
 // The row machine: where reading stands, and what each row does to it.
-ghost use Rattle.std.specs.Prelude.{◌≡◌, ◌≤◌, ◌<◌, ◌^◌, eqb, Ok};
+ghost use Rattle.std.specs.Prelude.{◌≡◌, ◌≤◌, ◌<◌, ◌^◌, ◌%◌, eqb, Ok};
 ghost use Rattle.listings.specs.Read.{start};
-ghost use Rattle.reader.specs.CodedRows.{place_number};
-ghost use Rattle.reader.specs.Machine.{deepest, due, room, as_state, outside, moved, one_more, stepped, step_module, ascends, step_line, step_simple, step_cond, may_branch, is_complete, step_stmts, step_to, reason_at, end_of_stmts, step_end, step_row};
+ghost use Rattle.reader.specs.CodedRows.{place_number, is_second};
+ghost use Rattle.reader.specs.Machine.{deepest, due, room, as_state, outside, moved, one_more, stepped, step_module, step_line, step_simple, step_cond, may_branch, is_complete, step_stmts, step_to, reason_at, end_of_stmts, step_end, step_row};
 
-use super::rows::{Cond, Misfit, Position, Row, cond_of, index_of};
+use super::rows::{Cond, Misfit, Position, Row, Which};
 use layout::limits::{MAX_ARGS, MAX_DEPTH, MAX_LINES, MAX_STMTS};
 use layout::refusals::Reason;
+use tokens::numbers::ascends;
+
+// An IF's word, and how many of its branches were read.
+#[derive(Clone, Copy)]
+pub(crate) struct Branches {
+    pub(crate) word: Cond,
+    pub(crate) read: u64,
+    pub ghost two: { read ≤ 2 },
+}
+
+impl Branches {
+    // Of an IF that begins.
+    fn none(word: Cond) -> Branches
+        ensures { (result.word ≡ word) × (result.read ≡ 0) }
+    {
+        Branches { word, read: 0 }
+    }
+
+    // May one more branch follow: IF has one, the others two.
+    fn may_follow(self) -> bool
+        ensures { result ≡ may_branch self.word self.read }
+    {
+        match self.word {
+            Cond::If => self.read == 0,
+            Cond::IfElse | Cond::Rcomp => self.read < 2,
+        }
+    }
+
+    // Are the branches all that the word must have: IFELSE needs two.
+    fn are_all(self) -> bool
+        ensures { result ≡ is_complete self.word self.read }
+    {
+        match self.word {
+            Cond::If => self.read == 1,
+            Cond::IfElse => self.read == 2,
+            Cond::Rcomp => self.read == 1 || self.read == 2,
+        }
+    }
+}
 
 // last: the last line's number. lines, stmts: how many were begun.
-// depth, open_conds: the IFs in whose branches the next row stands, packed to the base 8, the innermost lowest: twice the word's number, and 1 in a second branch.
-// word, branches: of the IF whose branches are due; elsewhere If and 0.
+// depth, open_conds: the IFs in whose branches the next row stands, packed to the base 8, the innermost lowest: twice
+// the word's number, and 1 in a second branch.
+// Kept: one number; of an array what stood above `depth` would say something too, and equal states would differ.
+// branches: of the IF whose branches are due; elsewhere none of an If.
+// Kept: beside the position; one that carried them could not be what a misfit names as due, and a second enum of the
+// same five places without them would be its twin.
 #[derive(Clone, Copy)]
 pub(crate) struct State {
     pub(crate) position: Position,
@@ -20,39 +63,9 @@ pub(crate) struct State {
     pub(crate) stmts: usize,
     pub(crate) depth: usize,
     pub(crate) open_conds: u64,
-    pub(crate) word: Cond,
-    pub(crate) branches: u64,
+    pub(crate) branches: Branches,
     pub ghost shallow: { depth ≤ deepest position },
     pub ghost fits: { open_conds < 8 ^ depth },
-    pub ghost two: { branches ≤ 2 },
-}
-
-// Whether a line's number is above the last one's.
-fn ascends(last: Option<u16>, n: u16) -> bool
-    ensures { result ≡ ascends last n }
-{
-    last.is_none_or(|m| m < n)
-}
-
-// May one more branch follow: IF has one, the others two.
-fn may_branch(word: Cond, branches: u64) -> bool
-    ensures { result ≡ may_branch word branches }
-{
-    match word {
-        Cond::If => branches == 0,
-        Cond::IfElse | Cond::Rcomp => branches < 2,
-    }
-}
-
-// Are the branches all that the word must have: IFELSE needs two.
-fn is_complete(word: Cond, branches: u64) -> bool
-    ensures { result ≡ is_complete word branches }
-{
-    match word {
-        Cond::If => branches == 1,
-        Cond::IfElse => branches == 2,
-        Cond::Rcomp => branches == 1 || branches == 2,
-    }
 }
 
 impl State {
@@ -70,8 +83,7 @@ impl State {
             stmts: 0,
             depth: 0,
             open_conds: 0,
-            word: Cond::If,
-            branches: 0,
+            branches: Branches::none(Cond::If),
         }
     }
 
@@ -80,6 +92,26 @@ impl State {
         ensures { result ≡ eqb (place_number self.now.position) (place_number position) }
     {
         self.position == position
+    }
+
+    // In which branch of the innermost open IF the next row stands.
+    pub(crate) fn branch_open(&self) -> Which
+        ensures { is_second result ≡ eqb (self.now.open_conds % 2) 1 }
+    {
+        if self.open_conds % 2 == 1 {
+            return Which::Second;
+        }
+        Which::First
+    }
+
+    // Which branch of the IF whose branches are due comes next.
+    pub(crate) fn branch_due(&self) -> Which
+        ensures { is_second result ≡ eqb self.now.branches.read 1 }
+    {
+        if self.branches.read == 1 {
+            return Which::Second;
+        }
+        Which::First
     }
 
     // A row is a form only where such a row is due.
@@ -111,16 +143,15 @@ impl State {
     {
         self.depth = 0;
         self.open_conds = 0;
-        self.moved(position, Cond::If, 0);
+        self.moved(position, Branches::none(Cond::If));
     }
 
     // At another position, as deep as before.
-    fn moved(&mut self, position: Position, word: Cond, branches: u64)
-        requires { (branches ≤ 2) × (self.old.depth ≤ deepest position) }
-        ensures { state_of self.new ≡ moved (state_of self.old) position word branches }
+    fn moved(&mut self, position: Position, branches: Branches)
+        requires { self.old.depth ≤ deepest position }
+        ensures { state_of self.new ≡ moved (state_of self.old) position branches.word branches.read }
     {
         self.position = position;
-        self.word = word;
         self.branches = branches;
     }
 
@@ -130,7 +161,7 @@ impl State {
         ensures { state_of self.new ≡ one_more (state_of self.old) position word }
     {
         self.stmts += 1;
-        self.moved(position, word, 0);
+        self.moved(position, Branches::none(word));
     }
 
     // The module's row comes first, and once.
@@ -187,11 +218,11 @@ impl State {
     fn step_stmts(&mut self) -> Result<(), Reason>
         ensures { stepped result (state_of self.new) ≡ step_stmts (state_of self.old) }
     {
-        if !self.is_at(Position::InCond) || !may_branch(self.word, self.branches) {
+        if !self.is_at(Position::InCond) || !self.branches.may_follow() {
             return Err(Reason::NotAForm);
         }
-        let code = index_of(self.word) * 2 + self.branches;
-        self.moved(Position::InStmts, Cond::If, 0);
+        let code = u64::from(self.branches.word) * 2 + self.branches.read;
+        self.moved(Position::InStmts, Branches::none(Cond::If));
         self.depth += 1;
         self.open_conds = code + 8 * self.open_conds;
         Ok(())
@@ -201,18 +232,21 @@ impl State {
     fn step_to(&mut self) -> Result<(), Reason>
         ensures { stepped result (state_of self.new) ≡ step_to (state_of self.old) }
     {
-        if !self.is_at(Position::InCond) || !may_branch(self.word, self.branches) {
+        if !self.is_at(Position::InCond) || !self.branches.may_follow() {
             return Err(Reason::NotAForm);
         }
-        self.branches += 1;
+        let Branches { word, read } = self.branches;
+        let read = read + 1;
+        self.branches = Branches { word, read };
         Ok(())
     }
 
-    // Why a row is refused here: for its own reason where it is due, and there only where a branch may follow. Outside of branches both counts are 0, and one may.
+    // Why a row is refused here: for its own reason where it is due, and there only where a branch may follow. Outside
+    // of branches none of an If were read, and one may.
     pub(crate) fn reason_at(&self, m: Misfit) -> Reason
         ensures { result ≡ reason_at (state_of self.now) m }
     {
-        if !self.is_at(m.due) || !may_branch(self.word, self.branches) {
+        if !self.is_at(m.due) || !self.branches.may_follow() {
             return Reason::NotAForm;
         }
         m.reason
@@ -229,7 +263,9 @@ impl State {
         let top = self.open_conds % 8;
         self.depth -= 1;
         self.open_conds /= 8;
-        self.moved(Position::InCond, cond_of(top / 2), top % 2 + 1);
+        let word = Cond::from(top / 2);
+        let read = top % 2 + 1;
+        self.moved(Position::InCond, Branches { word, read });
     }
 
     // A `)`: of statements, of an IF with all its branches, or of the module.
@@ -240,8 +276,8 @@ impl State {
             self.end_of_stmts();
             return Ok(());
         }
-        if self.is_at(Position::InCond) && is_complete(self.word, self.branches) {
-            self.moved(Position::InStmts, Cond::If, 0);
+        if self.is_at(Position::InCond) && self.branches.are_all() {
+            self.moved(Position::InStmts, Branches::none(Cond::If));
             return Ok(());
         }
         if self.is_at(Position::InModule) {

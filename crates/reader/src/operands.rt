@@ -12,8 +12,8 @@ use tokens::numbers::number;
 use tokens::scan::{equal, first_word};
 use tokens::words::{Kind, kind_of};
 
-// How many arguments a statement has, and FOR's tier or NEXT's mark.
-#[derive(Clone, Copy)]
+// How many arguments a statement has, and FOR's tier or NEXT's mark; none by default.
+#[derive(Clone, Copy, Default)]
 pub(crate) struct Given {
     pub(crate) count: usize,
     pub(crate) detail: u16,
@@ -22,13 +22,8 @@ pub(crate) struct Given {
 // The tier `framed` as it is stored. Kept: an entry of the lent tables, which C reads.
 const FRAMED: u16 = 1;
 
-// No arguments.
-pub(crate) const NO_ARGS: Given = Given {
-    count: 0,
-    detail: 0,
-};
-
 // A slot as it is stored: its name's key, or 0 for `*`, since no name has that key.
+// Kept: a number; the lent tables, which C reads, have it so.
 // `*` is tested first: that it is no name takes longer to find.
 fn slot_of(w: &[u8]) -> u64
     ensures { result ≡ entry_by true w.now }
@@ -50,6 +45,7 @@ fn operand_of(arguments: Arguments, w: &[u8]) -> u64
 }
 
 // A tier as it is stored; `static` is 0.
+#[tactic(auto, unfolding(crate::specs::Operands::tier_entry, listings::specs::Bytes::bytes))]
 fn tier_of(w: &[u8]) -> u16
     ensures { result ≡ tier_entry w.now }
 {
@@ -63,6 +59,7 @@ fn tier_of(w: &[u8]) -> u16
 }
 
 // A mark as it is stored; `plain` is 0.
+#[tactic(auto, unfolding(crate::specs::Operands::mark_entry, listings::specs::Bytes::bytes))]
 fn mark_of(w: &[u8]) -> u16
     ensures { result ≡ mark_entry w.now }
 {
@@ -141,7 +138,7 @@ pub(crate) fn put_operands(word: usize, s: &[u8], part: &mut [u64]) -> Given
     ensures { Put (row_entries (split 32 s.now)) (row_detail (split 32 s.now)) part.old part.new result }
 {
     let Some((_, words)) = first_word(s) else {
-        return NO_ARGS;
+        return Given::default();
     };
     match kind_of(word) {
         Some(kind) => put_kind(kind, words, part),

@@ -1,11 +1,33 @@
 // The lent tables: used counts, and statement records of 12 entries one after the other.
-ghost use Rattle.std.specs.Prelude.{◌≡◌, [], ◌∷◌, ◌++◌, ◌+◌, ◌*◌, ◌≤◌, ◌<◌, length, drop, set, get_or, replicate};
+ghost use Rattle.std.specs.Prelude.{◌≡◌, ◌++◌, ◌+◌, ◌*◌, ◌≤◌, ◌<◌, length, drop, set, get_or, replicate};
 ghost use Rattle.reader.specs.Tables.{entry_row, append_row};
+ghost use Rattle.reader.specs.Lent.{Same};
 
 use layout::columns::{
     COUNT, DETAIL, END, FORM1, FORM2, HOLDER, INDEX, LINE, NUMBER1, NUMBER2, SECOND, STMT_ENTRIES,
     WORD,
 };
+
+// What is lent for the records: a number for each line, and for each statement a record and its arguments.
+#[derive(Drop)]
+pub(crate) struct Records<'a> {
+    pub(crate) lines: &'a mut [u16],
+    pub(crate) stmts: &'a mut [u16],
+    pub(crate) args: &'a mut [u64],
+}
+
+impl Records<'_> {
+    // The tables become zero.
+    // Kept: a call each; no array holds tables of two types.
+    pub(crate) fn clear(&mut self)
+        ensures same { Same self.old self.new }
+        ensures zero { (self.new.lines.now ≡ replicate (length self.old.lines.now) 0) × (self.new.stmts.now ≡ replicate (length self.old.stmts.now) 0) × (self.new.args.now ≡ replicate (length self.old.args.now) 0) }
+    {
+        self.lines.fill(0);
+        self.stmts.fill(0);
+        self.args.fill(0);
+    }
+}
 
 // What is known of a statement when its row is read; the entries between end and count are its branches, not read yet.
 #[derive(Drop)]
@@ -19,14 +41,9 @@ pub(crate) struct Entry {
     pub(crate) detail: u16,
 }
 
-// The used counts; those of the edges, return targets and entry rows are not the reader's.
-pub(crate) fn put_counts(counts: &mut [u32; 6], lines: u32, stmts: u32, handlers: u32)
-    ensures { counts.new ≡ lines ∷ stmts ∷ handlers ∷ 0 ∷ 0 ∷ 0 ∷ [] }
-{
-    *counts = [lines, stmts, handlers, 0, 0, 0];
-}
-
 // All twelve entries, so that nothing older is left among them.
+// Kept: tried as an array: stored by `copy_from_slice`, reading 4,096 plain statements takes 4 % more instructions
+// (2.49 million, 2.40), and of `first_chunk_mut` in a slice a proof learns no last value.
 fn put_record(part: &mut [u16], e: Entry)
     requires { 12 ≤ length part.old }
     ensures { part.new ≡ entry_row e ++ drop 12 part.old }

@@ -8,8 +8,8 @@ ghost use Rattle.statements.specs.StatementAt.{branching_word, record_outside, s
 use layout::columns::{HOLDER, INDEX, LINE, STMT_ENTRIES, WORD};
 use layout::limits::MAX_DEPTH;
 use layout::refusals::{Reason, Refusal};
-use layout::widths::count_of;
 use layout::words::{IF, IFELSE, LINE as LINE_WORD, MODULE, PLAIN, RCOMP, STMTS, TO};
+use tables::counts::Counts;
 
 // Whether a statement with this opening word holds others.
 #[tactic(auto, unfolding(crate::specs::StatementAt::branching_word))]
@@ -116,8 +116,10 @@ impl<'a> Statements<'a> {
         self.state(at)
     }
 
-    // Whether a record with that holder gives a path, or the refusal. Up from holder to holder, `MAX_DEPTH` of them at most.
-    // Kept: a `while`: `iter::successors` asks for the next holder before the loop sees whether this one is a node, and has a record.
+    // Whether a record with that holder gives a path, or the refusal.
+    // Up from holder to holder, `MAX_DEPTH` of them at most.
+    // Kept: a `while`: `iter::successors` asks for the next holder before the loop sees whether this one is a node,
+    // and has a record.
     fn climb(&self, holder: Option<usize>) -> Result<(), Refusal>
         ensures { told result ≡ refused_by (climbed self.now.lines self.now.stmts.now self.now.n 16 (one_more holder)) }
     {
@@ -149,7 +151,6 @@ impl<'a> Statements<'a> {
 }
 
 // The statement at a path, a line index and numbers: its node and the number of its opening word.
-// Kept: `count_of`, since std has no conversion from `u32` to `usize` that cannot fail.
 pub fn ask_path(
     counts: &[u32; 6],
     stmts: &[u16],
@@ -158,8 +159,9 @@ pub fn ask_path(
 ) -> Result<(usize, usize), Refusal>
     ensures { told result ≡ path_statement counts.now stmts.now line path.now }
 {
-    let lines = count_of(counts[0]);
-    let n = count_of(counts[1]);
+    let used = Counts(counts);
+    let lines = used.lines();
+    let n = used.nodes();
     if stmts.len() < n * STMT_ENTRIES {
         return Err(Reason::Outside.at(0));
     }
@@ -169,7 +171,8 @@ pub fn ask_path(
     Statements { lines, stmts, n }.follow(line, path)
 }
 
-// Whether the record of any node of any table is a statement's and has a path: refused 25 where n statements have no record of it there.
+// Whether the record of any node of any table is a statement's and has a path:
+// refused 25 where n statements have no record of it there.
 // By division, so that no product can wrap.
 pub fn no_statement(lines: usize, stmts: &[u16], n: usize, node: usize) -> Result<(), Refusal>
     ensures { told result ≡ refused_by (no_statement_in lines stmts.now n node) }
@@ -181,7 +184,6 @@ pub fn no_statement(lines: usize, stmts: &[u16], n: usize, node: usize) -> Resul
 }
 
 // A node's statement, if its record has a path: the node itself, and the number of its opening word.
-// Kept: `count_of`, since std has no conversion from `u32` to `usize` that cannot fail.
 pub fn ask_statement(
     counts: &[u32; 6],
     stmts: &[u16],
@@ -189,14 +191,15 @@ pub fn ask_statement(
 ) -> Result<(usize, usize), Refusal>
     ensures { told result ≡ node_statement counts.now stmts.now node }
 {
-    let n = count_of(counts[1]);
+    let used = Counts(counts);
+    let n = used.nodes();
     if n <= node {
         return Err(Reason::NoNode.at(node));
     }
     if stmts.len() < n * STMT_ENTRIES {
         return Err(Reason::Outside.at(0));
     }
-    let lines = count_of(counts[0]);
+    let lines = used.lines();
     let statements = Statements { lines, stmts, n };
     statements.check_record(node)?;
     Ok((node, usize::from(statements.word(node))))

@@ -15,7 +15,7 @@ use Rattle.graph_laws.specs.Adding.{Added, decode}
 use Rattle.graph_laws.specs.Distinct.{Distinct, room as room_new, distinct_add}
 use Rattle.graph_laws.specs.EdgeBounds.{Ids, add_all-ids}
 use Rattle.tables.specs.Readable.{both_so}
-use Rattle.passes.specs.Growing.{Grows, RoomFor, grows_none, grown_added, each_snoc}
+use Rattle.passes.specs.Growing.{Grows, RoomFor, grown_added, each_snoc}
 use Rattle.passes.specs.AddRoom.{RoomToAdd}
 use Rattle.passes.specs.NodeList.{jump_edges}
 
@@ -216,14 +216,6 @@ module _ {p q : List ℕ} {n r : ℕ} {l : List ℕ} (a : AddedIn p n q r l) whe
 
   pub grows_within : RoomToAdd p n l → Grows p n q r l
   grows_within w = let g = w.grown in grows_of g.within (all_in w.nodes (length p) l g.room g.distinct g.below w.ids)
-
--- nothing was added
-pub grows_nothing : {p q : List ℕ} {n r : ℕ} → AddedIn p n q r [] → Grows p n q r []
-unfolding add_all_in
-grows_nothing {p} {q} {n} {r} a =
-    let e : r ≡ n = omega (arith, a.count) in
-    let f : q ≡ p = a.table ∙ split_front n p in
-    rw (e, f) (grows_none p n)
 
 pub grows_one : {p q : List ℕ} {n r t : ℕ} → RoomFor p n t → AddedIn p n q r (decode t) → Grows p n q r (decode t)
 unfolding add_all_in add_all

@@ -1,9 +1,12 @@
 -- What is said of tables one by one, of the source that holds them. Assumes nothing.
-use Rattle.std.specs.Prelude.{ℕ, List, Result, true}
+use Rattle.std.specs.Prelude.{ℕ, ◌≡◌, Bool, true, false, List, Result, Ok, Err}
+use Rattle.std.proofs.Common.{sym}
+use Rattle.layout.specs.Refusals.{refusal_at}
+use Rattle.layout.specs.declared.refusals.Reason.TheVariants as reason
 use Rattle.layout.specs.declared.refusals.Refusal.{Refusal}
 use Rattle.storing.specs.declared.source.Source.{Source}
 use Rattle.storing.specs.FinalLists.{return_list, final_list, final_size, SizeReady, SizeIs, CountsReady, WriteReady, WriteDone, WritesReady, WritesDone}
-use Rattle.storing.specs.StoredGraph.{final_lists, GraphRead, GraphReady, GraphStored, StoredAnswered}
+use Rattle.storing.specs.StoredGraph.{final_lists, graph_readable, GraphRead, GraphReady, GraphStored, StoredAnswered, GraphAnswered, graph_read, answered_as}
 
 -- ---- how many edges there are
 
@@ -56,3 +59,32 @@ GraphStoredFrom s args counts lists succ pred counts' args' lists' succ' pred' =
 -- where the source can be read, which the routine that makes it has tested
 abbrev pub AnsweredFrom : Source → (args counts lists succ pred counts' args' lists' succ' pred' : List ℕ) → Result ℕ Refusal → Type 0
 AnsweredFrom s args counts lists succ pred counts' args' lists' succ' pred' r = StoredAnswered true s.nodes.records.stmts.now args s.nodes.records.n s.rows counts lists s.targets succ pred (lists_from s args lists) counts' args' lists' succ' pred' r
+
+-- ---- the source of tables that anyone may have written
+
+-- what it was made of
+pub record MadeOf (handlers : Bool) (stmts falls links : List ℕ) (n rows : ℕ) (scratch returns : List ℕ) (targets : ℕ) (s : Source) : Type 0 where
+  pub handlers_are : s.handlers ≡ handlers
+  pub stmts_are : s.nodes.records.stmts.now ≡ stmts
+  pub falls_are : s.nodes.falls.now ≡ falls
+  pub links_are : s.nodes.links.now ≡ links
+  pub count_is : s.nodes.records.n ≡ n
+  pub rows_are : s.rows ≡ rows
+  pub scratch_is : s.scratch.now ≡ scratch
+  pub returns_are : s.returns.now ≡ returns
+  pub targets_are : s.targets ≡ targets
+
+-- the source where the tables can be read, or refusal 25
+abbrev pub SourceAnswered : (handlers : Bool) (stmts args falls links : List ℕ) (n rows : ℕ) (lists scratch returns : List ℕ) (targets : ℕ) → Result Source Refusal → Type 0
+SourceAnswered handlers stmts args falls links n rows lists scratch returns targets (Ok s) =
+    (graph_readable handlers stmts args falls links n rows lists scratch returns targets ≡ true) × MadeOf handlers stmts falls links n rows scratch returns targets s
+SourceAnswered handlers stmts args falls links n rows lists scratch returns targets (Err r) =
+    (graph_readable handlers stmts args falls links n rows lists scratch returns targets ≡ false) × (r ≡ refusal_at reason.Outside 0)
+
+module _ {handlers : Bool} {stmts args falls links : List ℕ} {n rows : ℕ} {lists scratch returns : List ℕ} {targets : ℕ} {s : Source} (t : graph_readable handlers stmts args falls links n rows lists scratch returns targets ≡ true) (m : MadeOf handlers stmts falls links n rows scratch returns targets s) where
+  pub read_from : GraphReadFrom s args lists
+  read_from = rw (m.handlers_are, m.stmts_are, m.falls_are, m.links_are, m.count_is, m.scratch_is, m.returns_are, m.targets_are) ((graph_read handlers stmts args falls links n rows lists scratch returns targets t).1)
+
+  pub answered_from : {counts succ pred counts' args' lists' succ' pred' : List ℕ} {r : Result ℕ Refusal} → AnsweredFrom s args counts lists succ pred counts' args' lists' succ' pred' r
+      → GraphAnswered handlers stmts args falls links n rows counts lists scratch returns targets succ pred counts' args' lists' succ' pred' r
+  answered_from a = answered_as (sym t) (rw (m.handlers_are, m.stmts_are, m.falls_are, m.links_are, m.count_is, m.rows_are, m.scratch_is, m.returns_are, m.targets_are) at a)

@@ -1,4 +1,5 @@
--- The sets of all RETURNs joined in one, so that one list of members says whether all their ids are those of n nodes. Assumes nothing.
+-- The sets of all RETURNs joined in one, so that one list of members says whether all their ids are those of n nodes.
+-- Assumes nothing.
 use Prim.Native.Nat.{ℕ, zero, suc, ◌+◌, ◌*◌, ◌≤◌, ◌<◌}
 use Rattle.std.specs.Prelude.{◌≡◌, Bool, ◌⊎◌, ltb, length, get_or, drop, replicate}
 use Rattle.std.proofs.Math.Path.{refl, sym, ap}

@@ -1,13 +1,12 @@
 -- A list of nodes that grows: nodes are added to a lent part, one piece after the other. Assumes nothing.
 use Rattle.std.specs.Prelude.{ℕ, zero, suc, ◌+◌, ◌-◌, ◌*◌, ◌≤◌, ◌<◌, ◌≡◌, refl, List, [], ◌++◌, length, get_or, set, take}
-use Rattle.std.proofs.Common.{ap, ◌∙◌, arith, sub-one, append-nil, length-set}
+use Rattle.std.proofs.Common.{ap, ◌∙◌, arith, sub-one, length-set}
 use Rattle.graph.specs.Lists.{each}
 use Rattle.graph_laws.specs.Adding.{decode}
 use Rattle.passes.specs.Closing.{fall_by, fall_from}
-use Rattle.passes.specs.Growing.{Grows, RoomFor, grows_none, grows_both, each_on as grows_on, each_end as grows_end}
+use Rattle.passes.specs.Growing.{Grows, RoomFor, grows_none, each_on as grows_on, each_end as grows_end}
 use Rattle.passes.specs.AddRoom.{RoomToAdd}
-use Rattle.passes.specs.NextBodies.{body_at, link_body, LinkRoom}
-use Rattle.storing.specs.AddWithin.{AddedIn, within_none, within_both, within_on, within_size, grows_nothing, grows_within, grows_one}
+use Rattle.storing.specs.AddWithin.{AddedIn, within_none, within_both, within_on, within_size, grows_within, grows_one}
 use Rattle.storing.specs.declared.growing.NodeList.{NodeList}
 
 -- l was added to the list p, which is p' then and still holds the same part
@@ -92,23 +91,9 @@ grew_none p = grew_same (grows_none _ _)
 pub grew_by : {p q : NodeList} {k l : List ℕ} → (Grows p.part.now p.n q.part.now q.n k → Grows p.part.now p.n q.part.now q.n l) → Grew p q k → Grew p q l
 grew_by f a = record { same_reference = a.same_reference; size = a.size; grows = f a.grows }
 
-pub grew_link : {p q : NodeList} {es : List ℕ} {t : ℕ} → LinkRoom es t p.part.now p.n → AddedTo p q (fall_from es t) → Grew p q (link_body es t)
-unfolding fall_from fall_by link_body body_at each
-grew_link {p} {q} {es} {t} w a = record { same_reference = a.same_reference; size = within_size a.added; grows = go t w.room a.added }
-  where
-    go : (t : ℕ) → ((t ≡ 0 → ⊥) → RoomFor p.part.now p.n (get_or es ((t - 1) * 3) 0)) → AddedIn p.part.now p.n q.part.now q.n (fall_from es t) → Grows p.part.now p.n q.part.now q.n (link_body es t)
-    go zero r b = grows_nothing b
-    go (suc j) r b = rw append-nil (grows_one (rw (sub-one (suc j)) at (r (λ z. omega arith))) b)
-
 -- on a new list: in the part that was lent
 pub grew_new : {part : List ℕ} {p q : NodeList} {l : List ℕ} → (p.part.now ≡ part) × (p.n ≡ 0) → Grew p q l → Grows part 0 q.part.now q.n l
 grew_new b a = rw (b.0, b.1) at a.grows
-
-pub grew_both : {p q s : NodeList} {k l : List ℕ} → Grew p q k → Grew q s l → Grew p s (k ++ l)
-grew_both a b = record { same_reference = b.same_reference ∙ a.same_reference; size = b.size ∙ a.size; grows = grows_both _ _ _ _ _ _ _ _ a.grows b.grows }
-
-pub grew_as : {p q : NodeList} {k l : List ℕ} → k ≡ l → Grew p q k → Grew p q l
-grew_as e a = rw e at a
 
 module _ (f : ℕ → List ℕ) (xs : List ℕ) (p : NodeList) where
   pub grew_start : Grew p p (each f (take 0 xs))

@@ -23,6 +23,22 @@ pub record Successors (nodes : ℕ) (ls : List (List ℕ)) (succ lists : List �
   pub starts : (i : ℕ) → i < nodes → succ_start lists i ≡ start_of ls i
   pub counts : (i : ℕ) → i < nodes → succ_count lists i ≡ length (get_or ls i [])
 
+-- as many entries of succ as the lists have hold them alone
+pub successors_part : {nodes : ℕ} {ls : List (List ℕ)} {succ lists : List ℕ} (edges : ℕ) → edges ≡ length (joined_lists ls) → Successors nodes ls succ lists
+    → (length (take edges succ) ≡ edges) × Successors nodes ls (take edges succ) lists
+successors_part {nodes} {ls} {succ} {lists} edges e s =
+    let n : length (take edges succ) ≡ edges = length-take-le edges succ (omega (arith, s.inside)) in
+    let t : take edges succ ≡ joined_lists ls = ap (λ (k : ℕ). take k succ) e ∙ s.table in (
+      n,
+      record {
+        lists_of = s.lists_of;
+        inside = omega (arith, n);
+        table = take_all (length (joined_lists ls)) (take edges succ) (omega (arith, n)) ∙ t;
+        starts = s.starts;
+        counts = s.counts;
+      },
+    )
+
 -- the starts of the predecessor lists are written too, and the lists are empty yet
 pub record Begun (nodes : ℕ) (ls : List (List ℕ)) (succ lists : List ℕ) : Type 0 where
   pub held : Successors nodes ls succ lists
@@ -104,9 +120,9 @@ module _ {nodes : ℕ} {ls : List (List ℕ)} {succ lists₀ pred₀ : List ℕ}
     filling_inside = omega (arith, filling_start, filling_count, part_within ls j j_in, b.held.inside)
 
     -- the part of the table from the node's start, as long as its count, is its list
-    filling_part : (s w : ℕ) → s ≡ get_or lists (j * 4) 0 → w ≡ get_or lists (j * 4 + 1) 0 → take (s + w - s) (drop s succ) ≡ get_or ls j []
-    filling_part s w es ew =
-        let q : s + w - s ≡ length (get_or ls j []) = omega (arith, filling_count) in
+    filling_part : (s e : ℕ) → s ≡ get_or lists (j * 4) 0 → e ≡ get_or lists (j * 4) 0 + get_or lists (j * 4 + 1) 0 → take (e - s) (drop s succ) ≡ get_or ls j []
+    filling_part s e es ee =
+        let q : e - s ≡ length (get_or ls j []) = omega (arith, filling_count) in
         let o : s ≡ start_of ls j = es ∙ filling_start in
         rw (q, o) (sym (front_part (start_of ls j) (length (get_or ls j [])) (length (joined_lists ls)) succ (part_within ls j j_in)) ∙ ap (λ (k : List ℕ). take (length (get_or ls j [])) (drop (start_of ls j) k)) b.held.table ∙ part_law ls j j_in)
 
@@ -129,8 +145,8 @@ module _ {nodes : ℕ} {ls : List (List ℕ)} {succ lists₀ pred₀ : List ℕ}
           fits = λ t g. omega (arith, f.rows.col3 t g, source_longer ls t j j_in, source_part ls t (j + 1), sources_length t 0 ls, occurs-le t (joined_lists ls), r.few_edges);
         }
 
-    pub filling_fillable : (s w : ℕ) → s ≡ get_or lists (j * 4) 0 → w ≡ get_or lists (j * 4 + 1) 0 → Fillable nodes (take (s + w - s) (drop s succ)) lists pred
-    filling_fillable s w es ew = subst (λ (k : List ℕ). Fillable nodes k lists pred) (sym (filling_part s w es ew)) list_fillable
+    pub filling_fillable : (s e : ℕ) → s ≡ get_or lists (j * 4) 0 → e ≡ get_or lists (j * 4) 0 + get_or lists (j * 4 + 1) 0 → Fillable nodes (take (e - s) (drop s succ)) lists pred
+    filling_fillable s e es ee = subst (λ (k : List ℕ). Fillable nodes k lists pred) (sym (filling_part s e es ee)) list_fillable
 
     -- no slot of the list's nodes is a place below another's count
     apart : (t m : ℕ) → t < nodes → m < length (sources_in t 0 (take j ls)) → (u : ℕ) → u < nodes → (i : ℕ) → i < occurs u (get_or ls j []) → slot lists u + i ≡ start_of (sources_of ls) t + m → ⊥
@@ -174,9 +190,9 @@ module _ {nodes : ℕ} {ls : List (List ℕ)} {succ lists₀ pred₀ : List ℕ}
             past = λ x k. p.other x (λ t g i e q. omega (arith, slot_high t g, part_end t g)) ∙ f.past x k;
           }
 
-    pub filling_more : {lists' pred' : List ℕ} (s w : ℕ) → s ≡ get_or lists (j * 4) 0 → w ≡ get_or lists (j * 4 + 1) 0 → Placed nodes j (take (s + w - s) (drop s succ)) lists lists' pred pred'
+    pub filling_more : {lists' pred' : List ℕ} (s e : ℕ) → s ≡ get_or lists (j * 4) 0 → e ≡ get_or lists (j * 4) 0 + get_or lists (j * 4 + 1) 0 → Placed nodes j (take (e - s) (drop s succ)) lists lists' pred pred'
         → Filling nodes ls (j + 1) lists₀ lists' pred₀ pred'
-    filling_more {lists'} {pred'} s w es ew p = filling_next (subst (λ (k : List ℕ). Placed nodes j k lists lists' pred pred') (filling_part s w es ew) p)
+    filling_more {lists'} {pred'} s e es ee p = filling_next (subst (λ (k : List ℕ). Placed nodes j k lists lists' pred pred') (filling_part s e es ee) p)
 
 -- ---- the filled tables
 

@@ -1,4 +1,5 @@
--- Predecessors by counting: how many edges lead to each node, where its list begins, and the lists as they fill. Assumes nothing.
+-- Predecessors by counting: how many edges lead to each node, where its list begins, and the lists as they fill.
+-- Assumes nothing.
 use Rattle.std.specs.Prelude.{◌≡◌, refl, Bool, true, false, List, [], ◌∷◌, ◌++◌, ℕ, zero, suc, ◌+◌, ◌*◌, ◌≤◌, ◌<◌, eqb, ltb, length, get_or, set, take, drop, replicate}
 use Rattle.std.proofs.Common.{sym, ap, ◌∙◌, append_assoc, append-nil, arith, add-one, eq-eqb, ne_eqb, lt-ltb, le-ltb, length-append, length-set, take-append-drop, take-suc, length-take-le, get_or-set_same, get_or-set_other}
 use Rattle.std.proofs.Math.Decide.{ℕ_discrete, dec_lt}

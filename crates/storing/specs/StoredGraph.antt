@@ -1,4 +1,5 @@
--- A graph's lists written from any tables: whether these can be read, how many edges they say, and what then stands where. Assumes nothing.
+-- A graph's lists written from any tables: whether these can be read, how many edges they say, and what then stands
+-- where. Assumes nothing.
 use Prim.Native.Nat.{ℕ, zero, suc, ◌*◌, ◌≤◌, ◌<◌}
 use Rattle.std.proofs.Math.Path.{◌≡◌, refl}
 use Rattle.std.proofs.Common.{sym, ap, ◌∙◌, arith}
@@ -30,7 +31,7 @@ use Rattle.passes.specs.Regions.{target_row}
 use Rattle.passes.specs.WalkTables.{calls_readable, walks_readable, CallsRead, calls_read, calls_sets, read_calls, read-sets}
 use Rattle.storing.specs.EdgesFit.{edges_fit, EdgesFit, edges_fit_lem}
 use Rattle.storing.specs.Predecessors.{sources_of, IdLists}
-use Rattle.storing.specs.PredecessorLists.{Ready, Written, stored_successors}
+use Rattle.storing.specs.PredecessorLists.{Successors, Ready, Written, stored_successors, successors_part}
 use Rattle.storing.specs.JoinedReturns.{set_readable, ids_all, ids-read, read-ids}
 use Rattle.storing.specs.FinalLists.{return_list, call_list, final_list, final_size, WritesReady, WritesDone, CountsReady, jump_ids, sizes_are}
 
@@ -41,7 +42,8 @@ unfoldable pub returns_readable : (handlers : Bool) (stmts args : List ℕ) (n :
 returns_readable true stmts args n returns targets = leb targets (length returns) && ids_below n (take targets returns)
 returns_readable false stmts args n returns targets = every_below (set_readable stmts args n) n
 
--- no graph has more rows of entries than 1,024, or more return targets than 4,096; records, calls and lists are those that walks read
+-- no graph has more rows of entries than 1,024, or more return targets than 4,096; records, calls and lists are those
+-- that walks read
 unfoldable pub graph_readable : (handlers : Bool) (stmts args falls links : List ℕ) (n rows : ℕ) (lists scratch returns : List ℕ) (targets : ℕ) → Bool
 graph_readable handlers stmts args falls links n rows lists scratch returns targets =
     leb rows 1024 && (leb targets 4096 && (walks_readable stmts falls links lists scratch n args && returns_readable handlers stmts args n returns targets))
@@ -229,23 +231,30 @@ module _ {handlers : Bool} {stmts args falls links : List ℕ} {n : ℕ} {lists 
       unfolding final_lists
       done = s
 
-      pub preds_ready : Ready n total succ₁ lists₁ pred
+      -- the part of succ that they take
+      part : (length (take total succ₁) ≡ total) × Successors n ls (take total succ₁) lists₁
+      part = successors_part total done.used (stored_successors id_lists (omega (arith, done.used, f.in_succ)) done)
+
+      pub edges_inside : total ≤ length succ₁
+      edges_inside = omega (arith, done.used, (stored_successors id_lists (omega (arith, done.used, f.in_succ)) done).inside)
+
+      pub preds_ready : Ready n (length (take total succ₁)) (take total succ₁) lists₁ pred
       preds_ready =
           record {
             ls = ls;
-            held = stored_successors id_lists (omega (arith, done.used, f.in_succ)) done;
-            edges_are = done.used;
+            held = part.1;
+            edges_are = part.0 ∙ done.used;
             room = record {
               few_nodes = q.lists_in.few;
-              few_edges = omega (arith, done.used, f.few);
+              few_edges = omega (arith, part.0, done.used, f.few);
               rows = omega (arith, q.lists_in.rows, done.rows.size);
-              space = omega (arith, done.used, f.in_pred);
+              space = omega (arith, part.0, done.used, f.in_pred);
             };
           }
 
-      pub edges_stored : {lists₂ pred₂ : List ℕ} → Written n total succ₁ lists₁ lists₂ pred pred₂ → EdgesStored n lists lists₂ succ succ₁ pred pred₂ ls total
+      pub edges_stored : {lists₂ pred₂ : List ℕ} → Written n (length (take total succ₁)) (take total succ₁) lists₁ lists₂ pred pred₂ → EdgesStored n lists lists₂ succ succ₁ pred pred₂ ls total
       edges_stored w =
-          let p = w ls (stored_successors id_lists (omega (arith, done.used, f.in_succ)) done) done.used in
+          let p = w ls part.1 (part.0 ∙ done.used) in
           record {
             total_is = done.used;
             lists_are = p.rows ∙ ap (λ (x : List ℕ). list_rows ls (sources_of ls) n ++ x) (behind id_lists.size);

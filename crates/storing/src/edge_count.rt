@@ -38,6 +38,8 @@ fn list_size(
 }
 
 // The edges of all nodes.
+// Kept: a loop in place of `sum`: each turn writes the buffer, and of a closure that changes what it captures a proof
+// knows nothing.
 pub(crate) fn count_lists(
     source: &Source<'_>,
     args: &[u64],

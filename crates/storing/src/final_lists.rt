@@ -24,8 +24,10 @@ fn return_list(source: &Source<'_>, args: &[u64], i: usize, buffer: &mut [u16; M
     members(set_at(args, i), buffer)
 }
 
-// Node i's list goes behind those written before it, from entry `at` on: a RETURN's or a call's from the buffer, any other's from
-// scratch, where its row says.
+// Node i's list goes behind those written before it, from entry `at` on: a RETURN's or a call's from the buffer, any
+// other's from scratch, where its row says.
+// Kept: `put_list` twice: a RETURN's list and a call's have room for reasons of their own, which a proof of one call
+// for both would take apart again.
 fn write_list(
     source: &Source<'_>,
     args: &[u64],
@@ -51,8 +53,8 @@ fn write_list(
     move_list(lists, source.scratch, succ, i, at)
 }
 
-// The graph's lists go into succ in node order: a RETURN's from its set or the return targets, a call's made again, any other's
-// moved from scratch, where its row says.
+// The graph's lists go into succ in node order: a RETURN's from its set or the return targets, a call's made again, any
+// other's moved from scratch, where its row says.
 pub(crate) fn write_lists(
     source: &Source<'_>,
     args: &[u64],

@@ -11,7 +11,7 @@ use layout::columns::{ARG_ENTRIES, COUNT, FALL_ENTRIES, STMT_ENTRIES};
 use layout::limits::MAX_ARGS;
 use layout::words::ONGOTO;
 use tables::lists::holds;
-use tables::nodes::Nodes;
+use tables::nodes::{Nodes, entry};
 
 // Whether node i's record, its links and where it falls can be read. By division, so that no i is too large.
 #[tactic(auto, unfolding(crate::specs::AddWithin::jump_readable))]
@@ -51,7 +51,8 @@ impl<'a> NodeList<'a> {
     pub fn len(&self) -> usize
         ensures { result ≡ self.now.n }
     {
-        self.n
+        let NodeList { n, .. } = self;
+        *n
     }
 
     // Whether the node a is one of them.
@@ -102,12 +103,12 @@ impl<'a> NodeList<'a> {
         let Some(j) = usize::from(t).checked_sub(1) else {
             return;
         };
-        let fall = falls.get(j * FALL_ENTRIES).copied().unwrap_or(0);
-        self.add_edge(fall);
+        self.add_edge(entry(falls, j * FALL_ENTRIES));
     }
 
     // The targets of GOTO, GOSUB or ON i, and then where an ON falls.
     // Kept: tables one by one, since `add_jump` answers for any number of nodes, and `Nodes` has at most 4,096.
+    // Kept: `< ONGOTO` and no match of kinds: `add_jump` promises `jump_edges` of any record, and that compares.
     fn add_written(&mut self, stmts: &[u16], falls: &[u16], links: &[u16], i: usize)
         requires { (i * 12 + 12 ≤ length stmts.now) × (i * 3 + 3 ≤ length falls.now) × (i * 64 + 64 ≤ length links.now) × (get_or stmts.now (i * 12 + 10) 0 ≤ 64) }
         ensures { AddedTo self.old self.new (jump_edges stmts.now falls.now links.now i) }
@@ -133,7 +134,8 @@ impl<'a> NodeList<'a> {
 }
 
 // The list of a jump alone, in a lent part; answers how many nodes it has.
-// Kept: a part and how many: `list_size` asks for the number alone, and where `write_list` has a RETURN, the same buffer gets a set's members.
+// Kept: a part and how many: `list_size` asks for the number alone, and where `write_list` has a RETURN, the same
+// buffer gets a set's members.
 pub(crate) fn put_jump(g: &Nodes<'_>, i: usize, part: &mut [u16]) -> usize
     requires { (i < g.now.records.n) × (get_or g.now.records.stmts.now (i * 12 + 10) 0 ≤ 64) }
     ensures { AddedIn part.old 0 part.new result (jump_edges g.now.records.stmts.now g.now.falls.now g.now.links.now i) }

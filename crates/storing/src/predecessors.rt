@@ -5,7 +5,8 @@ ghost use Rattle.passes.specs.Counting.{sum_to};
 ghost use Rattle.storing.specs.Predecessors.{Emptied, Countable, Counted, Started, Fillable, Placed};
 ghost use Rattle.storing.specs.PredecessorLists.{FillReady, FilledTo, Ready, Written};
 
-use layout::columns::{LIST_ENTRIES, PRED_COUNT, PRED_START, SUCC_COUNT};
+use layout::columns::{LIST_ENTRIES, PRED_COUNT, PRED_START};
+use tables::lists::list_ends;
 
 // No edge counts yet.
 fn clear_counts(lists: &mut [u16], nodes: usize)
@@ -18,11 +19,11 @@ fn clear_counts(lists: &mut [u16], nodes: usize)
 }
 
 // Each edge counts for the node that it leads to.
-fn count_edges(succ: &[u16], edges: usize, lists: &mut [u16], nodes: usize)
-    requires { Countable nodes edges succ.now lists.old }
-    ensures { Counted nodes edges succ.now lists.old lists.new }
+fn count_edges(succ: &[u16], lists: &mut [u16], nodes: usize)
+    requires { Countable nodes (length succ.now) succ.now lists.old }
+    ensures { Counted nodes (length succ.now) succ.now lists.old lists.new }
 {
-    for &v in &succ[..edges] {
+    for &v in succ {
         lists[usize::from(v) * LIST_ENTRIES + PRED_COUNT] += 1;
     }
 }
@@ -62,26 +63,19 @@ fn fill_lists(succ: &[u16], lists: &mut [u16], nodes: usize, pred: &mut [u16])
     ensures { FilledTo nodes nodes succ.now lists.old lists.new pred.old pred.new }
 {
     for j in 0..nodes {
-        let row = j * LIST_ENTRIES;
-        let start = usize::from(lists[row]);
-        let end = start + usize::from(lists[row + SUCC_COUNT]);
+        let (start, end) = list_ends(lists, j);
         fill_list(&succ[start..end], lists, nodes, pred, j as u16);
     }
 }
 
-// From the successor lists in succ, `edges` entries in all, to the predecessor lists in pred; the rows in `lists` say where each list stands.
-pub(crate) fn write_predecessors(
-    succ: &[u16],
-    edges: usize,
-    lists: &mut [u16],
-    nodes: usize,
-    pred: &mut [u16],
-)
-    requires { Ready nodes edges succ.now lists.old pred.old }
-    ensures { Written nodes edges succ.now lists.old lists.new pred.old pred.new }
+// From the successor lists in succ, which are all that is there, to the predecessor lists in pred; the rows in `lists`
+// say where each list stands.
+pub(crate) fn write_predecessors(succ: &[u16], lists: &mut [u16], nodes: usize, pred: &mut [u16])
+    requires { Ready nodes (length succ.now) succ.now lists.old pred.old }
+    ensures { Written nodes (length succ.now) succ.now lists.old lists.new pred.old pred.new }
 {
     clear_counts(lists, nodes);
-    count_edges(succ, edges, lists, nodes);
+    count_edges(succ, lists, nodes);
     set_starts(lists, nodes);
     fill_lists(succ, lists, nodes, pred);
 }

@@ -2,13 +2,15 @@
 ghost use Rattle.std.specs.Prelude.{◌≡◌, ◌+◌, ◌*◌, ◌≤◌, ◌<◌, length};
 ghost use Rattle.tables.specs.Readable.{every_below};
 ghost use Rattle.storing.specs.JoinedReturns.{set_readable, joined_return, joined_returns};
-ghost use Rattle.storing.specs.StoredGraph.{returns_readable, graph_readable};
+ghost use Rattle.storing.specs.StoredGraph.{returns_readable};
+ghost use Rattle.storing.specs.FromSource.{SourceAnswered};
 
+use crate::source::Source;
 use layout::limits::{MAX_LINES, MAX_STMTS};
+use layout::refusals::{Reason, Refusal};
 use layout::words::RETURN;
-use tables::nodes::Records;
-use tables::readable::ids_below;
-use walks::readable::walks_readable;
+use tables::readable::{ids_below, lists_readable};
+use walks::readable::nodes_of;
 use walks::sets::{Sets, join_set, members, no_words};
 
 // The set of node i is joined, where that is a RETURN.
@@ -44,7 +46,8 @@ fn sets_readable(sets: &Sets<'_>, buffer: &mut [u16; MAX_STMTS]) -> bool
 }
 
 // With handlers the return targets, without them the sets.
-// Kept: `handlers` says what the listing has, a word of the paper and of every definition here; an enum would be taken apart at each clause.
+// Kept: `handlers` says what the listing has, a word of the paper and of every definition here; an enum would be taken
+// apart at each clause.
 #[tactic(auto, unfolding(crate::specs::StoredGraph::returns_readable))]
 fn returns_readable(
     handlers: bool,
@@ -61,35 +64,44 @@ fn returns_readable(
     sets_readable(sets, buffer)
 }
 
-// And what walks read: records, calls, lists in scratch, sets.
-// Kept: takes tables whoever wrote them, so a struct with an invariant would ask more.
-#[tactic(auto, unfolding(crate::specs::StoredGraph::graph_readable))]
-pub(crate) fn graph_readable<'a>(
+// What a graph is written from, where the tables can be read: records, calls, lists in scratch, sets.
+// Kept: `returns, targets` and no slice: that there are so many is part of what is asked, with handlers alone.
+// Kept: tables one by one, as `write_graph` has them, its one caller.
+pub(crate) fn source_of<'a>(
     handlers: bool,
     stmts: &'a [u16],
-    args: &'a [u64],
-    falls: &[u16],
-    links: &[u16],
+    args: &[u64],
+    falls: &'a [u16],
+    links: &'a [u16],
     n: usize,
     rows: usize,
     lists: &[u16],
-    scratch: &[u16],
-    returns: &[u16],
+    scratch: &'a [u16],
+    returns: &'a [u16],
     targets: usize,
     buffer: &mut [u16; MAX_STMTS],
-) -> bool
-    ensures { result ≡ graph_readable handlers stmts.now args.now falls.now links.now n rows lists.now scratch.now returns.now targets }
+) -> Result<Source<'a>, Refusal>
+    ensures { SourceAnswered handlers stmts.now args.now falls.now links.now n rows lists.now scratch.now returns.now targets result }
 {
-    if MAX_LINES < rows || MAX_STMTS < targets {
-        return false;
+    let outside = Reason::Outside.at(0);
+    if MAX_LINES < rows || MAX_STMTS < targets || !lists_readable(lists, scratch, n) {
+        return Err(outside);
     }
-    if !walks_readable(stmts, falls, links, lists, scratch, n, args) {
-        return false;
-    }
-    let records = Records { stmts, n };
-    let sets = Sets {
-        records,
-        words: args,
+    let Some(nodes) = nodes_of(stmts, falls, links, n, args) else {
+        return Err(outside);
     };
-    returns_readable(handlers, &sets, returns, targets, buffer)
+    let records = nodes.records;
+    let words = args;
+    let sets = Sets { records, words };
+    if !returns_readable(handlers, &sets, returns, targets, buffer) {
+        return Err(outside);
+    }
+    Ok(Source {
+        handlers,
+        nodes,
+        rows,
+        scratch,
+        returns,
+        targets,
+    })
 }

@@ -3,9 +3,12 @@ ghost use Rattle.std.specs.Prelude.{◌≡◌, true, ◌≤◌, length};
 
 use tables::nodes::Nodes;
 
-// n nodes with so many rows of entries. In scratch stands each node's own list; a RETURN goes with handlers to the first `targets` of
-// `returns`, without them to its set.
-// Kept: `handlers` beside `targets`, since the count of targets goes into the graph without handlers too; an enum would hold it twice.
+// n nodes with so many rows of entries. In scratch stands each node's own list; a RETURN goes with handlers to the
+// first `targets` of `returns`, without them to its set.
+// Kept: `handlers` beside `targets`, since the count of targets goes into the graph without handlers too; an enum would
+// hold it twice.
+// Kept: without `args`, though what reads a source reads them too: at last they are cleared, while the source is lent.
+// Kept: `returns, targets` and no slice: without handlers `returns` may be shorter, and nothing of it is read.
 #[derive(Clone, Copy)]
 pub(crate) struct Source<'a> {
     pub handlers: bool,

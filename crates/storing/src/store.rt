@@ -6,6 +6,7 @@ ghost use Rattle.storing.specs.Appending.{append_fits, AppendAnswered};
 
 use layout::columns::{LIST_ENTRIES, SUCC_COUNT};
 use layout::limits::MAX_NUMBER;
+use tables::lists::list_ends;
 
 // A list goes to the front of the part; what stands behind it stays.
 pub(crate) fn store_list(part: &mut [u16], list: &[u16])
@@ -15,7 +16,8 @@ pub(crate) fn store_list(part: &mut [u16], list: &[u16])
     part[..list.len()].copy_from_slice(list);
 }
 
-// A node's list goes behind those stored before it, from entry `at` on, and its row says where; the answer is where the next list begins.
+// A node's list goes behind those stored before it, from entry `at` on, and its row says where; the answer is where the
+// next list begins.
 pub(crate) fn put_list(
     lists: &mut [u16],
     succ: &mut [u16],
@@ -32,7 +34,8 @@ pub(crate) fn put_list(
     at + list.len()
 }
 
-// Whether the node has a row, and a list of so many entries fits the table from `at` on. By division and difference, so that no number is too large.
+// Whether the node has a row, and a list of so many entries fits the table from `at` on. By division and difference, so
+// that no number is too large.
 #[tactic(auto, unfolding(crate::specs::Appending::append_fits))]
 fn append_fits(node: usize, at: usize, count: usize, lists: &[u16], succ: &[u16]) -> bool
     ensures { result ≡ append_fits node at count lists.now succ.now }
@@ -44,6 +47,7 @@ fn append_fits(node: usize, at: usize, count: usize, lists: &[u16], succ: &[u16]
 }
 
 // The same on any tables: where the list does not fit, nothing changes, and the answer is `at`.
+// Kept: `at` and no `Option`: that is what its promise says of such tables; the next list goes there in either case.
 #[tactic(auto, unfolding(crate::specs::Appending::append_fits))]
 pub fn append_list(
     lists: &mut [u16],
@@ -60,7 +64,8 @@ pub fn append_list(
     at
 }
 
-// A node's list, which stands in `from` where its row says, goes behind those stored in succ; then its row says where it stands there.
+// A node's list, which stands in `from` where its row says, goes behind those stored in succ; then its row says where
+// it stands there.
 pub(crate) fn move_list(
     lists: &mut [u16],
     from: &[u16],
@@ -72,8 +77,6 @@ pub(crate) fn move_list(
     requires node_in_bounds_2 { (at + succ_count lists.old node ≤ length succ.old) × (at + succ_count lists.old node < 65536) }
     ensures { Appended node at (succ_count lists.old node) (take (succ_count lists.old node) (drop (succ_start lists.old node) from.now)) lists.old lists.new succ.old succ.new result }
 {
-    let row = node * LIST_ENTRIES;
-    let start = usize::from(lists[row]);
-    let end = start + usize::from(lists[row + SUCC_COUNT]);
+    let (start, end) = list_ends(lists, node);
     put_list(lists, succ, node, at, &from[start..end])
 }

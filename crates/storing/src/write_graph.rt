@@ -6,16 +6,16 @@ ghost use Rattle.storing.specs.FromSource.{lists_from, GraphReadFrom, GraphReady
 use crate::edge_count::{count_lists, edges_fit};
 use crate::final_lists::write_lists;
 use crate::predecessors::write_predecessors;
-use crate::readable::graph_readable;
+use crate::readable::source_of;
 use crate::source::Source;
 use layout::limits::MAX_STMTS;
 use layout::refusals::{Reason, Refusal};
 use layout::zeroing::all_of;
-use tables::nodes::{Nodes, Records};
 use walks::clearing::clear_sets;
 
 // The successor lists, then the predecessor lists; how many edges there are.
-// Kept: tables that are written go one by one; of a struct of `&mut` a clause names what is left behind it by nested pairs.
+// Kept: tables that are written go one by one; of a struct of `&mut` a clause names what is left behind it by nested
+// pairs.
 fn write_edges(
     source: &Source<'_>,
     args: &[u64],
@@ -28,11 +28,12 @@ fn write_edges(
     ensures { EdgesStored source.now.nodes.records.n lists.old lists.new succ.old succ.new pred.old pred.new (lists_from source.now args.now lists.old) result }
 {
     let total = write_lists(source, args, lists, succ, buffer);
-    write_predecessors(succ, total, lists, source.nodes.records.n, pred);
+    write_predecessors(&succ[..total], lists, source.nodes.records.n, pred);
     total
 }
 
 // The counts that are not the reader's.
+// Kept: by place; tried with a pattern of six, and the borrow checker does not cover several places of one lent array.
 fn put_edge_counts(counts: &mut [u32; 6], edges: usize, targets: usize, rows: usize)
     requires { (edges < 65536) × (targets < 65536) × (rows < 65536) }
     ensures { counts.new ≡ set (set (set counts.old 3 edges) 4 targets) 5 rows }
@@ -84,10 +85,11 @@ fn write_fitting(
     Ok(edges)
 }
 
-// The graph of n nodes and so many rows of entries goes into its tables; how many edges it has. A RETURN's list from the return targets or its set, a call's from its
-// targets, any other's from scratch, where its row says. Refused 25 where the tables cannot be read, 23 where the edges do not fit; then
-// nothing is written.
-// Kept: takes tables whoever wrote them, so a struct with an invariant would ask more.
+// The graph of n nodes and so many rows of entries goes into its tables; how many edges it has. A RETURN's list from
+// the return targets or its set, a call's from its targets, any other's from scratch, where its row says. Refused 25
+// where the tables cannot be read, 23 where the edges do not fit; then nothing is written.
+// Kept: tables one by one: `Nodes` and `Source` have as their invariant what is tested here, and a plain struct would
+// be filled from a `Nodes` by the caller, one by one too.
 pub fn write_graph<'a>(
     handlers: bool,
     stmts: &'a [u16],
@@ -107,7 +109,7 @@ pub fn write_graph<'a>(
     ensures { GraphAnswered handlers stmts.now args.old falls.now links.now n rows counts.old lists.old scratch.now returns.now targets succ.old pred.old counts.new args.new lists.new succ.new pred.new result }
 {
     let mut buffer = all_of::<u16, MAX_STMTS>(0);
-    if !graph_readable(
+    let source = source_of(
         handlers,
         stmts,
         args,
@@ -120,22 +122,6 @@ pub fn write_graph<'a>(
         returns,
         targets,
         &mut buffer,
-    ) {
-        return Err(Reason::Outside.at(0));
-    }
-    let records = Records { stmts, n };
-    let nodes = Nodes {
-        records,
-        falls,
-        links,
-    };
-    let source = Source {
-        handlers,
-        nodes,
-        rows,
-        scratch,
-        returns,
-        targets,
-    };
+    )?;
     write_fitting(&source, args, counts, lists, succ, pred, &mut buffer)
 }

@@ -1,4 +1,5 @@
--- Rows of line entries as the table lists them: a line's number, and one more than the node of its entry, or 0. Assumes nothing.
+-- Rows of line entries as the table lists them: a line's number, and one more than the node of its entry, or 0. Assumes
+-- nothing.
 use Rattle.std.specs.Prelude.{ℕ, zero, suc, ◌+◌, ◌*◌, ◌<◌, ◌≡◌, refl, List, [], ◌∷◌, ◌++◌, length, get_or}
 use Rattle.std.proofs.Common.{sym, ap, ◌∙◌, arith, length-append}
 use Rattle.std.proofs.Math.Decide.{ℕ_discrete}

@@ -4,3 +4,4 @@ pub mod Stores
 pub mod Readable
 pub mod Words
 pub mod Told
+pub mod OneMore

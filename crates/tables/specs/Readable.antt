@@ -1,4 +1,5 @@
--- Whether tables can be read, whoever wrote them: "25 a used count or a record that the call reads points outside its table". Assumes nothing.
+-- Whether tables can be read, whoever wrote them: "25 a used count or a record that the call reads points outside its
+-- table". Assumes nothing.
 use Rattle.std.specs.Prelude.{ℕ, zero, suc, ◌+◌, ◌-◌, ◌*◌, ◌≤◌, ◌<◌, ◌≡◌, refl, Bool, true, false, ◌&&◌, List, [], ◌∷◌, map, leb, length, get_or, take, drop}
 use Rattle.std.specs.List.{list_all, range_with_len}
 use Rattle.std.proofs.Common.{sym, ◌∙◌, add-one, zero-add, take_all}

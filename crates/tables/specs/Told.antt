@@ -1,4 +1,5 @@
--- What a question's routine answers, as the definition has it: "document 01's number and place for each refusal". Assumes nothing.
+-- What a question's routine answers, as the definition has it: "document 01's number and place for each refusal".
+-- Assumes nothing.
 use Rattle.std.specs.Prelude.{Result, Ok, Err}
 use Rattle.graph.specs.Questions.{Reply, answer, refused}
 use Rattle.layout.specs.declared.refusals.Refusal.{Refusal}

@@ -2,6 +2,7 @@
 #![tactic(auto)]
 
 pub mod calls;
+pub mod counts;
 pub mod graphs;
 pub mod lists;
 pub mod nodes;

@@ -12,7 +12,8 @@ pub fn holds(l: &[u16], a: u16) -> bool
     l.contains(&a)
 }
 
-// Where in the edge table node v's list of successors begins and ends, by the node's row; 0 for what the table has not.
+// Where in the edge table node v's list of successors begins and ends, by the node's row; 0 for what the table has
+// not.
 pub fn list_ends(lists: &[u16], v: usize) -> (usize, usize)
     ensures start { result.0 ≡ get_or lists.now (v * 4) 0 }
     ensures end { result.1 ≡ get_or lists.now (v * 4) 0 + get_or lists.now (v * 4 + 1) 0 }

@@ -1,13 +1,26 @@
-// What n nodes are and where they lead: tables that are read together, with what is known of their lengths.
+// What n nodes are and where they lead: tables that are read together, with what is known of their lengths. What is
+// read of them is 0 where a table ends before it.
 ghost use Rattle.std.specs.Prelude.{◌≡◌, ◌+◌, ◌*◌, ◌≤◌, ◌<◌, length, get_or, take, drop};
+ghost use Rattle.tables.specs.OneMore.{one_more};
 
-use layout::columns::{ARG_ENTRIES, COUNT, DETAIL, FALL_ENTRIES, STMT_ENTRIES};
+use layout::columns::{
+    ARG_ENTRIES, COUNT, DETAIL, END, FALL_ENTRIES, HOLDER, INDEX, LINE, SECOND, STMT_ENTRIES, WORD,
+};
+use std::ops::Range;
 
-// Entry k of a table, or 0 where the table ends before it; so are the methods below.
-pub(crate) fn entry(table: &[u16], k: usize) -> u16
+// Entry k of a table, or 0 where the table ends before it.
+pub fn entry(table: &[u16], k: usize) -> u16
     ensures { result ≡ get_or table.now k 0 }
 {
     table.get(k).copied().unwrap_or(0)
+}
+
+// Where the words of node i stand in a table with 64 for each node: its links, its arguments or its set.
+pub fn words_of(i: usize) -> Range<usize>
+    ensures { i < 4096 → (result.start ≡ i * 64) × (result.end ≡ i * 64 + 64) }
+{
+    let start = i.saturating_mul(ARG_ENTRIES);
+    start..start.saturating_add(ARG_ENTRIES)
 }
 
 // The records of n statements.
@@ -20,27 +33,79 @@ pub struct Records<'a> {
 }
 
 impl<'a> Records<'a> {
+    // Entry k of node i's record. Where i is a node, no end is tested: loops over nodes read as fast as by hand.
+    fn entry(&self, i: usize, k: usize) -> u16
+        requires { k < 12 }
+        ensures { result ≡ get_or self.now.stmts.now (i * 12 + k) 0 }
+    {
+        if i < self.n {
+            return self.stmts[i * STMT_ENTRIES + k];
+        }
+        entry(self.stmts, i.saturating_mul(STMT_ENTRIES).saturating_add(k))
+    }
+
     // The number of node i's opening word.
     pub fn word(&self, i: usize) -> u16
         ensures { result ≡ get_or self.now.stmts.now (i * 12) 0 }
     {
-        entry(self.stmts, i.saturating_mul(STMT_ENTRIES))
+        self.entry(i, WORD)
+    }
+
+    // The index of the line that it stands in.
+    pub fn line(&self, i: usize) -> usize
+        ensures { result ≡ get_or self.now.stmts.now (i * 12 + 1) 0 }
+    {
+        usize::from(self.entry(i, LINE))
+    }
+
+    // The IF that holds it, or none.
+    pub fn holder(&self, i: usize) -> Option<usize>
+        ensures { one_more result ≡ get_or self.now.stmts.now (i * 12 + 2) 0 }
+    {
+        usize::from(self.entry(i, HOLDER)).checked_sub(1)
+    }
+
+    // The last number of its path.
+    pub fn index(&self, i: usize) -> u16
+        ensures { result ≡ get_or self.now.stmts.now (i * 12 + 3) 0 }
+    {
+        self.entry(i, INDEX)
+    }
+
+    // The node behind all that it holds.
+    pub fn end(&self, i: usize) -> usize
+        ensures { result ≡ get_or self.now.stmts.now (i * 12 + 4) 0 }
+    {
+        usize::from(self.entry(i, END))
+    }
+
+    // The node where its second branch begins; 0 where it has none.
+    pub fn second(&self, i: usize) -> usize
+        ensures { result ≡ get_or self.now.stmts.now (i * 12 + 5) 0 }
+    {
+        usize::from(self.entry(i, SECOND))
     }
 
     // How many arguments it has.
     pub fn count(&self, i: usize) -> usize
         ensures { result ≡ get_or self.now.stmts.now (i * 12 + 10) 0 }
     {
-        let at = i.saturating_mul(STMT_ENTRIES).saturating_add(COUNT);
-        usize::from(entry(self.stmts, at))
+        usize::from(self.entry(i, COUNT))
     }
 
     // Its tier or its mark, by its number.
     pub fn detail(&self, i: usize) -> u16
         ensures { result ≡ get_or self.now.stmts.now (i * 12 + 11) 0 }
     {
-        let at = i.saturating_mul(STMT_ENTRIES).saturating_add(DETAIL);
-        entry(self.stmts, at)
+        self.entry(i, DETAIL)
+    }
+
+    // Where its arguments stand in a table with 64 entries for each node: as many as it has.
+    pub fn args_of(&self, i: usize) -> Range<usize>
+        ensures { i < self.now.n → (result.start ≡ i * 64) × (result.end ≡ i * 64 + get_or self.now.stmts.now (i * 12 + 10) 0) }
+    {
+        let start = i.saturating_mul(ARG_ENTRIES);
+        start..start.saturating_add(usize::from(self.entry(i, COUNT)))
     }
 }
 
@@ -56,14 +121,19 @@ pub struct Nodes<'a> {
 
 impl<'a> Nodes<'a> {
     // Where node i falls: one more than the node, or 0.
-    // Kept: the number: callers hand it on to `add_edge` or compare it as the tables have it; two of eight take it apart.
+    // Kept: the number: callers hand it on to `add_edge` or compare it as the tables have it; two of eight take it
+    // apart.
     pub fn fall(&self, i: usize) -> u16
         ensures { result ≡ get_or self.now.falls.now (i * 3) 0 }
     {
+        if i < self.records.n {
+            return self.falls[i * FALL_ENTRIES];
+        }
         entry(self.falls, i.saturating_mul(FALL_ENTRIES))
     }
 
-    // Where the numbers of node i's arguments lead, for as many as it has; what there is of them where the table ends before.
+    // Where the numbers of node i's arguments lead, for as many as it has; what there is of them where the table ends
+    // before.
     pub fn targets(&self, i: usize) -> &'a [u16]
         ensures { result.now ≡ take (get_or self.now.records.stmts.now (i * 12 + 10) 0) (drop (i * 64) self.now.links.now) }
     {

@@ -1,19 +1,24 @@
--- The words after a form's opening word, as the code judges them: why one of them is refused, by the lowest number, and how many there are. Assumes nothing.
+-- The words after a form's opening word, as the code judges them: why one of them is refused, by the lowest number, and
+-- how many there are. Assumes nothing.
 use Rattle.std.specs.Prelude.{ℕ, suc, ◌⊎◌, ◌+◌, ◌≤◌, ◌<◌, ◌≡◌, refl, List, [], ◌∷◌, Bool, true, false, ◌&&◌, ◌||◌, not, eqb, ltb, length, get_or, take, drop, Result, Ok, Err}
+use Rattle.std.specs.Option.{ok_or}
 use Rattle.std.specs.Result.{result_and}
 use Rattle.std.proofs.Common.{sym, ◌∙◌, inl, inr, arith, not-suc-le-zero, add-one, drop_of_length-le}
 use Rattle.std.proofs.Math.Path.{ap}
+use Rattle.std.proofs.Math.Option as M
 use Rattle.std.proofs.Math.Option.{none, some}
 use Rattle.std.proofs.Math.Seq.{drop-cons}
 use borrow.Author.Tests.{ne_eqb, eqb-true, ltb-true, ltb-false, lt-ltb, le-ltb}
 use Rattle.listings.specs.Bytes.{same, pick}
+use Rattle.listings.specs.Listing as listing
 use Rattle.listings.specs.Listing.{for}
-use Rattle.listings.specs.Rows.{split, on_first, all, is_word, are_words, Parse, malformed, invalid, parsed, refusal_of, map_parse, with_parse, parse_number, parse_numbers, parse_name, parse_slot, parse_slots, parse_tier, parse_mark, single, for_stmt}
+use Rattle.listings.specs.Rows.{split, on_first, all, is_word, are_words, Parse, malformed, invalid, parsed, refusal_of, map_parse, with_parse, parse_number, parse_numbers, parse_name, parse_slot, parse_slots, lookup, or_malformed, tiers, parse_tier, marks, parse_mark, single, for_stmt}
 use Rattle.listings.specs.Scan.{index_of, same_sym, split_last, split_more, split-some}
 use Rattle.layout.specs.Refusals.{number_of}
 use Rattle.layout.specs.declared.refusals.Reason.{Reason}
 use Rattle.layout.specs.declared.refusals.Reason.TheVariants as reason
 use Rattle.tokens.specs.Numbers.{as_number}
+use Rattle.tokens.specs.Tiers.{tier_found, mark_found}
 use Rattle.tokens.specs.declared.arguments.Arguments.{Arguments}
 use Rattle.tokens.specs.declared.arguments.Arguments.TheVariants as arguments
 use Rattle.tokens.specs.declared.arguments.Checked.{Checked}
@@ -67,6 +72,23 @@ pub number_verdict : (g : Parse ℕ) → result_and (as_number g) (Ok tt) ≡ ve
 number_verdict malformed = refl
 number_verdict invalid = refl
 number_verdict (parsed n) = refl
+
+-- a word that is no tier, or no mark, is no form
+pub tier_verdict : (w : List ℕ) → result_and (ok_or (tier_found (parse_tier w)) reason.NotAForm) (Ok tt) ≡ verdict (parse_tier w)
+unfolding or_malformed parse_tier
+tier_verdict w = go (lookup tiers w)
+  where
+    go : (o : M.Option listing.Tier) → result_and (ok_or (tier_found (or_malformed o)) reason.NotAForm) (Ok tt) ≡ verdict (or_malformed o)
+    go none = refl
+    go (some t) = refl
+
+pub mark_verdict : (w : List ℕ) → result_and (ok_or (mark_found (parse_mark w)) reason.NotAForm) (Ok tt) ≡ verdict (parse_mark w)
+unfolding or_malformed parse_mark
+mark_verdict w = go (lookup marks w)
+  where
+    go : (o : M.Option listing.Mark) → result_and (ok_or (mark_found (or_malformed o)) reason.NotAForm) (Ok tt) ≡ verdict (or_malformed o)
+    go none = refl
+    go (some t) = refl
 
 -- two words are refused by the lower number
 pub refusal_with : {A B C : Type 0} (f : A → B → C) (a : Parse A) (b : Parse B) → verdict (with_parse f a b) ≡ lowest (verdict a) (verdict b)

@@ -1,14 +1,15 @@
 -- The definitions' own recursions over a word are the library's. Assumes nothing.
-use Rattle.std.specs.Prelude.{ℕ, suc, ◌+◌, ◌≡◌, refl, List, [], ◌∷◌, Bool, true, false, ◌&&◌, cond, eqb, ltb, length, Some, None}
+use Rattle.std.specs.Prelude.{ℕ, suc, ◌+◌, ◌≡◌, refl, List, [], ◌∷◌, Bool, true, false, not, ◌&&◌, cond, eqb, ltb, length, Some, None}
 use Rattle.std.proofs.lemmas.List.Recursion.{is_position_or_len}
 use Rattle.std.specs.List.{list_all, position, position_or_len}
 use Rattle.std.specs.Option.{unwrap_or}
-use Rattle.std.proofs.Common.{ap, sym, arith}
+use Rattle.std.proofs.Common.{ap, sym, ◌∙◌, ◌≤◌, arith, Option, length-take}
+use Rattle.std.proofs.lemmas.List.Folds.{length-prefix_len}
 use borrow.Author.Tests.{ltb-false}
 use lib.Pointwise.{pointwise}
 use Rattle.listings.specs.Bytes.{same, pick}
 use Rattle.listings.specs.Rows.{all}
-use Rattle.listings.specs.Scan.{index_of, index_le}
+use Rattle.listings.specs.Scan.{index_of}
 
 pub all_is : (p : ℕ → Bool) (l : List ℕ) → list_all p l ≡ all p l
 unfolding all
@@ -26,15 +27,23 @@ index_is b l = is_position_or_len (index_of b) (λ x. eqb x b) refl more l
     more : (x : ℕ) (l : List ℕ) → index_of b (x ∷ l) ≡ cond (eqb x b) 0 (1 + index_of b l)
     more x l = go (eqb x b) (index_of b l)
 
-pub find_is : (b : ℕ) (l : List ℕ) → unwrap_or (position (λ x. eqb x b) l) (length l) ≡ index_of b l
-find_is b l = go (ltb n (length l)) refl
+-- the first place that passes, or the end
+pub first_or_end : (p : ℕ → Bool) (l : List ℕ) (r : Option ℕ) → r ≡ cond (ltb (position_or_len p l) (length l)) (Some (position_or_len p l)) None
+    → (unwrap_or r (length l) ≡ position_or_len p l) × (position_or_len p l ≤ length l)
+first_or_end p l r e = (go (ltb n (length l)) refl e, in_list)
   where
     n : ℕ
-    n = position_or_len (λ x. eqb x b) l
+    n = position_or_len p l
 
-    go : (t : Bool) → ltb n (length l) ≡ t → unwrap_or (cond t (Some n) None) (length l) ≡ index_of b l
-    go true e = sym (index_is b l)
-    go false e = omega (arith, ltb-false n (length l) e, index_is b l, index_le b l)
+    in_list : n ≤ length l
+    in_list = omega (arith, length-prefix_len (λ x. not (p x)) l, length-take n l)
+
+    go : (z : Bool) → ltb n (length l) ≡ z → r ≡ cond z (Some n) None → unwrap_or r (length l) ≡ n
+    go true q f = rw f refl
+    go false q f = rw f (omega (arith, ltb-false n (length l) q, in_list))
+
+pub find_is : (b : ℕ) (l : List ℕ) → unwrap_or (position (λ x. eqb x b) l) (length l) ≡ index_of b l
+find_is b l = (first_or_end (λ x. eqb x b) l (position (λ x. eqb x b) l) refl).0 ∙ sym (index_is b l)
 
 pub same_is : (a w : List ℕ) → pointwise eqb a w ≡ same a w
 unfolding same

@@ -38,8 +38,8 @@ name_next : (w : List ℕ) (i k m : ℕ) → i < length w → k ≡ suc m → (i
 unfolding name_end
 name_next w i k m h e t = rw (e, drop-cons w i 0 h, t)
 
-pub name_on : (w : List ℕ) (i : ℕ) → i < length w → i < 8 → (is_capital (get_or w i 0) || is_digit (get_or w i 0)) ≡ true → name_end (8 - (i + 1)) (drop (i + 1) w) ≡ name_end (8 - i) (drop i w)
-name_on w i h k t = rw add-one (sym (name_next w i (8 - i) (8 - suc i) h (omega arith) t))
+pub name_on : (w : List ℕ) (i : ℕ) → i < length w → i < 7 → (is_capital (get_or w i 0) || is_digit (get_or w i 0)) ≡ true → name_end (7 - (i + 1)) (drop (i + 1) w) ≡ name_end (7 - i) (drop i w)
+name_on w i h k t = rw add-one (sym (name_next w i (7 - i) (7 - suc i) h (omega arith) t))
 
 pub name_stop : (w : List ℕ) (i k m : ℕ) → i < length w → k ≡ suc m → (is_capital (get_or w i 0) || is_digit (get_or w i 0)) ≡ false → name_end k (drop i w) ≡ is_suffix (get_or w i 0) (drop (suc i) w)
 unfolding name_end

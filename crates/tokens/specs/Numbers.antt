@@ -1,8 +1,8 @@
 -- A word as a number, as the code finds it. Assumes nothing.
-use Rattle.std.specs.Prelude.{ℕ, suc, ◌+◌, ◌*◌, ◌-◌, ◌≤◌, ◌<◌, ◌≡◌, refl, List, [], ◌∷◌, Bool, true, false, not, eqb, leb, length, get_or, drop, Option, Some, None, Result, Ok, Err}
+use Rattle.std.specs.Prelude.{ℕ, suc, ◌+◌, ◌*◌, ◌-◌, ◌≤◌, ◌<◌, ◌≡◌, refl, List, [], ◌∷◌, Bool, true, false, ◌&&◌, not, eqb, leb, ltb, length, get_or, drop, Option, Some, None, Result, Ok, Err}
 use Rattle.std.specs.Option.{ok_or}
-use Rattle.std.proofs.Common.{arith, drop-cons}
-use borrow.Author.Tests.{le-leb, lt-leb}
+use Rattle.std.proofs.Common.{arith, sym, drop-cons}
+use borrow.Author.Tests.{ne_eqb, le-leb, lt-leb, leb-true, leb-false}
 use Rattle.listings.specs.Bytes.{bytes, same, pick}
 use Rattle.listings.specs.Rows.{Parse, malformed, invalid, parsed, all, is_digit, no_leading_zero, value, parse_number}
 use Rattle.layout.specs.declared.refusals.Reason.{Reason}
@@ -14,9 +14,44 @@ as_number malformed = Err reason.NotAForm
 as_number invalid = Err reason.BadWord
 as_number (parsed n) = Ok n
 
+-- n, if it is at most m
+unfoldable pub at_most : ℕ → ℕ → Option ℕ
+at_most m n = pick (leb n m) (Some n) None
+
 -- the value of digits, if it is at most 65535
 unfoldable pub small_value : List ℕ → Option ℕ
 small_value w = pick (leb (value 0 w) 65535) (Some (value 0 w)) None
+
+-- whether a line's number is above the last one's, if there is one
+abbrev pub ascends : Option ℕ → ℕ → Bool
+ascends None n = true
+ascends (Some m) n = ltb m n
+
+-- ---- a bound
+
+pub most_none : (m n : ℕ) → m < n → at_most m n ≡ None
+unfolding at_most
+most_none m n h = rw (lt-leb n m h)
+
+pub most_some : (m n : ℕ) → n ≤ m → at_most m n ≡ Some n
+unfolding at_most
+most_some m n h = rw (le-leb n m h)
+
+pub most_lacks : (m n : ℕ) → at_most m n ≡ None → m < n
+unfolding at_most
+most_lacks m n e = go (leb n m) refl e
+  where
+    go : (t : Bool) → leb n m ≡ t → pick t (Some n) None ≡ None → m < n
+    go true p q = absurd cc
+    go false p q = leb-false n m p
+
+pub most_found : (m n v : ℕ) → at_most m n ≡ Some v → (v ≡ n) × (n ≤ m)
+unfolding at_most
+most_found m n v e = go (leb n m) refl e
+  where
+    go : (t : Bool) → leb n m ≡ t → pick t (Some n) None ≡ Some v → (v ≡ n) × (n ≤ m)
+    go true p q = (cc, leb-true n m p)
+    go false p q = absurd cc
 
 -- ---- the value
 
@@ -75,3 +110,27 @@ module _ (l : List ℕ) (digits : all is_digit l ≡ true) where
 unfoldable pub flag_of : List ℕ → Option Bool
 unfolding bytes
 flag_of w = pick (same (bytes "0") w) (Some false) (pick (same (bytes "1") w) (Some true) None)
+
+pub flag_zero : (w : List ℕ) → length w ≡ 1 → get_or w 0 0 ≡ 48 → Some false ≡ flag_of w
+unfolding bytes same flag_of
+flag_zero [] n e = absurd (omega (arith, n))
+flag_zero (b ∷ []) n e = rw e refl
+flag_zero (b ∷ c ∷ w) n e = absurd (omega (arith, n))
+
+pub flag_one : (w : List ℕ) → length w ≡ 1 → get_or w 0 0 ≡ 49 → Some true ≡ flag_of w
+unfolding bytes same flag_of
+flag_one [] n e = absurd (omega (arith, n))
+flag_one (b ∷ []) n e = rw e refl
+flag_one (b ∷ c ∷ w) n e = absurd (omega (arith, n))
+
+pub flag_none : (w : List ℕ) → (length w ≡ 1 → get_or w 0 0 ≡ 48 → ⊥) → (length w ≡ 1 → get_or w 0 0 ≡ 49 → ⊥) → None ≡ flag_of w
+unfolding bytes same flag_of
+flag_none [] h k = refl
+flag_none (b ∷ []) h k = rw (ne_eqb 48 b (λ e. h refl (sym e)), ne_eqb 49 b (λ e. k refl (sym e))) refl
+flag_none (b ∷ c ∷ w) h k = go (eqb 48 b) (eqb 49 b)
+  where
+    go : (x y : Bool) → None ≡ pick (x && false) (Some false) (pick (y && false) (Some true) None)
+    go true true = refl
+    go true false = refl
+    go false true = refl
+    go false false = refl

@@ -7,10 +7,13 @@ ghost use Rattle.tokens.specs.Arguments.{are_slots, checked, verdict, refusal_by
 use super::names::is_name;
 use super::numbers::number;
 use super::scan::{equal, first_word};
+use super::tiers::{mark_of, tier_of};
 use super::words::Kind;
 use layout::refusals::Reason;
 
 // What the words of a list are, all of them.
+// Kept: an enum, and no closure for `check_all`: it says once what a list holds, and by it words are judged here and
+// stored in `reader`, each by its own routine.
 #[derive(Clone, Copy, Debug, PartialEq, Eq)]
 pub enum Arguments {
     Numbers,
@@ -56,20 +59,14 @@ pub fn are_words(s: &[u8]) -> bool
 fn tier_refusal(w: &[u8]) -> Result<(), Reason>
     ensures { result ≡ verdict (parse_tier w.now) }
 {
-    if equal(b"static", w) || equal(b"framed", w) || equal(b"dispatched", w) {
-        return Ok(());
-    }
-    Err(Reason::NotAForm)
+    tier_of(w).ok_or(Reason::NotAForm).and(Ok(()))
 }
 
 // Any word but the two marks is no form.
 fn mark_refusal(w: &[u8]) -> Result<(), Reason>
     ensures { result ≡ verdict (parse_mark w.now) }
 {
-    if equal(b"plain", w) || equal(b"orphan", w) {
-        return Ok(());
-    }
-    Err(Reason::NotAForm)
+    mark_of(w).ok_or(Reason::NotAForm).and(Ok(()))
 }
 
 // A name is due.

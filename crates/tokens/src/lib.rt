@@ -5,4 +5,5 @@ pub mod arguments;
 pub mod names;
 pub mod numbers;
 pub mod scan;
+pub mod tiers;
 pub mod words;

@@ -1,6 +1,6 @@
 // Names and their keys.
-ghost use Rattle.std.specs.Prelude.{◌≡◌, ◌&&◌, ◌||◌, [], suc, ◌+◌, ◌-◌, ◌*◌, ◌<◌, ◌≤◌, eqb, length, get_or, drop};
-ghost use Rattle.listings.specs.Bytes.{same, pick};
+ghost use Rattle.std.specs.Prelude.{◌≡◌, ◌||◌, ◌+◌, ◌-◌, ◌*◌, ◌<◌, ◌≤◌, eqb};
+ghost use Rattle.listings.specs.Bytes.{pick};
 ghost use Rattle.listings.specs.Rows.{is_digit, is_capital, is_name, parse_name};
 ghost use Rattle.tokens.specs.Names.{as_key, kept};
 
@@ -29,24 +29,20 @@ pub fn is_suffix(b: u8) -> bool
     matches!(b, b'%' | b'$')
 }
 
-// Whether the byte at i is a suffix and the last byte.
-fn ends_name(w: &[u8], i: usize) -> bool
-    requires { i < length w.now }
-    ensures { result ≡ ((eqb (get_or w.now i 0) 37 || eqb (get_or w.now i 0) 36) && same (drop (suc i) w.now) []) }
-{
-    is_suffix(w[i]) && i + 1 == w.len()
-}
-
 // A capital, then at most seven capitals or digits, then a suffix or none.
+// Kept: a loop; tried as `position` of the first byte that is no letter: a name takes a tenth more instructions.
 pub fn is_name(w: &[u8]) -> bool
     ensures { result ≡ is_name w.now }
 {
-    if w.is_empty() || !is_capital(w[0]) {
+    let [first, rest @ ..] = w else {
+        return false;
+    };
+    if !is_capital(*first) {
         return false;
     }
-    for i in 1..w.len() {
-        if i == 8 || !is_letter(w[i]) {
-            return ends_name(w, i);
+    for (i, b) in rest.iter().enumerate() {
+        if i == 7 || !is_letter(*b) {
+            return is_suffix(*b) && i + 1 == rest.len();
         }
     }
     true
@@ -71,8 +67,10 @@ fn with_byte(a: u64, i: usize, b: u8) -> u64
     a * 64 + (u64::from(b) - 32)
 }
 
-// The key of a name that is judged whole and then cut to two characters and its kind: the bytes less 32 as digits to the base 64, the first byte lowest. No two
-// cut names have the same key.
+// The key of a name that is judged whole and then cut to two characters and its kind: the bytes less 32 as digits to
+// the base 64, the first byte lowest. No two cut names have the same key.
+// Kept: by the place; tried as `iter().enumerate().rev()`: a proof then knows what was yielded and not the place, from
+// which on the key so far is that of what the cut leaves.
 pub fn key_of(w: &[u8]) -> Result<u64, Reason>
     ensures { result ≡ as_key (parse_name w.now) }
 {

@@ -28,7 +28,8 @@ pub fn first_word(s: &[u8]) -> Option<(&[u8], &[u8])>
 }
 
 // The same bytes.
-// Kept: with `==` each call would write `.as_slice()` at its literal, and a `match` on byte texts tells a proof their lengths alone.
+// Kept: for one word, or a word of the table: with `==` each call would write `.as_slice()` at its literal. Of several
+// words a `match` on their texts tells one, as in `tiers.rt`.
 pub fn equal(a: &[u8], w: &[u8]) -> bool
     ensures { result ≡ same a.now w.now }
 {

@@ -75,33 +75,19 @@ pub fn word(k: usize) -> &'static [u8]
     row(&FORMS, k).map_or(b"", |(word, _)| word)
 }
 
-// The length of opening word k, 0 where there is no such word.
-pub fn word_length(k: usize) -> usize
-    ensures { result ≡ length (get_or words k []) }
-{
-    word(k).len()
-}
-
-// The letter j of opening word k, 0 past its end and where there is no such word.
-pub fn word_letter(k: usize, j: usize) -> u8
-    ensures { result ≡ get_or (get_or words k []) j 0 }
-{
-    word(k).get(j).copied().unwrap_or(0)
-}
-
 // The only opening word that w can be, by its first and last letters and its length.
 pub fn candidate(w: &[u8]) -> usize
     ensures { (result ≡ candidate_of w.now) × (result < 28) }
 {
-    let [first, ..] = w else {
+    let (Some(first), Some(last)) = (w.first(), w.last()) else {
         return 0;
     };
-    let first = usize::from(*first);
-    let last = usize::from(w[w.len() - 1]);
+    let (first, last) = (usize::from(*first), usize::from(*last));
     usize::from(SLOTS[(first + 23 * last + 5 * (w.len() % 8)) % 64])
 }
 
 // The number of the opening word that w is.
+// Kept: the number alone; tried with the kind beside it, by one look-up: reading a row takes a tenth more instructions.
 pub fn word_of(w: &[u8]) -> Option<usize>
     ensures { result ≡ word_found w.now }
 {

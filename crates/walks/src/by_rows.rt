@@ -5,25 +5,25 @@ ghost use Rattle.passes.specs.ByRows.{EntryByRows, EntriesByRows, ByRowsReady, B
 
 use crate::clearing::clear_returns;
 use crate::closure::{close_rows, list_row};
-use crate::readable::calls_readable;
+use crate::readable::nodes_of;
 use crate::regions::join_region;
 use crate::sets::Sets;
-use crate::spans::Calls;
+use crate::spans::{Calls, no_spans};
 use layout::limits::MAX_STMTS;
 use layout::zeroing::all_of;
-use tables::nodes::{Nodes, Records};
+use tables::nodes::Nodes;
 
 // The entry e, if it is called: its region by its closed row, listed in `work`.
-// Kept: only the list differs from regions::join_called, but a closure for it would have to take the rows, which are written meanwhile and
-// which a walk does not read.
+// Kept: only the list differs from regions::join_called, but a closure for it would have to take the rows, which are
+// written meanwhile and which a walk does not read.
 fn join_by_rows(
     g: &Nodes<'_>,
-    calls: &Calls,
+    calls: &Calls<'_>,
     e: usize,
     work: &mut [u16; MAX_STMTS],
     rows: &mut [u64],
 )
-    requires { ByRowsReady g.now.records.stmts.now g.now.falls.now g.now.links.now g.now.records.n (take calls.now.count calls.now.list) calls.now.spans rows.old × (e < g.now.records.n) }
+    requires { ByRowsReady g.now.records.stmts.now g.now.falls.now g.now.links.now g.now.records.n calls.now.list.now calls.now.spans.now rows.old × (e < g.now.records.n) }
     ensures { EntryByRows g.now.records.stmts.now g.now.falls.now g.now.links.now g.now.records.n e rows.old rows.new }
 {
     let Some(called) = calls.of_entry(e) else {
@@ -42,9 +42,15 @@ fn join_by_rows(
 }
 
 // All called entries.
-// Kept: alike with regions::join_entries is the `for` alone; a closure in place of the call would hold `work` and `rows`, which are written.
-fn join_entries_by_rows(g: &Nodes<'_>, calls: &Calls, work: &mut [u16; MAX_STMTS], rows: &mut [u64])
-    requires { ByRowsReady g.now.records.stmts.now g.now.falls.now g.now.links.now g.now.records.n (take calls.now.count calls.now.list) calls.now.spans rows.old }
+// Kept: alike with regions::join_entries is the `for` alone; a closure in place of the call would hold `work` and
+// `rows`, which are written.
+fn join_entries_by_rows(
+    g: &Nodes<'_>,
+    calls: &Calls<'_>,
+    work: &mut [u16; MAX_STMTS],
+    rows: &mut [u64],
+)
+    requires { ByRowsReady g.now.records.stmts.now g.now.falls.now g.now.links.now g.now.records.n calls.now.list.now calls.now.spans.now rows.old }
     ensures { EntriesByRows g.now.records.stmts.now g.now.falls.now g.now.links.now g.now.records.n g.now.records.n rows.old rows.new }
 {
     for e in 0..g.records.n {
@@ -53,17 +59,22 @@ fn join_entries_by_rows(g: &Nodes<'_>, calls: &Calls, work: &mut [u16; MAX_STMTS
 }
 
 // All entries of all calls: where the rows of nodes that are no RETURN are closed, the sets of RETURNs grow.
+// Kept: alike with regions::join_regions are the arrays alone, as there.
 fn join_regions_by_rows(g: &Nodes<'_>, rows: &mut [u64])
     requires { CallsRead g.now.records.stmts.now g.now.falls.now g.now.links.now g.now.records.n × (g.now.records.n * 64 ≤ length rows.old) }
     ensures { EntriesByRows g.now.records.stmts.now g.now.falls.now g.now.links.now g.now.records.n g.now.records.n rows.old rows.new }
 {
-    let calls = Calls::of(g);
+    let mut list = all_of::<u16, MAX_STMTS>(0);
+    let mut spans = no_spans();
+    let calls = Calls::among(g, &mut list, &mut spans);
     let mut work = all_of::<u16, MAX_STMTS>(0);
     join_entries_by_rows(g, &calls, &mut work, rows);
 }
 
-// A row of bits for each of n nodes says where it leads; that of a RETURN becomes its set, where it goes back to, and any other all that can be
-// reached from it. Answers whether the tables can be read; where they cannot, nothing is written.
+// A row of bits for each of n nodes says where it leads; that of a RETURN becomes its set, where it goes back to, and
+// any other all that can be reached from it. Answers whether the tables can be read; where they cannot, nothing is
+// written.
+// Kept: tables one by one, and a `bool`, as regions::region_return_edges; the reasons stand there.
 pub fn return_edges_by_rows<'a>(
     stmts: &'a [u16],
     falls: &'a [u16],
@@ -73,17 +84,11 @@ pub fn return_edges_by_rows<'a>(
 ) -> bool
     ensures { ByRowsAnswered stmts.now falls.now links.now n rows.old rows.new result }
 {
-    if calls_readable(stmts, falls, links, n, rows) {
-        let records = Records { stmts, n };
-        let nodes = Nodes {
-            records,
-            falls,
-            links,
-        };
-        clear_returns(&records, rows);
-        close_rows(rows, n);
-        join_regions_by_rows(&nodes, rows);
-        return true;
-    }
-    false
+    let Some(nodes) = nodes_of(stmts, falls, links, n, rows) else {
+        return false;
+    };
+    clear_returns(&nodes.records, rows);
+    close_rows(rows, n);
+    join_regions_by_rows(&nodes, rows);
+    true
 }

@@ -8,7 +8,8 @@ use layout::words::RETURN;
 use tables::nodes::Records;
 
 // Clears the set of node i, where that is a RETURN.
-// Kept: here and below sets with their bound in the contract: they are written, so a struct of them would hold a `&mut`.
+// Kept: here and below sets with their bound in the contract: they are written, so a struct of them would hold a
+// `&mut`.
 fn clear_set(records: &Records<'_>, i: usize, sets: &mut [u64])
     requires { (i < records.now.n) × (i * 64 + 64 ≤ length sets.old) }
     ensures { SetCleared records.now.stmts.now i sets.old sets.new }

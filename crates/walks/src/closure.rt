@@ -1,25 +1,13 @@
-// Rows of bits, 64 words a node, as sets have them: where each node leads, and, once they are closed, all that it can reach (Warshall).
+// Rows of bits, 64 words a node, as sets have them: where each node leads, and, once they are closed, all that it can
+// reach (Warshall).
 ghost use Rattle.std.specs.Prelude.{◌≡◌, ◌+◌, ◌*◌, ◌≤◌, ◌<◌, eqb, length, take};
 ghost use Rattle.passes.specs.Sets.{bit};
 ghost use Rattle.passes.specs.ReturnSets.{set_of};
 ghost use Rattle.passes.specs.Closure.{Closed, RowJoined, RowsJoined, RowReached, RowListed};
 
-use crate::sets::{Sets, insert, join, no_words, put_members, set_at, words_of};
-use layout::columns::ARG_ENTRIES;
+use crate::sets::{Sets, has_bit, insert, join, no_words, put_members, set_at, words_of};
 use layout::limits::MAX_STMTS;
 use layout::words::RETURN;
-
-// Whether row i has node j.
-#[tactic(auto, using(passes::specs::ClosureLaws::row_bit))]
-fn row_bit(rows: &[u64], i: usize, j: usize) -> bool
-    requires { (i < 4096) × (i * 64 + 64 ≤ length rows.now) × (j < 4096) }
-    ensures { result ≡ eqb (bit (set_of rows.now i) j) 1 }
-{
-    (rows[i * ARG_ENTRIES + j / 64] >> (j % 64)) % 2 == 1
-}
-
-// Kept: here and below rows with their bound in the contract: they are written, so a struct of them would hold a `&mut`; a `Sets` of them,
-// for the two that only read, would be made anew at each of n * n steps.
 
 // Row i as a set of its own, so that the rows can change meanwhile.
 #[tactic(auto, unfolding(passes::specs::ReturnSets::set_of))]
@@ -33,12 +21,13 @@ fn row_copy(rows: &[u64], i: usize) -> [u64; 64]
 }
 
 // Joins `row`, which is row k, into row i, where that has node k.
-#[tactic(auto, using(passes::specs::ClosureLaws::row_joined))]
+// Kept: here and below rows with their bound in the contract: a struct of them would hold a `&mut`, and each change
+// would have to show its bound again.
 fn close_row(rows: &mut [u64], i: usize, k: usize, row: &[u64; 64])
     requires { (i < 4096) × (i * 64 + 64 ≤ length rows.old) × (k < 4096) }
     ensures { RowJoined k row.now i rows.old rows.new }
 {
-    if row_bit(rows, i, k) {
+    if has_bit(&rows[words_of(i)], k) {
         join(&mut rows[words_of(i)], row);
     }
 }
@@ -64,8 +53,8 @@ pub(crate) fn close_rows(rows: &mut [u64], n: usize)
     }
 }
 
-// All that a walk from `from` would list: that node alone where it is a RETURN, which takes no step and whose row may hold where it returns
-// to; else with its row.
+// All that a walk from `from` would list: that node alone where it is a RETURN, which takes no step and whose row may
+// hold where it returns to; else with its row.
 fn row_region(rows: &Sets<'_>, from: usize) -> [u64; 64]
     requires { from < rows.now.records.n }
     ensures { RowReached rows.now.records.stmts.now rows.now.words.now rows.now.records.n from result }

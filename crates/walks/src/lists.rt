@@ -7,6 +7,8 @@ use layout::limits::MAX_STMTS;
 use tables::nodes::Records;
 
 // Lists those nodes that pass, ascending, and answers how many.
+// Kept: an array and how many of it are in use, here and for all that walks list: it is lent, so that one serves entry
+// after entry; an `ArrayVec` would be the same two values, of one crate more.
 // Kept: a counter, which is the answer: `.filter(..).enumerate()` counts too, but its count ends with the loop.
 pub fn list_where<F: Fn(usize) -> bool>(
     records: &Records<'_>,

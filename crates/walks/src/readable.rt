@@ -1,6 +1,7 @@
 // Whether the tables of a walk can be read, whoever wrote them; where they cannot, it is refused 25.
-ghost use Rattle.std.specs.Prelude.{◌≡◌, ◌&&◌, ◌*◌, ◌<◌, leb, length};
+ghost use Rattle.std.specs.Prelude.{◌≡◌, ◌<◌};
 ghost use Rattle.tables.specs.Readable.{every_below};
+ghost use Rattle.passes.specs.Tested.{Tested, NodesAre};
 ghost use Rattle.passes.specs.WalkTables.{sets_fit, call_readable, node_readable, calls_readable, walks_readable};
 
 use layout::columns::{ARG_ENTRIES, FALL_ENTRIES, STMT_ENTRIES};
@@ -38,24 +39,43 @@ fn node_readable(g: &Nodes<'_>, c: usize) -> bool
     !is_call(g.records.word(c)) || call_readable(g, c)
 }
 
-// All nodes whose records these are.
-fn nodes_readable<'a>(records: &Records<'a>, falls: &'a [u16], links: &'a [u16]) -> bool
-    ensures { result ≡ (leb (records.now.n * 3) (length falls.now) && (leb (records.now.n * 64) (length links.now) && every_below (node_readable records.now.stmts.now falls.now links.now records.now.n) records.now.n)) }
+// Whether the calls among all these nodes can be read.
+fn nodes_readable(g: &Nodes<'_>) -> bool
+    ensures { result ≡ every_below (node_readable g.now.records.stmts.now g.now.falls.now g.now.links.now g.now.records.n) g.now.records.n }
 {
-    let n = records.n;
-    if falls.len() < n * FALL_ENTRIES || links.len() < n * ARG_ENTRIES {
-        return false;
+    (0..g.records.n).all(|c| node_readable(g, c))
+}
+
+// n nodes, where the tables hold them, their calls can be read, and each has a set.
+// Kept: here and below tables one by one, as regions::region_return_edges; the reason stands there.
+pub fn nodes_of<'a>(
+    stmts: &'a [u16],
+    falls: &'a [u16],
+    links: &'a [u16],
+    n: usize,
+    sets: &[u64],
+) -> Option<Nodes<'a>>
+    ensures { Tested (calls_readable stmts.now falls.now links.now n sets.now) (NodesAre stmts.now falls.now links.now n) result }
+{
+    if !sets_fit(stmts, sets, n) {
+        return None;
     }
+    if falls.len() < n * FALL_ENTRIES || links.len() < n * ARG_ENTRIES {
+        return None;
+    }
+    let records = Records { stmts, n };
     let nodes = Nodes {
-        records: *records,
+        records,
         falls,
         links,
     };
-    (0..n).all(|c| node_readable(&nodes, c))
+    if !nodes_readable(&nodes) {
+        return None;
+    }
+    Some(nodes)
 }
 
 // Whether the calls among n nodes can be read, and each node has a set.
-#[tactic(auto, unfolding(passes::specs::WalkTables::calls_readable, passes::specs::WalkTables::sets_fit))]
 pub fn calls_readable<'a>(
     stmts: &'a [u16],
     falls: &'a [u16],
@@ -65,11 +85,11 @@ pub fn calls_readable<'a>(
 ) -> bool
     ensures { result ≡ calls_readable stmts.now falls.now links.now n sets.now }
 {
-    sets_fit(stmts, sets, n) && nodes_readable(&Records { stmts, n }, falls, links)
+    nodes_of(stmts, falls, links, n, sets).is_some()
 }
 
 // And the lists of the nodes.
-// Kept: takes tables whoever wrote them, so a struct with an invariant would ask more.
+// Kept: tables one by one, of whoever wrote them, as `calls_readable` takes them.
 #[tactic(auto, unfolding(passes::specs::WalkTables::walks_readable))]
 pub fn walks_readable(
     stmts: &[u16],

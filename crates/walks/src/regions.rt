@@ -1,24 +1,26 @@
-// Where RETURNs go back to without handlers: one walk for each entry that is called, and the continuations of its calls joined into
-// the set of each RETURN that the walk lists.
+// Where RETURNs go back to without handlers: one walk for each entry that is called, and the continuations of its calls
+// joined into the set of each RETURN that the walk lists.
 ghost use Rattle.std.specs.Prelude.{◌≡◌, ◌+◌, ◌*◌, ◌≤◌, ◌<◌, length, take};
 ghost use Rattle.listings.specs.Every.{All};
 ghost use Rattle.graph.specs.Lists.{each};
 ghost use Rattle.graph_laws.specs.Adding.{decode};
 ghost use Rattle.passes.specs.Regions.{back_from, CallFits, EntryCalls, SetAdded, ListedJoined, RegionJoined, RegionsJoined, SetsFound, EntriesReady};
-ghost use Rattle.passes.specs.Walk.{Stored, stored_list};
+ghost use Rattle.passes.specs.Walk.{stored_list};
 ghost use Rattle.passes.specs.WalkTables.{CallsRead, RegionsAnswered};
 
-use crate::readable::walks_readable;
+use crate::readable::nodes_of;
 use crate::return_sets::join_returns;
 use crate::sets::{insert, no_words};
-use crate::spans::Calls;
+use crate::spans::{Calls, no_spans};
 use crate::walk::Listed;
 use layout::limits::MAX_STMTS;
 use layout::zeroing::all_of;
 use tables::lists::holds;
-use tables::nodes::{Nodes, Records};
+use tables::nodes::Nodes;
+use tables::readable::lists_readable;
 
 // Inserts the node t - 1, where t is not 0.
+// Kept: the number, as `Nodes::fall` answers it: its one caller would take it apart by this same line.
 fn insert_some(set: &mut [u64; 64], t: u16)
     requires { t ≤ 4096 }
     ensures { SetAdded set.old set.new (decode t) }
@@ -48,7 +50,8 @@ fn add_backs(g: &Nodes<'_>, calls: &[u16], e: usize, backs: &mut [u64; 64])
     }
 }
 
-// For the entry e, with its calls and a list of its region: the continuations of the calls are joined into the set of each RETURN there.
+// For the entry e, with its calls and a list of its region: the continuations of the calls are joined into the set of
+// each RETURN there.
 // Kept: here and below sets with their bound in the contract, as in clearing.rt.
 pub(crate) fn join_region(g: &Nodes<'_>, calls: &[u16], e: usize, list: &[u16], sets: &mut [u64])
     requires { EntryCalls g.now.records.stmts.now g.now.falls.now g.now.links.now g.now.records.n e calls.now × (e < g.now.records.n) × (g.now.records.n * 64 ≤ length sets.old) }
@@ -62,12 +65,12 @@ pub(crate) fn join_region(g: &Nodes<'_>, calls: &[u16], e: usize, list: &[u16], 
 // The entry e, if it is called: its region by the stored lists, listed in `work`.
 fn join_called(
     w: &Listed<'_>,
-    calls: &Calls,
+    calls: &Calls<'_>,
     e: usize,
     work: &mut [u16; MAX_STMTS],
     sets: &mut [u64],
 )
-    requires { let g = w.now.nodes in EntriesReady g.records.stmts.now g.falls.now g.links.now w.now.lists.now w.now.edges.now g.records.n (take calls.now.count calls.now.list) calls.now.spans sets.old × (e < g.records.n) }
+    requires { let g = w.now.nodes in EntriesReady g.records.stmts.now g.falls.now g.links.now w.now.lists.now w.now.edges.now g.records.n calls.now.list.now calls.now.spans.now sets.old × (e < g.records.n) }
     ensures { let g = w.now.nodes in RegionJoined g.records.stmts.now g.falls.now g.links.now (stored_list w.now.lists.now w.now.edges.now) g.records.n e sets.old sets.new }
 {
     let Some(called) = calls.of_entry(e) else {
@@ -78,8 +81,9 @@ fn join_called(
 }
 
 // All called entries.
-fn join_entries(w: &Listed<'_>, calls: &Calls, work: &mut [u16; MAX_STMTS], sets: &mut [u64])
-    requires { let g = w.now.nodes in EntriesReady g.records.stmts.now g.falls.now g.links.now w.now.lists.now w.now.edges.now g.records.n (take calls.now.count calls.now.list) calls.now.spans sets.old }
+// Kept: alike with by_rows::join_entries_by_rows is the `for` alone; the reason stands there.
+fn join_entries(w: &Listed<'_>, calls: &Calls<'_>, work: &mut [u16; MAX_STMTS], sets: &mut [u64])
+    requires { let g = w.now.nodes in EntriesReady g.records.stmts.now g.falls.now g.links.now w.now.lists.now w.now.edges.now g.records.n calls.now.list.now calls.now.spans.now sets.old }
     ensures { let g = w.now.nodes in RegionsJoined g.records.stmts.now g.falls.now g.links.now (stored_list w.now.lists.now w.now.edges.now) g.records.n g.records.n sets.old sets.new }
 {
     for e in 0..w.nodes.records.n {
@@ -88,18 +92,24 @@ fn join_entries(w: &Listed<'_>, calls: &Calls, work: &mut [u16; MAX_STMTS], sets
 }
 
 // All entries of all calls.
+// Kept: two arrays, and what stands in them, are made as in by_rows::join_regions_by_rows; a `Calls` that holds them
+// had them copied where it was handed back (25 KB more of stack), and the walks that follow differ.
 fn join_regions(w: &Listed<'_>, sets: &mut [u64])
-    requires { let g = w.now.nodes in CallsRead g.records.stmts.now g.falls.now g.links.now g.records.n × Stored w.now.lists.now w.now.edges.now g.records.n (stored_list w.now.lists.now w.now.edges.now) × (g.records.n * 64 ≤ length sets.old) }
+    requires { let g = w.now.nodes in CallsRead g.records.stmts.now g.falls.now g.links.now g.records.n × (g.records.n * 64 ≤ length sets.old) }
     ensures { let g = w.now.nodes in SetsFound g.records.stmts.now g.falls.now g.links.now (stored_list w.now.lists.now w.now.edges.now) g.records.n sets.old sets.new }
 {
-    let calls = Calls::of(&w.nodes);
+    let mut list = all_of::<u16, MAX_STMTS>(0);
+    let mut spans = no_spans();
+    let calls = Calls::among(&w.nodes, &mut list, &mut spans);
     let mut work = all_of::<u16, MAX_STMTS>(0);
     join_entries(w, &calls, &mut work, sets);
 }
 
-// Where each RETURN goes back to comes into its set, 64 words in its own row of `sets`, by walks over the stored lists. Answers whether the tables
-// can be read; where they cannot, nothing is written.
-// Kept: takes tables whoever wrote them, so a struct with an invariant would ask more.
+// Where each RETURN goes back to comes into its set, 64 words in its own row of `sets`, by walks over the stored lists.
+// Answers whether the tables can be read; where they cannot, nothing is written.
+// Kept: tables one by one: `Nodes` has as its invariant what is tested here, and a plain struct would be filled from a
+// `Nodes` by the caller, one by one too.
+// Kept: a `bool`: it can be refused for one reason at one place, so that there is nothing to carry.
 pub fn region_return_edges<'a>(
     stmts: &'a [u16],
     falls: &'a [u16],
@@ -111,22 +121,17 @@ pub fn region_return_edges<'a>(
 ) -> bool
     ensures { RegionsAnswered stmts.now falls.now links.now lists.now edges.now n sets.old sets.new result }
 {
-    if walks_readable(stmts, falls, links, lists, edges, n, sets) {
-        let records = Records { stmts, n };
-        let nodes = Nodes {
-            records,
-            falls,
-            links,
-        };
-        join_regions(
-            &Listed {
-                nodes,
-                lists,
-                edges,
-            },
-            sets,
-        );
-        return true;
+    if !lists_readable(lists, edges, n) {
+        return false;
     }
-    false
+    let Some(nodes) = nodes_of(stmts, falls, links, n, sets) else {
+        return false;
+    };
+    let listed = Listed {
+        nodes,
+        lists,
+        edges,
+    };
+    join_regions(&listed, sets);
+    true
 }

@@ -17,12 +17,15 @@ fn join_return(records: &Records<'_>, i: usize, backs: &[u64; 64], sets: &mut [u
     }
 }
 
-// A region's calls return to `backs`: these are joined into the set of each RETURN of its list, and all other sets stay.
+// A region's calls return to `backs`: these are joined into the set of each RETURN of its list, and all other sets
+// stay.
 pub(crate) fn join_returns(records: &Records<'_>, list: &[u16], backs: &[u64; 64], sets: &mut [u64])
     requires { records.now.n * 64 ≤ length sets.old }
     ensures { ReturnsJoined records.now.stmts.now records.now.n list.now backs.now sets.old sets.new }
 {
+    // A copy: behind the reference it would be read anew at each turn, since the sets are written.
+    let records = *records;
     for &i in list {
-        join_return(records, usize::from(i), backs, sets);
+        join_return(&records, usize::from(i), backs, sets);
     }
 }

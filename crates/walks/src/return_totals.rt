@@ -12,7 +12,8 @@ use layout::words::RETURN;
 use tables::nodes::Records;
 
 // How many edges node i has as a RETURN: none where it is no RETURN.
-// Kept: `handlers` says what the listing has, a word of the paper and of every definition here; an enum would be taken apart at each clause.
+// Kept: `handlers` says what the listing has, a word of the paper and of every definition here; an enum would be taken
+// apart at each clause.
 #[tactic(auto, unfolding(passes::specs::ReturnTotals::return_size, tables::specs::Columns::word_of, passes::specs::ReturnSets::set_of))]
 fn return_size(handlers: bool, sets: &Sets<'_>, i: usize, targets: usize) -> usize
     requires { i < sets.now.records.n }
@@ -28,6 +29,8 @@ fn return_size(handlers: bool, sets: &Sets<'_>, i: usize, targets: usize) -> usi
 }
 
 // How many edges all RETURNs have together.
+// Kept: a loop in place of `sum`, which asks before it begins that the sizes met so far always fit, for any run of its
+// chain; a loop's invariant says it of the turn at hand.
 // Kept: `handlers`, as above.
 fn sum_returns(handlers: bool, sets: &Sets<'_>, targets: usize) -> usize
     requires { targets ≤ 4096 }
@@ -40,8 +43,9 @@ fn sum_returns(handlers: bool, sets: &Sets<'_>, targets: usize) -> usize
     sum
 }
 
-// How many edges the RETURNs among n nodes have, of which there are at most 4,096, with at most so many targets; 0 where the tables are too short.
-// Kept: 0 and no `Option`, which stood before: its caller made the tables, and knows how long they are.
+// How many edges the RETURNs among n nodes have, of which there are at most 4,096, with at most so many targets; 0
+// where the tables are too short.
+// Kept: 0 and no `Option`: that is what its promise says of such tables, and its caller made them long enough.
 // Kept: `handlers`, as above.
 #[tactic(auto, unfolding(passes::specs::ReturnTotals::return_total, passes::specs::WalkTables::sets_fit))]
 pub fn count_returns<'a>(
@@ -57,12 +61,7 @@ pub fn count_returns<'a>(
         return 0;
     }
     let records = Records { stmts, n };
-    sum_returns(
-        handlers,
-        &Sets {
-            records,
-            words: sets,
-        },
-        targets,
-    )
+    let words = sets;
+    let sets = Sets { records, words };
+    sum_returns(handlers, &sets, targets)
 }

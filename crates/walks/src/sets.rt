@@ -1,7 +1,7 @@
 // Sets of nodes, 64 words each: id i is bit i % 64 of word i / 64.
 ghost use Rattle.std.specs.Prelude.{◌≡◌, ◌+◌, ◌*◌, ◌%◌, ◌≤◌, ◌<◌, ◌^◌, eqb, length, replicate};
 ghost use Rattle.listings.specs.Bytes.{pick};
-ghost use Rattle.passes.specs.Sets.{inserted, joined, one_if, word_members, members_of, size_of, members_within, Put};
+ghost use Rattle.passes.specs.Sets.{bit, inserted, joined, one_if, word_members, members_of, size_of, members_within, Put};
 ghost use Rattle.passes.specs.ReturnSets.{set_of};
 
 use layout::columns::ARG_ENTRIES;
@@ -10,9 +10,12 @@ use std::ops::Range;
 use tables::nodes::Records;
 
 // The words of a set.
+// Kept: sets are slices of so many words, as contracts say, and no `[u64; 64]` or struct of one: they stand in rows of
+// lent tables, and `as_array` would test the length of each row once more.
 const WORDS: usize = 64;
 
-// The set of node i, of a table with one for each node; where the table ends before it has 64 words, what there is of it.
+// The set of node i, of a table with one for each node; where the table ends before it has 64 words, what there is of
+// it.
 pub fn set_at(sets: &[u64], i: usize) -> &[u64]
     ensures is_set { result.now ≡ set_of sets.now i }
     ensures whole { i * 64 + 64 ≤ length sets.now → length result.now ≡ 64 }
@@ -23,6 +26,8 @@ pub fn set_at(sets: &[u64], i: usize) -> &[u64]
 }
 
 // Where the words of node i's set stand in a table with one for each node.
+// Kept: beside `tables::nodes::words_of`, which answers for any number and so multiplies with care: here i is a node,
+// and the closure asks n * n times (by `set_at`, which multiplies so too, 4,096 ANYs took 1.95 of the instructions).
 pub(crate) fn words_of(i: usize) -> Range<usize>
     requires { i < 4096 }
     ensures { (result.start ≡ i * 64) × (result.end ≡ i * 64 + 64) }
@@ -63,6 +68,15 @@ pub fn bit(id: usize) -> u64
     1u64 << (id % 64)
 }
 
+// Whether the set has an id; it has none where its words end before it.
+#[tactic(auto, unfolding(passes::specs::Sets::bit))]
+pub fn has_bit(words: &[u64], id: usize) -> bool
+    ensures { result ≡ eqb (bit words.now id) 1 }
+{
+    let word = words.get(id / 64).copied().unwrap_or(0);
+    (word >> (id % 64)) % 2 == 1
+}
+
 // The id comes into the set, where that has a word for it.
 #[tactic(auto, unfolding(passes::specs::Sets::inserted), using(passes::specs::SetLaws::inserted_out))]
 pub fn insert(set: &mut [u64], id: usize)
@@ -75,7 +89,7 @@ pub fn insert(set: &mut [u64], id: usize)
 }
 
 // All of `more` goes into `set`.
-// Kept: by places, since no clause says what a chain over `iter_mut` leaves in the set.
+// Kept: `more` by places: of a `zip` over `iter_mut` no clause says what it leaves in the set.
 pub(crate) fn join(set: &mut [u64], more: &[u64])
     requires { length more.now ≡ length set.old }
     ensures { set.new ≡ joined set.old more.now }
@@ -107,7 +121,7 @@ pub(crate) fn count_members(set: &[u64]) -> usize
 }
 
 // How many members a set of 64 words has; 0 where it has not so many words.
-// Kept: 0 and no `Option`, here and in `members`: both stood before, and their callers know the length.
+// Kept: 0 and no `Option`, here and in `members`: that is what their promises say of such a set.
 #[tactic(auto, unfolding(passes::specs::Sets::size_of))]
 pub fn size_of(set: &[u64]) -> usize
     ensures { result ≡ size_of set.now }
@@ -151,7 +165,8 @@ pub(crate) fn put_members(set: &[u64], part: &mut [u16]) -> usize
     n
 }
 
-// The same for any set and any part: nothing is written where the set has not 64 words, or the part no room for all of them.
+// The same for any set and any part: nothing is written where the set has not 64 words, or the part no room for all of
+// them.
 #[tactic(auto, unfolding(passes::specs::Sets::members_within))]
 pub fn members(set: &[u64], part: &mut [u16]) -> usize
     ensures { Put part.old 0 part.new result (members_within set.now (length part.old)) }

@@ -1,15 +1,18 @@
-// The walk through a region, by lists of nodes: a mark for each of 4,096 statements, and a list of the marked nodes, whose end is the worklist.
-ghost use Rattle.std.specs.Prelude.{◌≡◌, false, ◌<◌, ◌≤◌, length, replicate};
-ghost use Rattle.passes.specs.Walk.{Stored, stored_list, RegionListed, Markable, ListMarked};
+// The walk through a region, by lists of nodes: a mark for each of 4,096 statements, and a list of the marked nodes,
+// whose end is the worklist.
+ghost use Rattle.std.specs.Prelude.{◌≡◌, true, false, ◌<◌, ◌≤◌, length, replicate};
+ghost use Rattle.tables.specs.Readable.{lists_readable};
+ghost use Rattle.passes.specs.Walk.{stored_list, RegionListed, Markable, ListMarked};
 
+use layout::columns::{LIST_ENTRIES, SUCC_COUNT};
 use layout::limits::MAX_STMTS;
 use layout::zeroing::all_of;
-use tables::lists::list_ends;
 use tables::nodes::Nodes;
 
-// Marks the nodes of a list, and puts those that had no mark behind the `count` nodes of `work`. A node comes there with its mark, so the
-// free marks leave room.
-// Kept: a list and how many of it, of which the rest is the room that the walk fills: what is listed is read while it grows.
+// Marks the nodes of a list, and puts those that had no mark behind the `count` nodes of `work`. A node comes there
+// with its mark, so the free marks leave room.
+// Kept: a list and how many of it, of which the rest is the room that the walk fills: what is listed is read while it
+// grows.
 pub(crate) fn mark_all(
     list: &[u16],
     marks: &mut [bool; MAX_STMTS],
@@ -44,13 +47,25 @@ pub(crate) struct Listed<'a> {
     pub nodes: Nodes<'a>,
     pub lists: &'a [u16],
     pub edges: &'a [u16],
+    pub ghost readable: { lists_readable lists.now edges.now nodes.records.n ≡ true },
 }
 
 impl<'a> Listed<'a> {
-    // Lists every node that the stored lists lead to from `from`, each once, and answers how many. The steps of the first `done` of them are
-    // marked: the others are the worklist.
+    // Node v's list. By its row and no test, which `tables::lists::list_ends` has: a walk reads it at each step.
+    fn list(&self, v: usize) -> &'a [u16]
+        requires { v < self.now.nodes.records.n }
+        ensures { result.now ≡ stored_list self.now.lists.now self.now.edges.now v }
+    {
+        let row = v * LIST_ENTRIES;
+        let start = usize::from(self.lists[row]);
+        let count = usize::from(self.lists[row + SUCC_COUNT]);
+        &self.edges[start..start + count]
+    }
+
+    // Lists every node that the stored lists lead to from `from`, each once, and answers how many. The steps of the
+    // first `done` of them are marked: the others are the worklist.
     pub(crate) fn region(&self, from: usize, work: &mut [u16; MAX_STMTS]) -> usize
-        requires { (from < self.now.nodes.records.n) × Stored self.now.lists.now self.now.edges.now self.now.nodes.records.n (stored_list self.now.lists.now self.now.edges.now) }
+        requires { from < self.now.nodes.records.n }
         ensures { RegionListed self.now.lists.now self.now.edges.now self.now.nodes.records.n from work.new result }
     {
         let mut marks = no_marks();
@@ -62,8 +77,7 @@ impl<'a> Listed<'a> {
         while done < count {
             let v = usize::from(work[done]);
             done += 1;
-            let (start, end) = list_ends(self.lists, v);
-            count = mark_all(&self.edges[start..end], &mut marks, work, count);
+            count = mark_all(self.list(v), &mut marks, work, count);
         }
         count
     }

@@ -108,11 +108,6 @@ module _ (q : Answer) (ok : ReadWithin q) (lines stmts args entries falls links 
   by_reading : (b : Answer) → read_by K N q ≡ b → built_of_answer (capacity S) q ≡ after_reading (min (length succ) (length pred)) b
   by_reading b e = ap (λ (c : Capacity). built_of_answer c q) (capacity_is S) ∙ build-read _ q ∙ ap (after_reading (min (length succ) (length pred))) e
 
-  pub rooms_fit : (K ≤ length lines) × (N * 12 ≤ length stmts) × (N * 64 ≤ length args)
-  rooms_fit =
-      let f = room_fits N (length stmts) (length args) (length falls) (length links) (length lists) (length returns) (omega arith) in
-      (min-le_left (length lines) (length entries / 2), f.in_stmts, f.in_args)
-
   module _ (c l t a e f k i r u p : List ℕ) (ze : Zeroed entries e) (zf : Zeroed falls f) (zk : Zeroed links k)
       (zi : Zeroed lists i) (zr : Zeroed returns r) (zu : Zeroed succ u) (zp : Zeroed pred p) where
     pub build-refused : (y : Refusal) → FittingRead q K N (length lines) (length stmts) (length args) c l t a (Err y)
@@ -241,11 +236,15 @@ module _ (q : Answer) (ok : ReadWithin q) (lines stmts args entries falls links 
 
 -- ---- with the rooms and the reader's answer as they come
 
-module _ (b : Answer) (ok : ReadWithin b) (lines stmts args entries falls links lists returns succ pred : List ℕ) (kl kn : ℕ) (ek : kl ≡ min (length lines) (length entries / 2))
-    (en : kn ≡ stmt_room (length stmts) (length args) (length falls) (length links) (length lists) (length returns)) where
-  pub rooms : (kl ≤ length lines) × (kn * 12 ≤ length stmts) × (kn * 64 ≤ length args)
-  rooms = rw (ek, en) (rooms_fit b ok lines stmts args entries falls links lists returns succ pred)
+pub rooms : (lines stmts args entries falls links lists returns : List ℕ) {kl kn : ℕ} → kl ≡ min (length lines) (length entries / 2)
+    → kn ≡ stmt_room (length stmts) (length args) (length falls) (length links) (length lists) (length returns)
+    → (kl ≤ length lines) × (kn * 12 ≤ length stmts) × (kn * 64 ≤ length args)
+rooms lines stmts args entries falls links lists returns {kl} {kn} ek en =
+    let f = room_fits kn (length stmts) (length args) (length falls) (length links) (length lists) (length returns) (omega (arith, en)) in
+    (omega (arith, ek, min-le_left (length lines) (length entries / 2)), f.in_stmts, f.in_args)
 
+module _ {b : Answer} (ok : ReadWithin b) (lines stmts args entries falls links lists returns succ pred : List ℕ) {kl kn : ℕ} (ek : kl ≡ min (length lines) (length entries / 2))
+    (en : kn ≡ stmt_room (length stmts) (length args) (length falls) (length links) (length lists) (length returns)) where
   module _ {c l t a e f k i r u p : List ℕ} {v : Result Accepted Refusal} (ze : Zeroed entries e × Zeroed falls f × Zeroed links k)
       (zi : Zeroed lists i × Zeroed returns r × Zeroed succ u × Zeroed pred p) (w : FittingRead b kl kn (length lines) (length stmts) (length args) c l t a v) where
     pub refused-build : (y : Refusal) → v ≡ Err y

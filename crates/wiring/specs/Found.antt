@@ -2,7 +2,7 @@
 use Rattle.std.specs.Prelude.{◌≡◌, refl, Bool, true, false, is_err, Result, Ok, Err}
 use Rattle.layout.specs.declared.refusals.Refusal.{Refusal}
 
-abbrev pub all_found : Result (Unit {0}) Refusal → Bool
+abbrev pub all_found : {E : Type 0} → Result (Unit {0}) E → Bool
 all_found (Ok u) = true
 all_found (Err r) = false
 

@@ -4,7 +4,7 @@ use Rattle.wiring.specs.declared.leads.Leads.{Leads}
 use Rattle.passes.specs.NodeList.{ListReady, ListMade}
 use Rattle.passes.specs.SkipLists as skips
 use Rattle.passes.specs.SkipLists.{SkipsReady, SkipsDone}
-use Rattle.passes.specs.FillRows.{SkipReady, SkipMade, RowReady, RowFilled, PassReady, PassFilled, FillReady, RowsFilled}
+use Rattle.passes.specs.FillRows.{SkipMade, RowReady, RowFilled, PassReady, PassFilled, FillReady, RowsFilled}
 use Rattle.passes.specs.ByRows.{ReturnsByRows}
 use Rattle.passes.specs.Preparing.{FramesMade}
 use Rattle.wiring.specs.CountGraph.{ReturnsReady, ReturnsFound, CountReady, CountedTo}
@@ -32,9 +32,6 @@ abbrev pub StoresDoneFrom : Leads → (args lists lists' scratch scratch' : List
 StoresDoneFrom g args lists lists' scratch scratch' r = SkipsDone g.nodes.records.stmts.now args g.entries.rows.now g.nodes.falls.now g.nodes.links.now g.frames.now g.dispatched.now g.entries.count g.nodes.records.n lists lists' scratch scratch' r
 
 -- ---- the rows of bits
-
-abbrev pub SkipReadyFrom : Leads → (args : List ℕ) (i m : ℕ) → Type 0
-SkipReadyFrom g args i m = SkipReady g.nodes.records.stmts.now args g.entries.rows.now g.nodes.falls.now g.nodes.links.now g.frames.now g.dispatched.now g.entries.count i m
 
 abbrev pub SkipMadeFrom : Leads → (args : List ℕ) (i : ℕ) (part part' : List ℕ) (r : ℕ) → Type 0
 SkipMadeFrom g args i part part' r = SkipMade g.nodes.records.stmts.now args g.entries.rows.now g.nodes.falls.now g.nodes.links.now g.frames.now g.dispatched.now g.entries.count i part part' r

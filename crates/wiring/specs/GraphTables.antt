@@ -1,4 +1,5 @@
--- What `build` answers and leaves in the lent tables: document 01's answer, and every entry of every table. Assumes nothing.
+-- What `build` answers and leaves in the lent tables: document 01's answer, and every entry of every table.
+-- Assumes nothing.
 -- Nothing outside opens these definitions: the laws at the end say what each is.
 use Rattle.std.specs.Prelude.{ℕ, ◌≡◌, refl, ◌&&◌, List, leb, length, replicate}
 use Rattle.listings.specs.Bytes.{pick}

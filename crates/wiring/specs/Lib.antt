@@ -9,7 +9,9 @@ pub mod BuildLaws
 pub mod GraphOf
 pub mod WrittenLaws
 pub mod BuildAnswers
+pub mod Branches
 pub mod Limits
+pub mod LineStarts
 pub mod CameBefore
 pub mod FrameWords
 pub mod Places

@@ -70,9 +70,9 @@ module _ {handlers : Bool} {c n : ℕ} {counts stmts args entries falls links fr
 
 module _ {handlers : Bool} {c n : ℕ} {counts stmts args entries falls links frames dispatched lists returns succ pred : List ℕ}
     (r : WireReady handlers c n counts stmts args entries falls links lists returns succ pred) (m : FramesMade stmts falls frames dispatched n) where
-  pub ready_count : (scratch : List ℕ) (k : ℕ) → scratch ≡ replicate k 0 → k ≡ 36864 → (buffer : List ℕ) (j : ℕ) → buffer ≡ replicate j 0 → j ≡ 4096
-      → CountReady handlers stmts args entries falls links frames dispatched c n lists scratch returns (length buffer)
-  ready_count scratch k es ek buffer j eb ej =
+  pub ready_count : (scratch : List ℕ) (k : ℕ) → scratch ≡ replicate k 0 → k ≡ 36864
+      → CountReady handlers stmts args entries falls links frames dispatched c n lists scratch returns 4096
+  ready_count scratch k es ek =
       record {
         listing = r.listing;
         handled = r.held.handlers_are;
@@ -82,5 +82,5 @@ module _ {handlers : Bool} {c n : ℕ} {counts stmts args entries falls links fr
         zero_lists = r.zero_lists;
         zero_returns = r.zero_returns;
         scratch_size = zeros_size k scratch es ∙ ek;
-        buffer_size = zeros_size j buffer eb ∙ ej;
+        buffer_size = refl;
       }

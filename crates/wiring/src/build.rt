@@ -14,10 +14,11 @@ use crate::reading::read_fitting;
 use crate::room::{line_room, stmt_room};
 use crate::wire::wire_graph;
 use layout::refusals::Refusal;
-use reader::listing::Input;
+use reader::listing::{Accepted, Input};
 use tables::nodes::Records;
 
 // What the passes before the lists write becomes zero.
+// Kept: table by table; tried over an array of `&mut`, which the borrow checker does not cover.
 fn clear_links(entries: &mut [u16], falls: &mut [u16], links: &mut [u16])
     ensures { Zeroed entries.old entries.new × Zeroed falls.old falls.new × Zeroed links.old links.new }
 {
@@ -27,7 +28,7 @@ fn clear_links(entries: &mut [u16], falls: &mut [u16], links: &mut [u16])
 }
 
 // The lists become zero.
-// Kept: tables that are written go one by one; of a struct of `&mut` a clause names what is left behind it by nested pairs.
+// Kept: table by table; tried over an array of `&mut`, which the borrow checker does not cover.
 fn clear_lists(lists: &mut [u16], returns: &mut [u16], succ: &mut [u16], pred: &mut [u16])
     ensures { Zeroed lists.old lists.new × Zeroed returns.old returns.new × Zeroed succ.old succ.new × Zeroed pred.old pred.new }
 {
@@ -38,7 +39,7 @@ fn clear_lists(lists: &mut [u16], returns: &mut [u16], succ: &mut [u16], pred: &
 }
 
 // The reader's records become zero.
-// Kept: tables that are written go one by one; of a struct of `&mut` a clause names what is left behind it by nested pairs.
+// Kept: table by table; tried over an array of `&mut`, which the borrow checker does not cover.
 fn clear_records(counts: &mut [u32; 6], lines: &mut [u16], stmts: &mut [u16], args: &mut [u64])
     ensures { (counts.new ≡ replicate 6 0) × Zeroed lines.old lines.new × Zeroed stmts.old stmts.new × Zeroed args.old args.new }
 {
@@ -49,11 +50,9 @@ fn clear_records(counts: &mut [u32; 6], lines: &mut [u16], stmts: &mut [u16], ar
 }
 
 // The graph of the listing that the reader's tables hold; all other tables are zero.
-// Kept: tables that are written go one by one; of a struct of `&mut` a clause names what is left behind it by nested pairs.
+// Kept: tables that are written go one by one: of a struct of `&mut` clauses name what is left by nested pairs.
 fn graph_of(
-    handlers: bool,
-    count: usize,
-    n: usize,
+    a: Accepted,
     counts: &mut [u32; 6],
     lines: &mut [u16],
     stmts: &mut [u16],
@@ -66,18 +65,20 @@ fn graph_of(
     succ: &mut [u16],
     pred: &mut [u16],
 ) -> Result<(), Refusal>
-    requires { GraphReady handlers count n counts.old lines.old stmts.old args.old entries.old falls.old links.old lists.old returns.old succ.old pred.old }
-    ensures { GraphMade handlers count n lines.old stmts.old args.old (sizes_of lines.old stmts.old args.old entries.old falls.old links.old lists.old returns.old succ.old pred.old) counts.new lines.new stmts.new args.new entries.new falls.new links.new lists.new returns.new succ.new pred.new (built_told result) }
+    requires { GraphReady a.handlers a.lines a.stmts counts.old lines.old stmts.old args.old entries.old falls.old links.old lists.old returns.old succ.old pred.old }
+    ensures { GraphMade a.handlers a.lines a.stmts lines.old stmts.old args.old (sizes_of lines.old stmts.old args.old entries.old falls.old links.old lists.old returns.old succ.old pred.old) counts.new lines.new stmts.new args.new entries.new falls.new links.new lists.new returns.new succ.new pred.new (built_told result) }
 {
     // that this never refuses is proved, so nothing is cleared behind it
-    prepare(lines, stmts, args, entries, falls, links, count, n)?;
+    let n = a.stmts;
     let r = Records { stmts, n };
+    prepare(r, lines, args, entries, falls, links, a.lines)?;
+    let count = a.lines;
     let w = Entries {
         rows: entries,
         count,
     };
     let wired = wire_graph(
-        &r, &w, falls, links, handlers, counts, args, lists, returns, succ, pred,
+        &r, &w, falls, links, a.handlers, counts, args, lists, returns, succ, pred,
     );
     if wired.is_err() {
         clear_records(counts, lines, stmts, args);
@@ -87,8 +88,10 @@ fn graph_of(
     wired
 }
 
-// Reads the input, a saved program or a text, and writes the graph of the listing that it means: counts (lines, statements, handlers, edges, return targets, entry rows), the reader's records, and what docs/DECISIONS.md
-// says of each other table. A refused build leaves every entry zero. Inlined, so that a program that makes the tables as zeros does not zero them twice.
+// Reads the input, a saved program or a text, and writes the graph of the listing that it means: counts (lines,
+// statements, handlers, edges, return targets, entry rows), the reader's records, and what docs/DECISIONS.md says of
+// each other table. A refused build leaves every entry zero. Inlined, so that a program that makes the tables as zeros
+// does not zero them twice.
 // Kept: the C interface lends the tables one by one.
 #[inline(always)]
 pub fn build_input(
@@ -120,8 +123,7 @@ pub fn build_input(
     clear_lists(lists, returns, succ, pred);
     let a = read_fitting(input, counts, lines, stmts, args, most_lines, most_stmts)?;
     graph_of(
-        a.handlers, a.lines, a.stmts, counts, lines, stmts, args, entries, falls, links, lists,
-        returns, succ, pred,
+        a, counts, lines, stmts, args, entries, falls, links, lists, returns, succ, pred,
     )
 }
 

@@ -1,47 +1,51 @@
 // What later nodes add to a node's list: where the closer of its frame falls, and where the ELSEs of a DOIF fall.
+// Kept: contracts ask for room (`Fits`), though `NodeList` needs none: that the ELSEs are linked in order, without
+// which `add_elses` would not end, has to be asked for all the same, and the record that says it says too what fits.
 ghost use Rattle.std.specs.Prelude.{◌≡◌, length, ◌<◌};
 ghost use Rattle.passes.specs.Closing.{ElsesFit, DoifFits, joins_word, CloserFits, ClosingReady};
 ghost use Rattle.wiring.specs.OnLists.{Fits, ElsesMade, DoifMade, CloserMade, ClosingMade};
+ghost use Rattle.wiring.specs.Places.{one_more};
 
 use crate::leads::Leads;
-use layout::columns::{CLOSER, ELSE_LINK, FALL_ENTRIES, FRAME_ENTRIES};
 use layout::words::{DOIF, ELSE, EXIT, EXITIF};
 use storing::growing::NodeList;
 
-// Adds where the ELSEs fall that are linked from the ELSE first - 1 on.
-fn add_elses(list: &mut NodeList<'_>, falls: &[u16], frames: &[u16], first: usize)
-    requires { Fits list.old × ElsesFit frames.now falls.now (length list.old.part.now) first }
-    ensures { ElsesMade falls.now frames.now first list.old list.new }
+// Adds where the ELSEs fall that are linked from the ELSE `first` on.
+// Kept: a `while let`; tried as a `for` over `std::iter::successors`: its proof has to show first that no later call of
+// the closure can fail, and nothing reads plainer.
+fn add_elses(list: &mut NodeList<'_>, g: &Leads<'_, '_>, first: Option<usize>)
+    requires { Fits list.old × ElsesFit g.now.frames.now g.now.nodes.falls.now (length list.old.part.now) (one_more first) }
+    ensures { ElsesMade g.now.nodes.falls.now g.now.frames.now (one_more first) list.old list.new }
 {
-    let mut c = first;
-    while let Some(j) = c.checked_sub(1) {
-        list.add_edge(falls[j * FALL_ENTRIES]);
-        c = usize::from(frames[j * FRAME_ENTRIES + ELSE_LINK]);
+    let mut next = first;
+    while let Some(j) = next {
+        list.add_edge(g.nodes.fall(j));
+        next = g.next_else(j);
     }
 }
 
 // A DOIF goes to where its ELSEs fall; where its DONE falls if it has none.
-fn add_doif(list: &mut NodeList<'_>, falls: &[u16], frames: &[u16], i: usize)
-    requires { Fits list.old × DoifFits falls.now frames.now (length list.old.part.now) i }
-    ensures { DoifMade falls.now frames.now i list.old list.new }
+fn add_doif(list: &mut NodeList<'_>, g: &Leads<'_, '_>, i: usize)
+    requires { Fits list.old × DoifFits g.now.nodes.falls.now g.now.frames.now (length list.old.part.now) i }
+    ensures { DoifMade g.now.nodes.falls.now g.now.frames.now i list.old list.new }
 {
-    let first = usize::from(frames[i * FRAME_ENTRIES + ELSE_LINK]);
-    if first != 0 {
-        add_elses(list, falls, frames, first);
+    let first = g.next_else(i);
+    if first.is_some() {
+        add_elses(list, g, first);
         return;
     }
-    list.add_fall(falls, frames[i * FRAME_ENTRIES + CLOSER]);
+    list.add_edge(g.fall_of(g.closer(i)));
 }
 
-// Where the closer of the frame of opener met - 1 falls, where met is not 0.
-fn add_closer(list: &mut NodeList<'_>, falls: &[u16], frames: &[u16], met: usize)
-    requires { Fits list.old × CloserFits falls.now frames.now (length list.old.part.now) met }
-    ensures { CloserMade falls.now frames.now met list.old list.new }
+// Where the closer of the frame of that opener falls, if there is one.
+fn add_closer(list: &mut NodeList<'_>, g: &Leads<'_, '_>, opener: Option<usize>)
+    requires { Fits list.old × CloserFits g.now.nodes.falls.now g.now.frames.now (length list.old.part.now) (one_more opener) }
+    ensures { CloserMade g.now.nodes.falls.now g.now.frames.now (one_more opener) list.old list.new }
 {
-    let Some(opener) = met.checked_sub(1) else {
+    let Some(o) = opener else {
         return;
     };
-    list.add_fall(falls, frames[opener * FRAME_ENTRIES + CLOSER]);
+    list.add_edge(g.fall_of(g.closer(o)));
 }
 
 // The words that go to where the closer of their frame falls.
@@ -60,11 +64,8 @@ pub(crate) fn add_closing(list: &mut NodeList<'_>, g: &Leads<'_, '_>, i: usize)
 {
     let word = g.nodes.records.word(i);
     match word {
-        DOIF => add_doif(list, g.nodes.falls, g.frames, i),
-        _ if joins_frame(word) => {
-            let met = usize::from(g.opener(i));
-            add_closer(list, g.nodes.falls, g.frames, met)
-        }
+        DOIF => add_doif(list, g, i),
+        _ if joins_frame(word) => add_closer(list, g, g.opener(i)),
         _ => {}
     }
 }

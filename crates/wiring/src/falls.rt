@@ -1,15 +1,17 @@
 // Where statements fall and where branches lead.
-ghost use Rattle.std.specs.Prelude.{◌≡◌, true, false, [], ◌∷◌, ◌+◌, ◌*◌, ◌≤◌, ◌<◌, length, IfErr};
+ghost use Rattle.std.specs.Prelude.{◌≡◌, true, false, [], ◌∷◌, ◌+◌, ◌*◌, ◌≤◌, ◌<◌, length};
 ghost use Rattle.std.proofs.lemmas.List.Edits.{sets};
-ghost use Rattle.passes.specs.Falls.{target_of, BranchLed, RowConnected, StmtConnected, BranchConnected, LinesConnected, AllLines};
+ghost use Rattle.passes.specs.Falls.{target_of, RowConnected, StmtConnected, BranchConnected, LinesConnected};
 ghost use Rattle.passes.specs.Connecting.{Begins};
 ghost use Rattle.layout.specs.Refusals.{refusal_at};
+ghost use Rattle.layout.specs.declared.refusals.Reason.TheVariants as reason;
 ghost use Rattle.wiring.specs.Found.{all_found};
+ghost use Rattle.wiring.specs.Branches.{branch_of, Led};
 
 use crate::entries::Entries;
 use layout::columns::{
-    END, ENTRY_ENTRIES, ENTRY_NODE, FALL_ENTRIES, FIRST_BRANCH, FORM1, FORM2, LINE, NO_BRANCH,
-    NUMBER1, NUMBER2, SECOND, SECOND_BRANCH, STMT_ENTRIES, TO_BRANCH,
+    ENTRY_ENTRIES, ENTRY_NODE, FALL_ENTRIES, FORM1, FORM2, NO_BRANCH, NUMBER1, NUMBER2,
+    STMT_ENTRIES, TO_BRANCH,
 };
 use layout::limits::MAX_DEPTH;
 use layout::refusals::{Reason, Refusal};
@@ -17,6 +19,36 @@ use tables::nodes::Records;
 
 // Statements nest to depth 16, and those of a line have depth 0.
 const DEPTHS: usize = MAX_DEPTH + 1;
+
+// A record does not say where inner statements are.
+#[derive(Clone, Copy, Debug, PartialEq, Eq)]
+pub(crate) struct NotFound;
+
+impl From<NotFound> for Refusal {
+    ghost from_gives = { λ _ r. r ≡ refusal_at reason.NotFound 0 };
+
+    fn from(_: NotFound) -> Refusal {
+        Reason::NotFound.at(0)
+    }
+}
+
+// What a branch of an IF holds: statements, or the number of a line.
+#[derive(Clone, Copy)]
+enum Branch {
+    Stmts,
+    To(u16),
+}
+
+// The branch, if there is one, whose form and number a record has.
+fn branch_of(form: u16, number: u16) -> Option<Branch>
+    ensures { result ≡ branch_of form number }
+{
+    match form {
+        NO_BRANCH => None,
+        TO_BRANCH => Some(Branch::To(number)),
+        _ => Some(Branch::Stmts),
+    }
+}
 
 // Where a statement falls that ends at e, in a list that ends at `end` and then comes to `next`.
 fn target_of(e: usize, end: usize, next: u16) -> u16
@@ -26,123 +58,13 @@ fn target_of(e: usize, end: usize, next: u16) -> u16
     if e < end { (e + 1) as u16 } else { next }
 }
 
-// Whether no depth is left, or the middle does not lie between the first and the last.
-fn out_of_order(depth: usize, first: usize, middle: usize, last: usize) -> bool
-    ensures { (result ≡ false → (0 < depth) × (first ≤ middle) × (middle ≤ last)) × (result ≡ true → (0 < depth) × (first ≤ middle) × (middle ≤ last) → ⊥) }
-{
-    depth == 0 || middle < first || last < middle
-}
-
-// Where a branch leads: to its line's entry, to its first statement, or, without one, to where its IF falls.
-fn branch_target(w: &Entries<'_>, form: u16, number: u16, from: usize, end: usize, next: u16) -> u16
-    requires { from < 65535 }
-    ensures { BranchLed w.now.rows.now w.now.count form number from end next result }
-{
-    match form {
-        TO_BRANCH => w.entry_of(number),
-        NO_BRANCH => next,
-        _ => target_of(from, end, next),
-    }
-}
-
 // Where statement i falls, and where its branches lead.
 fn put_falls(falls: &mut [u16], i: usize, fall: u16, first: u16, second: u16)
     requires { i * 3 + 3 ≤ length falls.old }
     ensures { falls.new ≡ sets falls.old (i * 3) (fall ∷ first ∷ second ∷ []) }
 {
-    falls[i * FALL_ENTRIES] = fall;
-    falls[i * FALL_ENTRIES + FIRST_BRANCH] = first;
-    falls[i * FALL_ENTRIES + SECOND_BRANCH] = second;
-}
-
-// The row of an IF whose second branch begins at m and that ends at `end`.
-fn connect_row(
-    w: &Entries<'_>,
-    r: &Records<'_>,
-    falls: &mut [u16],
-    i: usize,
-    m: usize,
-    end: usize,
-    next: u16,
-)
-    requires { (i < r.now.n) × (m ≤ 4096) × (i * 3 + 3 ≤ length falls.old) }
-    ensures { RowConnected w.now.rows.now w.now.count r.now.stmts.now i m end next falls.old falls.new }
-{
-    let row = i * STMT_ENTRIES;
-    let first = branch_target(
-        w,
-        r.stmts[row + FORM1],
-        r.stmts[row + NUMBER1],
-        i + 1,
-        m,
-        next,
-    );
-    let second = branch_target(
-        w,
-        r.stmts[row + FORM2],
-        r.stmts[row + NUMBER2],
-        m,
-        end,
-        next,
-    );
-    put_falls(falls, i, next, first, second);
-}
-
-// Statement i, which ends at `end`, and those in its branches fall to `next`; false if its record does not say where they are (27).
-#[cycle(connect_stmt_connect_then_branch)]
-pub(crate) fn connect_stmt(
-    w: &Entries<'_>,
-    r: &Records<'_>,
-    falls: &mut [u16],
-    depth: usize,
-    i: usize,
-    end: usize,
-    next: u16,
-) -> bool
-    requires { (i < end) × (end ≤ r.now.n) × (end * 3 ≤ length falls.old) }
-    ensures { StmtConnected w.now.rows.now w.now.count r.now.stmts.now depth i end next falls.old falls.new result }
-{
-    let row = i * STMT_ENTRIES;
-    if r.stmts[row + FORM1] == NO_BRANCH {
-        put_falls(falls, i, next, 0, 0);
-        return true;
-    }
-    let m = usize::from(r.stmts[row + SECOND]);
-    if out_of_order(depth, i + 1, m, end) {
-        return false;
-    }
-    connect_row(w, r, falls, i, m, end, next);
-    connect_then_branch(w, r, falls, depth - 1, i + 1, m, next)
-        && connect_then_branch(w, r, falls, depth - 1, m, end, next)
-}
-
-// The statements from `from` up to `end`: each falls to the one after it, the last to `next`. Kept: a `while`, since each ends where its record says.
-#[cycle(connect_stmt_connect_then_branch)]
-pub(crate) fn connect_then_branch(
-    w: &Entries<'_>,
-    r: &Records<'_>,
-    falls: &mut [u16],
-    depth: usize,
-    from: usize,
-    end: usize,
-    next: u16,
-) -> bool
-    requires { (from ≤ end) × (end ≤ r.now.n) × (end * 3 ≤ length falls.old) }
-    ensures { BranchConnected w.now.rows.now w.now.count r.now.stmts.now depth from end next falls.old falls.new result }
-{
-    let mut i = from;
-    while i < end {
-        let e = usize::from(r.stmts[i * STMT_ENTRIES + END]);
-        if out_of_order(1, i + 1, e, end) {
-            return false;
-        }
-        let target = target_of(e, end, next);
-        if !connect_stmt(w, r, falls, depth, i, e, target) {
-            return false;
-        }
-        i = e;
-    }
-    true
+    let at = i * FALL_ENTRIES;
+    falls[at..at + FALL_ENTRIES].copy_from_slice(&[fall, first, second]);
 }
 
 // Where the statements of line l begin that end at `end`, by the records: its entry may be another line's statement.
@@ -150,46 +72,115 @@ fn start_of(r: &Records<'_>, l: usize, end: usize) -> usize
     requires { end ≤ r.now.n }
     ensures { Begins r.now.stmts.now l end result }
 {
-    for i in (0..end).rev() {
-        let line = usize::from(r.stmts[i * STMT_ENTRIES + LINE]);
-        if line != l {
-            return i + 1;
-        }
-    }
-    0
+    (0..end)
+        .rev()
+        .find(|&i| r.line(i) != l)
+        .map_or(0, |i| i + 1)
 }
 
-// Each line's statements fall to the next line's entry. From the last line up, where that entry is at hand.
-fn connect_top_level(w: &Entries<'_>, r: &Records<'_>, falls: &mut [u16]) -> bool
-    requires { r.now.n * 3 ≤ length falls.old }
-    ensures { AllLines w.now.rows.now r.now.stmts.now w.now.count r.now.n falls.old falls.new result }
-{
-    let mut next: u16 = 0;
-    let mut end = r.n;
-    for l in (0..w.count).rev() {
-        let from = start_of(r, l, end);
-        if !connect_then_branch(w, r, falls, DEPTHS, from, end, next) {
-            return false;
-        }
-        next = w.rows[l * ENTRY_ENTRIES + ENTRY_NODE];
-        end = from;
-    }
-    true
+// The rows that connecting reads: line entries, and the records of their statements.
+#[derive(Clone, Copy)]
+pub(crate) struct Rows<'a, 'b> {
+    pub entries: Entries<'a>,
+    pub records: Records<'b>,
 }
 
-// Where the statements of all lines fall, and where their branches lead; refused 27 if a record does not say where statements are.
-pub(crate) fn connect_lines(
-    w: &Entries<'_>,
-    r: &Records<'_>,
-    falls: &mut [u16],
-) -> Result<(), Refusal>
-    requires { r.now.n * 3 ≤ length falls.old }
-    ensures connected { LinesConnected w.now.rows.now r.now.stmts.now w.now.count r.now.n falls.old falls.new (all_found result) }
-    ensures not_found { IfErr result (λ e. e ≡ refusal_at Reason.NotFound 0) }
-{
-    if connect_top_level(w, r, falls) {
+impl<'a, 'b> Rows<'a, 'b> {
+    // Where a branch leads: to its line's entry, to its first statement, or, without one, to where its IF falls.
+    fn branch_target(&self, branch: Option<Branch>, from: usize, end: usize, next: u16) -> u16
+        requires { from < 65535 }
+        ensures { Led self.now.entries.rows.now self.now.entries.count branch from end next result }
+    {
+        match branch {
+            None => next,
+            Some(Branch::Stmts) => target_of(from, end, next),
+            Some(Branch::To(number)) => self.entries.entry_of(number),
+        }
+    }
+
+    // The row of an IF whose second branch begins at m and that ends at `end`.
+    fn connect_row(&self, falls: &mut [u16], i: usize, m: usize, end: usize, next: u16)
+        requires { (i < self.now.records.n) × (m ≤ 4096) × (i * 3 + 3 ≤ length falls.old) }
+        ensures { RowConnected self.now.entries.rows.now self.now.entries.count self.now.records.stmts.now i m end next falls.old falls.new }
+    {
+        let stmts = self.records.stmts;
+        let row = i * STMT_ENTRIES;
+        let first = branch_of(stmts[row + FORM1], stmts[row + NUMBER1]);
+        let second = branch_of(stmts[row + FORM2], stmts[row + NUMBER2]);
+        let first_leads = self.branch_target(first, i + 1, m, next);
+        let second_leads = self.branch_target(second, m, end, next);
+        put_falls(falls, i, next, first_leads, second_leads);
+    }
+
+    // Statement i, which ends at `end`, and those in its branches fall to `next`.
+    #[cycle(connect_stmt_connect_then_branch)]
+    fn connect_stmt(
+        &self,
+        falls: &mut [u16],
+        depth: usize,
+        i: usize,
+        end: usize,
+        next: u16,
+    ) -> Result<(), NotFound>
+        requires { (i < end) × (end ≤ self.now.records.n) × (end * 3 ≤ length falls.old) }
+        ensures { StmtConnected self.now.entries.rows.now self.now.entries.count self.now.records.stmts.now depth i end next falls.old falls.new (all_found result) }
+    {
+        let row = i * STMT_ENTRIES;
+        if self.records.stmts[row + FORM1] == NO_BRANCH {
+            put_falls(falls, i, next, 0, 0);
+            return Ok(());
+        }
+        let m = self.records.second(i);
+        let inner = depth.checked_sub(1).ok_or(NotFound)?;
+        if !(i + 1..=end).contains(&m) {
+            return Err(NotFound);
+        }
+        self.connect_row(falls, i, m, end, next);
+        self.connect_then_branch(falls, inner, i + 1, m, next)?;
+        self.connect_then_branch(falls, inner, m, end, next)
+    }
+
+    // The statements from `from` up to `end`: each falls to the one after it, the last to `next`.
+    // Kept: a `while`, since each ends where its record says.
+    #[cycle(connect_stmt_connect_then_branch)]
+    fn connect_then_branch(
+        &self,
+        falls: &mut [u16],
+        depth: usize,
+        from: usize,
+        end: usize,
+        next: u16,
+    ) -> Result<(), NotFound>
+        requires { (from ≤ end) × (end ≤ self.now.records.n) × (end * 3 ≤ length falls.old) }
+        ensures { BranchConnected self.now.entries.rows.now self.now.entries.count self.now.records.stmts.now depth from end next falls.old falls.new (all_found result) }
+    {
+        let mut i = from;
+        while i < end {
+            let e = self.records.end(i);
+            if !(i + 1..=end).contains(&e) {
+                return Err(NotFound);
+            }
+            let target = target_of(e, end, next);
+            self.connect_stmt(falls, depth, i, e, target)?;
+            i = e;
+        }
         Ok(())
-    } else {
-        Err(Reason::NotFound.at(0))
+    }
+
+    // Where the statements of all lines fall, and where their branches lead.
+    // Each line's statements fall to the next line's entry. From the last line up, where that entry is at hand.
+    pub fn connect_lines(&self, falls: &mut [u16]) -> Result<(), NotFound>
+        requires { self.now.records.n * 3 ≤ length falls.old }
+        ensures { LinesConnected self.now.entries.rows.now self.now.records.stmts.now self.now.entries.count self.now.records.n falls.old falls.new (all_found result) }
+    {
+        let mut next: u16 = 0;
+        let mut end = self.records.n;
+        for l in (0..self.entries.count).rev() {
+            let from = start_of(&self.records, l, end);
+            self.connect_then_branch(falls, DEPTHS, from, end, next)?;
+            next = self.entries.rows[l * ENTRY_ENTRIES + ENTRY_NODE];
+            end = from;
+        }
+        Ok(())
     }
 }

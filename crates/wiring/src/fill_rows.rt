@@ -4,14 +4,14 @@ ghost use Rattle.graph_laws.specs.EdgeBounds.{Ids};
 ghost use Rattle.passes.specs.Closure.{RowIs};
 ghost use Rattle.passes.specs.FillRows.{in_pass};
 ghost use Rattle.wiring.specs.Passes.{are_nexts};
-ghost use Rattle.wiring.specs.FromLeads.{FillReadyFrom, PassFilledFrom, PassReadyFrom, RowFilledFrom, RowReadyFrom, RowsFilledFrom, SkipMadeFrom, SkipReadyFrom};
+ghost use Rattle.wiring.specs.FromLeads.{FillReadyFrom, PassFilledFrom, PassReadyFrom, RowFilledFrom, RowReadyFrom, RowsFilledFrom};
 
 use crate::leads::Leads;
 use crate::list_of::list_of;
-use crate::skip_lists::put_fall;
+use crate::skip_lists::skip_list;
 use layout::columns::ARG_ENTRIES;
-use layout::words::{NEXT, RETURN};
-use tables::calls::is_call;
+use layout::limits::MAX_STMTS;
+use layout::words::NEXT;
 use walks::sets::insert;
 
 // The nodes of a list, and no others, as a row.
@@ -25,22 +25,9 @@ fn put_set(row: &mut [u64], list: &[u16])
     }
 }
 
-// Where a skipping path steps from node i: from a call where it falls, from a RETURN nowhere, else to its list.
-// Kept: a part and how many, as `list_of` answers.
-fn skip_list(g: &Leads<'_, '_>, args: &[u64], i: usize, part: &mut [u16]) -> usize
-    requires in_bounds { i < g.now.nodes.records.n }
-    requires ready { SkipReadyFrom g.now args.now i (length part.old) }
-    ensures { SkipMadeFrom g.now args.now i part.old part.new result }
-{
-    let word = g.nodes.records.word(i);
-    match word {
-        RETURN => 0,
-        _ if is_call(word) => put_fall(g, i, part),
-        _ => list_of(g, args, i, part),
-    }
-}
-
 // NEXTs are in one pass, all other nodes in the other.
+// Kept: an enum and no closure: clauses of three functions say which pass it is (`are_nexts`); a closure's would have
+// to hold for each test that answers as it does.
 #[derive(Clone, Copy, Debug, PartialEq, Eq)]
 pub(crate) enum Pass {
     Nexts,
@@ -58,23 +45,24 @@ fn in_pass(pass: Pass, word: u16) -> bool
 }
 
 // Row i becomes the set of its skip list, in the pass that it belongs to.
-fn fill_row(g: &Leads<'_, '_>, args: &mut [u64], i: usize, pass: Pass, part: &mut [u16])
+fn fill_row(g: &Leads<'_, '_>, args: &mut [u64], i: usize, pass: Pass, part: &mut [u16; MAX_STMTS])
     requires in_bounds { i < g.now.nodes.records.n }
-    requires ready { RowReadyFrom g.now args.old i (are_nexts pass) (length part.old) }
+    requires ready { RowReadyFrom g.now args.old i (are_nexts pass) 4096 }
     ensures { RowFilledFrom g.now args.old i (are_nexts pass) args.new }
 {
     if !in_pass(pass, g.nodes.records.word(i)) {
         return;
     }
-    let count = skip_list(g, args, i, part);
+    let count = list_of(g, args, i, part);
+    let kept = skip_list(g, i, part, count);
     let start = i * ARG_ENTRIES;
-    let end = start + 64;
-    put_set(&mut args[start..end], &part[..count]);
+    let end = start + ARG_ENTRIES;
+    put_set(&mut args[start..end], &part[..kept]);
 }
 
 // All rows of one pass: those of the NEXTs, or all others.
-fn fill_pass(g: &Leads<'_, '_>, args: &mut [u64], pass: Pass, part: &mut [u16])
-    requires { PassReadyFrom g.now args.old (are_nexts pass) (length part.old) }
+fn fill_pass(g: &Leads<'_, '_>, args: &mut [u64], pass: Pass, part: &mut [u16; MAX_STMTS])
+    requires { PassReadyFrom g.now args.old (are_nexts pass) 4096 }
     ensures { PassFilledFrom g.now args.old (are_nexts pass) g.now.nodes.records.n args.new }
 {
     for i in 0..g.nodes.records.n {
@@ -83,8 +71,8 @@ fn fill_pass(g: &Leads<'_, '_>, args: &mut [u64], pass: Pass, part: &mut [u16])
 }
 
 // The NEXTs come first: their lists read their own arguments and the names of FORs.
-pub(crate) fn fill_rows(g: &Leads<'_, '_>, args: &mut [u64], part: &mut [u16])
-    requires { FillReadyFrom g.now args.old (length part.old) }
+pub(crate) fn fill_rows(g: &Leads<'_, '_>, args: &mut [u64], part: &mut [u16; MAX_STMTS])
+    requires { FillReadyFrom g.now args.old 4096 }
     ensures { RowsFilledFrom g.now args.old args.new }
 {
     fill_pass(g, args, Pass::Nexts, part);

@@ -33,6 +33,7 @@ fn note_of(key: u64) -> usize
 }
 
 // The newest open FOR whose name has the key v; top is the newest of all.
+// Kept: a `while let`: `find` asks that what it walks ends, and by std's laws `std::iter::successors` never does.
 fn seek(args: &[u64], s: &FrameStack, top: Option<usize>, v: u64) -> Option<usize>
     requires holds_below { HoldsBelow s.now.words (length args.now / 64) }
     requires top_value { one_more top ≡ top_mark s.now.words }
@@ -69,6 +70,7 @@ fn moves_fors(word: u16) -> bool
 }
 
 // The open FORs, whose keys are in the arguments, and the notes, in which each of these keys is.
+// Kept: `args` is a field, though no method changes it (`same_args`): the fact `noted` is about it.
 #[derive(Drop)]
 struct Fors<'a> {
     pub args: &'a [u64],
@@ -116,7 +118,9 @@ impl<'a> Fors<'a> {
         }
     }
 
-    // The slots of NEXT i in order; row gets what each pops: one more than the FOR, or 0. With no FOR open the slots that are left pop nothing.
+    // The slots of NEXT i in order; row gets what each pops: one more than the FOR, or 0. With no FOR open the slots
+    // that are left pop nothing.
+    // Kept: the row by places: where no FOR is open, the rest of it is filled from a place on.
     fn pop_slots(&mut self, keys: &[u64], i: usize, row: &mut [u16])
         requires i_bound { (i < 4096) × (i * 64 ≤ length self.old.args.now) × (length keys.now ≡ length row.old) }
         requires holds_below { HoldsBelow self.old.stack.words i }
@@ -124,12 +128,12 @@ impl<'a> Fors<'a> {
         ensures slots_popped { SlotsPopped self.old.args.now keys.now self.old.stack.words self.new.stack.words row.new }
     {
         let mut top = self.stack.newest(i);
-        for j in 0..row.len() {
+        for (j, &key) in keys.iter().enumerate() {
             if top.is_none() {
                 fill_behind(row, j, 0);
                 return;
             }
-            let f = self.slot_frame(top, keys[j]);
+            let f = self.slot_frame(top, key);
             row[j] = number_of(f);
             if let Some(id) = f {
                 top = self.stack.below(id);

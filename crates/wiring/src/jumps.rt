@@ -4,9 +4,10 @@ ghost use Rattle.passes.specs.LineSearch.{EntryFound};
 ghost use Rattle.passes.specs.Jumps.{names_lines, jump_count, RowLinked, JumpsLinked};
 
 use crate::entries::Entries;
-use layout::columns::{ARG_ENTRIES, COUNT, STMT_ENTRIES, WORD};
+use crate::falls::Rows;
+use layout::columns::ARG_ENTRIES;
+use layout::limits::MAX_ARGS;
 use layout::words::{GOSUB, GOTO, ONGOSUB, ONGOTO, RUN};
-use tables::nodes::Records;
 
 // goto, gosub, run, ongoto and ongosub.
 #[tactic(auto, using(std::proofs::lemmas::Bool::Decides::nat_tests), unfolding(passes::specs::Jumps::names_lines))]
@@ -18,11 +19,11 @@ fn names_lines(word: u16) -> bool
 
 // How many of a statement's arguments are line numbers; more than 64 no statement has.
 #[tactic(auto, using(std::proofs::lemmas::Bool::Decides::nat_tests), unfolding(passes::specs::Jumps::jump_count))]
-fn jump_count(word: u16, count: u16) -> usize
+fn jump_count(word: u16, count: usize) -> usize
     ensures { result ≡ jump_count word count }
 {
-    if names_lines(word) && count <= 64 {
-        usize::from(count)
+    if names_lines(word) && count <= MAX_ARGS {
+        count
     } else {
         0
     }
@@ -39,6 +40,8 @@ fn entry_of_argument(w: &Entries<'_>, number: u64) -> u16
 }
 
 // One statement's row: where its first c arguments lead.
+// Kept: by index; tried by `iter_mut` and `zip`, and of what is written through these std's laws say the length alone.
+#[tactic(auto, using(passes::specs::JumpLaws::link_start))]
 fn link_row(w: &Entries<'_>, args: &[u64], links: &mut [u16], c: usize)
     requires { (c ≤ length args.now) × (c ≤ length links.old) }
     ensures { RowLinked w.now.rows.now w.now.count args.now c links.old links.new }
@@ -49,17 +52,14 @@ fn link_row(w: &Entries<'_>, args: &[u64], links: &mut [u16], c: usize)
 }
 
 // Where the line numbers of all statements lead; the row of a statement that names no lines stays as it is.
-pub(crate) fn link_jumps(w: &Entries<'_>, r: &Records<'_>, args: &[u64], links: &mut [u16])
-    requires { (r.now.n * 64 ≤ length args.now) × (r.now.n * 64 ≤ length links.old) }
-    ensures { JumpsLinked w.now.rows.now w.now.count r.now.stmts.now args.now r.now.n links.old links.new }
+pub(crate) fn link_jumps(g: &Rows<'_, '_>, args: &[u64], links: &mut [u16])
+    requires { (g.now.records.n * 64 ≤ length args.now) × (g.now.records.n * 64 ≤ length links.old) }
+    ensures { JumpsLinked g.now.entries.rows.now g.now.entries.count g.now.records.stmts.now args.now g.now.records.n links.old links.new }
 {
-    for i in 0..r.n {
-        let c = jump_count(
-            r.stmts[i * STMT_ENTRIES + WORD],
-            r.stmts[i * STMT_ENTRIES + COUNT],
-        );
+    for i in 0..g.records.n {
+        let c = jump_count(g.records.word(i), g.records.count(i));
         let at = i * ARG_ENTRIES;
         let end = at + ARG_ENTRIES;
-        link_row(w, &args[at..end], &mut links[at..end], c);
+        link_row(&g.entries, &args[at..end], &mut links[at..end], c);
     }
 }

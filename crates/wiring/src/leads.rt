@@ -1,26 +1,68 @@
 // What the passes before the lists wrote, which all that makes lists reads together.
-ghost use Rattle.std.specs.Prelude.{◌≡◌, ◌*◌, ◌≤◌, ◌<◌, length, get_or};
+ghost use Rattle.std.specs.Prelude.{◌≡◌, ◌+◌, ◌*◌, get_or};
+ghost use Rattle.graph_laws.specs.Adding.{decode};
+ghost use Rattle.passes.specs.Closing.{fall_from};
+ghost use Rattle.wiring.specs.Places.{one_more};
 
 use crate::entries::Entries;
-use layout::columns::FRAME_ENTRIES;
+use layout::columns::{CLOSER, ELSE_LINK, FRAME_ENTRIES};
+use layout::limits::MAX_STMTS;
 use tables::nodes::Nodes;
 
-// The nodes, the line entries, the frames that nodes meet, and the dispatched FORs that have a body; the last two are the wiring's own tables.
+// Three entries for each of 4,096 statements.
+pub(crate) const FRAMES: usize = MAX_STMTS * FRAME_ENTRIES;
+
+// The nodes, the line entries, the frames that nodes meet, and the dispatched FORs that have a body; the last two are
+// the wiring's own tables.
+// Kept: the frames are one table with three numbers a node: `Framed` and all that is proved of them read it so, and
+// rows of `Option`s would need a second reading beside it.
+// Kept: `args` goes beside the leads to all that reads both, since `fill_rows` writes it while it reads the leads.
 #[derive(Clone, Copy)]
 pub(crate) struct Leads<'a, 'b> {
     pub nodes: Nodes<'a>,
     pub entries: Entries<'a>,
-    pub frames: &'b [u16],
+    pub frames: &'b [u16; FRAMES],
     pub dispatched: &'b [u16],
-    pub ghost frame_rows: { nodes.records.n * 3 ≤ length frames.now },
 }
 
 impl<'a, 'b> Leads<'a, 'b> {
-    // The opener of the frame that node i closes or joins: one more than the node, or 0.
-    pub(crate) fn opener(&self, i: usize) -> u16
-        requires { i < self.now.nodes.records.n }
-        ensures { result ≡ get_or self.now.frames.now (i * 3) 0 }
+    // The node that stands in a column of node i's row of the frames, if one does.
+    fn framed(&self, i: usize, column: usize) -> Option<usize>
+        ensures { one_more result ≡ get_or self.now.frames.now (i * 3 + column) 0 }
     {
-        self.frames[i * FRAME_ENTRIES]
+        let frames = self.frames;
+        let at = i.saturating_mul(FRAME_ENTRIES).saturating_add(column);
+        usize::from(frames.get(at).copied().unwrap_or(0)).checked_sub(1)
+    }
+
+    // The opener of the frame that node i closes or joins.
+    pub(crate) fn opener(&self, i: usize) -> Option<usize>
+        ensures { one_more result ≡ get_or self.now.frames.now (i * 3) 0 }
+    {
+        self.framed(i, 0)
+    }
+
+    // The closer of the frame that node i opens.
+    pub(crate) fn closer(&self, i: usize) -> Option<usize>
+        ensures { one_more result ≡ get_or self.now.frames.now (i * 3 + 1) 0 }
+    {
+        self.framed(i, CLOSER)
+    }
+
+    // The first ELSE of the DOIF i, or the one that comes after the ELSE i.
+    pub(crate) fn next_else(&self, i: usize) -> Option<usize>
+        ensures { one_more result ≡ get_or self.now.frames.now (i * 3 + 2) 0 }
+    {
+        self.framed(i, ELSE_LINK)
+    }
+
+    // Where a node falls, if there is one: one more than the node there, or 0.
+    pub(crate) fn fall_of(&self, node: Option<usize>) -> u16
+        ensures { decode result ≡ fall_from self.now.nodes.falls.now (one_more node) }
+    {
+        match node {
+            Some(j) => self.nodes.fall(j),
+            None => 0,
+        }
     }
 }

@@ -1,13 +1,12 @@
 // A node's list, each edge once: what its statement adds, then what later nodes add, then an orphan NEXT's bodies.
-ghost use Rattle.std.specs.Prelude.{◌≡◌, ◌*◌, ◌+◌, ◌≤◌, length, take, get_or, ◌<◌};
+ghost use Rattle.std.specs.Prelude.{◌≡◌, ◌<◌, take};
 ghost use Rattle.graph.specs.Lists.{each};
 ghost use Rattle.graph_laws.specs.Adding.{decode};
 ghost use Rattle.tables.specs.EntryRows.{entry_column};
-ghost use Rattle.passes.specs.NextBodies.{PoppedRoom};
 ghost use Rattle.passes.specs.AddRoom.{RoomToAdd};
 ghost use Rattle.passes.specs.EntryOrder.{Rises, EntryRoom};
 ghost use Rattle.passes.specs.NodeList.{run_edges, next_edges, until_edges, falls_word, block_edges, own_edges, OwnRoom};
-ghost use Rattle.storing.specs.NodeLists.{Grew};
+ghost use Rattle.storing.specs.NodeLists.{AddedTo, Grew};
 ghost use Rattle.wiring.specs.FromLeads.{ListMadeFrom, ListReadyFrom};
 ghost use Rattle.wiring.specs.OnLists.{EntryMade};
 
@@ -15,14 +14,16 @@ use crate::closing::add_closing;
 use crate::entries::Entries;
 use crate::leads::Leads;
 use crate::nexts::{add_dispatched_back_edges, add_popped};
-use layout::columns::{ARG_ENTRIES, ENTRY_ENTRIES, ENTRY_NODE, FALL_ENTRIES, FIRST_BRANCH};
-use layout::words::{ANY, ELSE, ENDLOOP, EXIT, FOR, GOTO, NEXT, RUN, STOP, UNTIL};
+use layout::columns::{ENTRY_ENTRIES, ENTRY_NODE, FALL_ENTRIES, FIRST_BRANCH};
+use layout::limits::MAX_STMTS;
+use layout::words::{
+    ANY, ELSE, ENDLOOP, EXIT, GOSUB, GOTO, NEXT, ONGOSUB, ONGOTO, RETURN, RUN, STOP, UNTIL,
+};
 use storing::growing::NodeList;
 
 // Adds the first line's entry.
 fn add_first(list: &mut NodeList<'_>, w: &Entries<'_>)
-    requires { RoomToAdd list.old.part.now list.old.n (each decode (take 1 (entry_column 1 w.now.count w.now.rows.now))) }
-    ensures { Grew list.old list.new (each decode (take 1 (entry_column 1 w.now.count w.now.rows.now))) }
+    ensures { AddedTo list.old list.new (each decode (take 1 (entry_column 1 w.now.count w.now.rows.now))) }
 {
     if w.count == 0 {
         return;
@@ -49,8 +50,10 @@ fn all_line_entry_nodes(list: &mut NodeList<'_>, w: &Entries<'_>)
     ensures { Grew list.old list.new (each decode (entry_column 1 w.now.count w.now.rows.now)) }
 {
     let mut last: u16 = 0;
-    for k in 0..w.count {
-        let e = w.rows[k * ENTRY_ENTRIES + ENTRY_NODE];
+    let end = w.count * ENTRY_ENTRIES;
+    let (rows, _) = w.rows[..end].as_chunks::<ENTRY_ENTRIES>();
+    for row in rows {
+        let e = row[ENTRY_NODE];
         if e == 0 {
             return;
         }
@@ -61,42 +64,32 @@ fn all_line_entry_nodes(list: &mut NodeList<'_>, w: &Entries<'_>)
 
 // A RUN goes to its target; without a number to the first line's entry.
 fn add_run(list: &mut NodeList<'_>, g: &Leads<'_, '_>, i: usize)
-    requires i_in_bounds { (i < g.now.nodes.records.n) × (get_or g.now.nodes.records.stmts.now (i * 12 + 10) 0 ≤ 64) }
-    requires room_to_add { RoomToAdd list.old.part.now list.old.n (run_edges g.now.nodes.records.stmts.now g.now.entries.rows.now g.now.nodes.links.now g.now.entries.count i) }
-    ensures { Grew list.old list.new (run_edges g.now.nodes.records.stmts.now g.now.entries.rows.now g.now.nodes.links.now g.now.entries.count i) }
+    ensures { AddedTo list.old list.new (run_edges g.now.nodes.records.stmts.now g.now.entries.rows.now g.now.nodes.links.now g.now.entries.count i) }
 {
-    let count = g.nodes.records.count(i);
-    if count == 0 {
+    if g.nodes.records.count(i) == 0 {
         add_first(list, &g.entries);
         return;
     }
-    let at = i * ARG_ENTRIES;
-    let end = at + count;
-    list.add_targets(&g.nodes.links[at..end]);
+    list.add_targets(g.nodes.targets(i));
 }
 
 // A NEXT goes to the bodies of the FORs that it pops, then it falls.
 fn add_next(list: &mut NodeList<'_>, g: &Leads<'_, '_>, i: usize)
-    requires i_in_bounds { (i < g.now.nodes.records.n) × PoppedRoom g.now.nodes.falls.now g.now.nodes.links.now i (get_or g.now.nodes.records.stmts.now (i * 12 + 10) 0) list.old.part.now list.old.n }
-    requires room_to_add { RoomToAdd list.old.part.now list.old.n (next_edges g.now.nodes.records.stmts.now g.now.nodes.falls.now g.now.nodes.links.now i) }
-    ensures { Grew list.old list.new (next_edges g.now.nodes.records.stmts.now g.now.nodes.falls.now g.now.nodes.links.now i) }
+    ensures { AddedTo list.old list.new (next_edges g.now.nodes.records.stmts.now g.now.nodes.falls.now g.now.nodes.links.now i) }
 {
-    let count = g.nodes.records.count(i);
-    add_popped(list, g.nodes.falls, g.nodes.links, i, count);
+    add_popped(list, &g.nodes, i);
     list.add_edge(g.nodes.fall(i));
 }
 
 // An UNTIL that closes a frame goes to its body, then it falls; any other adds nothing.
 fn add_until(list: &mut NodeList<'_>, g: &Leads<'_, '_>, i: usize)
-    requires i_in_bounds { (i < g.now.nodes.records.n) × (get_or g.now.frames.now (i * 3) 0 * 3 ≤ length g.now.nodes.falls.now) }
-    requires room_to_add { RoomToAdd list.old.part.now list.old.n (until_edges g.now.nodes.falls.now g.now.frames.now i) }
-    ensures { Grew list.old list.new (until_edges g.now.nodes.falls.now g.now.frames.now i) }
+    ensures { AddedTo list.old list.new (until_edges g.now.nodes.falls.now g.now.frames.now i) }
 {
-    let met = g.opener(i);
-    if met == 0 {
+    let opener = g.opener(i);
+    if opener.is_none() {
         return;
     }
-    list.add_fall(g.nodes.falls, met);
+    list.add_edge(g.fall_of(opener));
     list.add_edge(g.nodes.fall(i));
 }
 
@@ -110,12 +103,10 @@ fn falls_on(word: u16) -> bool
 
 // The words that are no jump: an ENDLOOP goes to the body of its frame, most others fall.
 fn add_block(list: &mut NodeList<'_>, g: &Leads<'_, '_>, word: u16, i: usize)
-    requires i_in_bounds { (i < g.now.nodes.records.n) × (get_or g.now.frames.now (i * 3) 0 * 3 ≤ length g.now.nodes.falls.now) }
-    requires room_to_add { RoomToAdd list.old.part.now list.old.n (block_edges word g.now.nodes.falls.now g.now.frames.now i) }
-    ensures { Grew list.old list.new (block_edges word g.now.nodes.falls.now g.now.frames.now i) }
+    ensures { AddedTo list.old list.new (block_edges word g.now.nodes.falls.now g.now.frames.now i) }
 {
     match word {
-        ENDLOOP => list.add_fall(g.nodes.falls, g.opener(i)),
+        ENDLOOP => list.add_edge(g.fall_of(g.opener(i))),
         UNTIL => add_until(list, g, i),
         _ if falls_on(word) => list.add_edge(g.nodes.fall(i)),
         _ => {}
@@ -130,13 +121,19 @@ fn add_own(list: &mut NodeList<'_>, g: &Leads<'_, '_>, i: usize)
 {
     let word = g.nodes.records.word(i);
     match word {
+        // Kept: all words below GOTO, as `own_edges` has it of any number; of a node they are IF, IFELSE and RCOMP.
         ..GOTO => {
             let at = i * FALL_ENTRIES + FIRST_BRANCH;
             let end = at + 2;
             list.add_targets(&g.nodes.falls[at..end]);
         }
         RUN => add_run(list, g, i),
-        ..FOR => list.add_jump(g.nodes.records.stmts, g.nodes.falls, g.nodes.links, i),
+        GOTO | GOSUB | RETURN | ONGOTO | ONGOSUB => list.add_jump(
+            g.nodes.records.stmts,
+            g.nodes.falls,
+            g.nodes.links,
+            i,
+        ),
         NEXT => add_next(list, g, i),
         ANY => all_line_entry_nodes(list, &g.entries),
         _ => add_block(list, g, word, i),
@@ -144,11 +141,16 @@ fn add_own(list: &mut NodeList<'_>, g: &Leads<'_, '_>, i: usize)
 }
 
 // The list of node i, each edge once, at the front of the part; answers how long it is. A RETURN's is left empty here.
-// Kept: a part and how many. Tried: on a list that is handed in, whose count then stands in memory, `flowlist` took 4 % more instructions
-// on 1,024 lines of ANY.
-pub(crate) fn list_of(g: &Leads<'_, '_>, args: &[u64], i: usize, part: &mut [u16]) -> usize
+// Kept: a part and how many. Tried: on a list that is handed in, whose count then stands in memory, `flowlist` took 4 %
+// more instructions on 1,024 lines of ANY.
+pub(crate) fn list_of(
+    g: &Leads<'_, '_>,
+    args: &[u64],
+    i: usize,
+    part: &mut [u16; MAX_STMTS],
+) -> usize
     requires in_bounds { i < g.now.nodes.records.n }
-    requires ready { ListReadyFrom g.now args.now i (length part.old) }
+    requires ready { ListReadyFrom g.now args.now i 4096 }
     ensures { ListMadeFrom g.now args.now i part.old part.new result }
 {
     let mut list = NodeList::new(part);

@@ -1,41 +1,33 @@
-// What a NEXT's list gets of FORs: the bodies of those that it pops, and of the dispatched ones that an orphan's slots select.
+// What a NEXT's list gets of FORs: the bodies of those that it pops, and of the dispatched ones that an orphan's slots
+// select.
 ghost use Rattle.std.specs.Prelude.{◌≡◌, ◌+◌, ◌*◌, ◌≤◌, ◌<◌, length, take, get_or};
 ghost use Rattle.graph.specs.Lists.{each};
 ghost use Rattle.passes.specs.ListedNodes.{SlotsCounted};
 ghost use Rattle.passes.specs.ForLinks.{popped_by};
 ghost use Rattle.passes.specs.AddedAgain.{AllIn};
-ghost use Rattle.passes.specs.NextBodies.{body_at, link_body, selects_key, selected_body, slot_bodies, came_before, orphan_bodies, LinksRoom, PoppedRoom, SelectRoom, ForRoom};
-ghost use Rattle.storing.specs.NodeLists.{Grew};
+ghost use Rattle.passes.specs.NextBodies.{body_at, link_body, selects_key, selected_body, slot_bodies, came_before, orphan_bodies, SelectRoom, ForRoom};
+ghost use Rattle.storing.specs.NodeLists.{AddedTo, Grew};
 
 use crate::leads::Leads;
-use layout::columns::{ARG_ENTRIES, DETAIL, FALL_ENTRIES, ORPHAN, STMT_ENTRIES};
+use layout::columns::{ARG_ENTRIES, ORPHAN};
 use layout::words::NEXT;
 use storing::growing::NodeList;
+use tables::nodes::Nodes;
 
 // Adds the bodies of the FORs that a row of links names.
 fn add_links(list: &mut NodeList<'_>, falls: &[u16], row: &[u16])
-    requires { LinksRoom falls.now row.now list.old.part.now list.old.n }
-    ensures { Grew list.old list.new (each (link_body falls.now) row.now) }
+    ensures { AddedTo list.old list.new (each (link_body falls.now) row.now) }
 {
     for &t in row {
         list.add_fall(falls, t);
     }
 }
 
-// Adds the bodies of the FORs that NEXT i pops, which has so many slots.
-pub(crate) fn add_popped(
-    list: &mut NodeList<'_>,
-    falls: &[u16],
-    links: &[u16],
-    i: usize,
-    count: usize,
-)
-    requires { PoppedRoom falls.now links.now i count list.old.part.now list.old.n }
-    ensures { Grew list.old list.new (each (body_at falls.now) (popped_by links.now i count)) }
+// Adds the bodies of the FORs that NEXT i pops.
+pub(crate) fn add_popped(list: &mut NodeList<'_>, g: &Nodes<'_>, i: usize)
+    ensures { AddedTo list.old list.new (each (body_at g.now.falls.now) (popped_by g.now.links.now i (get_or g.now.records.stmts.now (i * 12 + 10) 0))) }
 {
-    let at = i * ARG_ENTRIES;
-    let end = at + count;
-    add_links(list, falls, &links[at..end]);
+    add_links(list, g.falls, g.targets(i));
 }
 
 // Whether a slot selects a FOR by its name: key 0 selects all.
@@ -47,23 +39,25 @@ fn selects(key: u64, name: u64) -> bool
 }
 
 // Adds the body of the FOR o, if the slot selects it.
-fn add_selected(list: &mut NodeList<'_>, args: &[u64], falls: &[u16], o: u16, key: u64)
-    requires { ForRoom args.now falls.now o list.old.part.now list.old.n }
-    ensures { Grew list.old list.new (selected_body args.now falls.now key o) }
+// Kept: it and those below ask for room: that the FOR's row of arguments is there has to be asked for all the same, and
+// a slot that came before adds nothing since all that it selects is in the list (`added`), which is so with room.
+fn add_selected(list: &mut NodeList<'_>, g: &Leads<'_, '_>, args: &[u64], o: u16, key: u64)
+    requires { ForRoom args.now g.now.nodes.falls.now o list.old.part.now list.old.n }
+    ensures { Grew list.old list.new (selected_body args.now g.now.nodes.falls.now key o) }
 {
     let k = usize::from(o);
     if selects(key, args[k * ARG_ENTRIES]) {
-        list.add_edge(falls[k * FALL_ENTRIES]);
+        list.add_edge(g.nodes.fall(k));
     }
 }
 
-// Adds the bodies of the FORs that one slot selects among fors.
-fn add_slot(list: &mut NodeList<'_>, args: &[u64], falls: &[u16], fors: &[u16], key: u64)
-    requires { SelectRoom args.now falls.now fors.now list.old.part.now list.old.n }
-    ensures { Grew list.old list.new (slot_bodies args.now falls.now fors.now key) }
+// Adds the bodies of the dispatched FORs that one slot selects.
+fn add_slot(list: &mut NodeList<'_>, g: &Leads<'_, '_>, args: &[u64], key: u64)
+    requires { SelectRoom args.now g.now.nodes.falls.now g.now.dispatched.now list.old.part.now list.old.n }
+    ensures { Grew list.old list.new (slot_bodies args.now g.now.nodes.falls.now g.now.dispatched.now key) }
 {
-    for &o in fors {
-        add_selected(list, args, falls, o, key);
+    for &o in g.dispatched {
+        add_selected(list, g, args, o, key);
     }
 }
 
@@ -74,33 +68,26 @@ fn came_before(keys: &[u64], key: u64) -> bool
     keys.iter().any(|k| selects(*k, key))
 }
 
-// Adds the bodies that slot k selects. Where a slot before it selects them too they are in the list already, and nothing is searched.
-fn add_new_slot(
-    list: &mut NodeList<'_>,
-    args: &[u64],
-    falls: &[u16],
-    fors: &[u16],
-    keys: &[u64],
-    k: usize,
-)
-    requires select_room { SelectRoom args.now falls.now fors.now list.old.part.now list.old.n }
-    requires k_in_bounds { (k < length keys.now) × AllIn (take list.old.n list.old.part.now) (each (slot_bodies args.now falls.now fors.now) (take k keys.now)) }
-    ensures { Grew list.old list.new (slot_bodies args.now falls.now fors.now (get_or keys.now k 0)) }
+// Adds the bodies that a slot selects. Where a slot before it selects them too they are in the list already, and
+// nothing is searched.
+fn add_new_slot(list: &mut NodeList<'_>, g: &Leads<'_, '_>, args: &[u64], before: &[u64], key: u64)
+    requires select_room { SelectRoom args.now g.now.nodes.falls.now g.now.dispatched.now list.old.part.now list.old.n }
+    requires added { AllIn (take list.old.n list.old.part.now) (each (slot_bodies args.now g.now.nodes.falls.now g.now.dispatched.now) before.now) }
+    ensures { Grew list.old list.new (slot_bodies args.now g.now.nodes.falls.now g.now.dispatched.now key) }
 {
-    let key = keys[k];
-    if came_before(&keys[..k], key) {
+    if came_before(before, key) {
         return;
     }
-    add_slot(list, args, falls, fors, key);
+    add_slot(list, g, args, key);
 }
 
 // Adds the bodies that each slot selects, slot by slot.
-fn add_slots(list: &mut NodeList<'_>, args: &[u64], falls: &[u16], fors: &[u16], keys: &[u64])
-    requires { SelectRoom args.now falls.now fors.now list.old.part.now list.old.n }
-    ensures { Grew list.old list.new (each (slot_bodies args.now falls.now fors.now) keys.now) }
+fn add_slots(list: &mut NodeList<'_>, g: &Leads<'_, '_>, args: &[u64], keys: &[u64])
+    requires { SelectRoom args.now g.now.nodes.falls.now g.now.dispatched.now list.old.part.now list.old.n }
+    ensures { Grew list.old list.new (each (slot_bodies args.now g.now.nodes.falls.now g.now.dispatched.now) keys.now) }
 {
-    for k in 0..keys.len() {
-        add_new_slot(list, args, falls, fors, keys, k);
+    for (k, &key) in keys.iter().enumerate() {
+        add_new_slot(list, g, args, &keys[..k], key);
     }
 }
 
@@ -116,12 +103,10 @@ pub(crate) fn add_dispatched_back_edges(
     requires select_room { SelectRoom args.now g.now.nodes.falls.now g.now.dispatched.now list.old.part.now list.old.n }
     ensures { Grew list.old list.new (orphan_bodies g.now.nodes.records.stmts.now args.now g.now.nodes.falls.now g.now.dispatched.now i) }
 {
-    if g.nodes.records.word(i) != NEXT
-        || g.nodes.records.stmts[i * STMT_ENTRIES + DETAIL] != ORPHAN
-    {
+    if g.nodes.records.word(i) != NEXT || g.nodes.records.detail(i) != ORPHAN {
         return;
     }
     let at = i * ARG_ENTRIES;
     let end = at + g.nodes.records.count(i);
-    add_slots(list, args, g.nodes.falls, g.dispatched, &args[at..end]);
+    add_slots(list, g, args, &args[at..end]);
 }

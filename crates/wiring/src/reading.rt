@@ -10,7 +10,7 @@ use layout::zeroing::fill_behind;
 use reader::listing::{Accepted, Input, read_input};
 
 // What stands behind the front parts becomes zero.
-// Kept: tables that are written go one by one; of a struct of `&mut` a clause names what is left behind it by nested pairs.
+// Kept: tables that are written go one by one: of a struct of `&mut` clauses name what is left by nested pairs.
 pub(crate) fn read_fitting(
     input: Input<'_>,
     counts: &mut [u32; 6],

@@ -1,8 +1,8 @@
 // The return targets: where the calls continue, in the order in which the calls stand, each once.
-ghost use Rattle.std.specs.Prelude.{◌≡◌, ◌+◌, ◌*◌, ◌≤◌, ◌<◌, length};
-ghost use Rattle.graph_laws.specs.Adding.{decode};
+ghost use Rattle.std.specs.Prelude.{◌≡◌, [], ◌∷◌, ◌+◌, ◌*◌, ◌≤◌, ◌<◌, length};
 ghost use Rattle.passes.specs.ReturnTargets.{continuation_number, FallsFit, Marking, TargetsListed};
 ghost use Rattle.wiring.specs.OnLists.{TargetsPut, TargetsMade};
+ghost use Rattle.wiring.specs.Places.{one_more};
 
 use crate::leads::Leads;
 use layout::limits::MAX_STMTS;
@@ -10,25 +10,23 @@ use storing::growing::NodeList;
 use tables::calls::is_call;
 use walks::walk::no_marks;
 
-// Where node i continues if it is a call: one more than the node, or 0.
-fn continuation(g: &Leads<'_, '_>, i: usize) -> u16
+// Where node i continues if it is a call.
+fn continuation(g: &Leads<'_, '_>, i: usize) -> Option<u16>
     requires { i < g.now.nodes.records.n }
-    ensures { result ≡ continuation_number g.now.nodes.records.stmts.now g.now.nodes.falls.now i }
+    ensures { one_more result ≡ continuation_number g.now.nodes.records.stmts.now g.now.nodes.falls.now i }
 {
     if is_call(g.nodes.records.word(i)) {
-        return g.nodes.fall(i);
+        g.nodes.fall(i).checked_sub(1)
+    } else {
+        None
     }
-    0
 }
 
-// Puts the node t - 1, where t is not 0, behind the targets, unless its mark says that it is one of them.
-fn put_target(list: &mut NodeList<'_>, t: u16, marks: &mut [bool; MAX_STMTS])
-    requires { (t ≤ 4096) × (list.old.n < length list.old.part.now) × Marking 4096 marks.old list.old.part.now list.old.n }
-    ensures { TargetsPut (decode t) marks.new list.old list.new }
+// Puts node a behind the targets, unless its mark says that it is one of them.
+fn put_target(list: &mut NodeList<'_>, a: u16, marks: &mut [bool; MAX_STMTS])
+    requires { (a < 4096) × (list.old.n < length list.old.part.now) × Marking 4096 marks.old list.old.part.now list.old.n }
+    ensures { TargetsPut (a ∷ []) marks.new list.old list.new }
 {
-    let Some(a) = t.checked_sub(1) else {
-        return;
-    };
     let x = usize::from(a);
     if marks[x] {
         return;
@@ -46,12 +44,15 @@ fn put_targets(list: &mut NodeList<'_>, g: &Leads<'_, '_>, marks: &mut [bool; MA
     ensures { TargetsMade g.now list.old list.new }
 {
     for i in 0..g.nodes.records.n {
-        let t = continuation(g, i);
-        put_target(list, t, marks);
+        let Some(a) = continuation(g, i) else {
+            continue;
+        };
+        put_target(list, a, marks);
     }
 }
 
 // Writes the return targets of all nodes and answers how many; the rest of the table stays.
+// Kept: a part and how many, as `list_of` answers.
 pub(crate) fn list_return_targets(g: &Leads<'_, '_>, returns: &mut [u16]) -> usize
     requires n_bound { g.now.nodes.records.n ≤ length returns.old }
     requires falls_fit { FallsFit g.now.nodes.falls.now g.now.nodes.records.n }

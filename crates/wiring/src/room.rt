@@ -12,6 +12,7 @@ pub(crate) fn line_room(lines: usize, entries: usize) -> usize
 }
 
 // How many statements the tables hold that have entries for each statement, by their lengths.
+// Kept: six numbers, for one call; a struct of them would be made there and taken apart here.
 #[tactic(auto, unfolding(passes::specs::Room::stmt_room))]
 pub(crate) fn stmt_room(
     stmts: usize,

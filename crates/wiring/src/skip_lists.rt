@@ -1,15 +1,17 @@
 // The lists that skipping paths follow, stored for the walks through regions.
 ghost use Rattle.std.specs.Prelude.{◌*◌, ◌≤◌, ◌<◌, length, take};
-ghost use Rattle.tables.specs.Columns.{fall_entry};
 ghost use Rattle.passes.specs.NodeList.{ListIs};
 ghost use Rattle.passes.specs.SkipLists.{skip_list};
 ghost use Rattle.wiring.specs.FromLeads.{StoreDoneFrom, StoreReadyFrom, StoresDoneFrom, StoresReadyFrom};
 
 use crate::leads::Leads;
 use crate::list_of::list_of;
-use layout::limits::MAX_EDGES;
+use layout::limits::{MAX_EDGES, MAX_STMTS};
 use storing::store::append_list;
 use tables::calls::is_call;
+
+// Room for as many edges as a graph may have and one more for each call, whose continuation need not be among them.
+pub(crate) const SCRATCH: usize = MAX_EDGES + MAX_STMTS;
 
 // How many edges the nodes so far have, and how many entries of the scratch table are used.
 #[derive(Drop)]
@@ -18,40 +20,40 @@ struct Edges {
     at: usize,
 }
 
-// Where node i falls goes to the front of the part.
-// Kept: a part and how many, as `list_of` answers.
-pub(crate) fn put_fall(g: &Leads<'_, '_>, i: usize, part: &mut [u16]) -> usize
-    requires { (i < g.now.nodes.records.n) × (0 < length part.old) }
-    ensures { ListIs (fall_entry g.now.nodes.falls.now i) part.old part.new result }
+// From node i's list, the first count entries of the buffer, to what skipping paths follow: from a call only where it
+// falls. Answers how many nodes that are.
+// Kept: a part and how many, as `list_of` answers, whose list this one takes the place of.
+pub(crate) fn skip_list(
+    g: &Leads<'_, '_>,
+    i: usize,
+    buffer: &mut [u16; MAX_STMTS],
+    count: usize,
+) -> usize
+    requires { count ≤ 4096 }
+    ensures { ListIs (skip_list g.now.nodes.records.stmts.now g.now.nodes.falls.now i (take count buffer.old)) buffer.old buffer.new result }
 {
+    if !is_call(g.nodes.records.word(i)) {
+        return count;
+    }
     let Some(node) = g.nodes.fall(i).checked_sub(1) else {
         return 0;
     };
-    part[0] = node;
+    buffer[0] = node;
     1
 }
 
-// From node i's list, the first count entries of the buffer, to what skipping paths follow: from a call only where it falls.
-// Kept: a part and how many, as above.
-fn skip_list(g: &Leads<'_, '_>, i: usize, buffer: &mut [u16], count: usize) -> usize
-    requires { (i < g.now.nodes.records.n) × (count ≤ length buffer.old) × (0 < length buffer.old) }
-    ensures { ListIs (skip_list g.now.nodes.records.stmts.now g.now.nodes.falls.now i (take count buffer.old)) buffer.old buffer.new result }
-{
-    if is_call(g.nodes.records.word(i)) {
-        return put_fall(g, i, buffer);
-    }
-    count
-}
-
-// Node i: its edges are counted, and while all are few, what skipping paths follow from it goes behind the lists stored before.
+// Node i: its edges are counted, and while all are few, what skipping paths follow from it goes behind the lists stored
+// before.
+// Kept: tables that are written go one by one; of a struct of `&mut` a clause names what is left behind it by nested
+// pairs.
 fn store_skip_list(
     g: &Leads<'_, '_>,
     args: &[u64],
     i: usize,
     e: Edges,
     lists: &mut [u16],
-    scratch: &mut [u16],
-    buffer: &mut [u16],
+    scratch: &mut [u16; SCRATCH],
+    buffer: &mut [u16; MAX_STMTS],
 ) -> Edges
     requires in_bounds { i < g.now.nodes.records.n }
     requires ready { StoreReadyFrom g.now args.now i e.total e.at lists.old scratch.old buffer.old }
@@ -67,14 +69,14 @@ fn store_skip_list(
     Edges { total, at }
 }
 
-// The lists that skipping paths follow go into a scratch table, as long as all lists together are few; answers how many edges all
-// nodes that are no RETURNs have.
+// The lists that skipping paths follow go into a scratch table, as long as all lists together are few; answers how many
+// edges all nodes that are no RETURNs have.
 pub(crate) fn store_skip_lists(
     g: &Leads<'_, '_>,
     args: &[u64],
     lists: &mut [u16],
-    scratch: &mut [u16],
-    buffer: &mut [u16],
+    scratch: &mut [u16; SCRATCH],
+    buffer: &mut [u16; MAX_STMTS],
 ) -> usize
     requires { StoresReadyFrom g.now args.now lists.old scratch.old buffer.old }
     ensures { StoresDoneFrom g.now args.now lists.old lists.new scratch.old scratch.new result }

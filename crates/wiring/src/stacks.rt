@@ -1,4 +1,5 @@
-// A stack of frames by value. The openers of the frames ascend, so that a stack is a set of marks and its top the highest mark.
+// A stack of frames by value. The openers of the frames ascend, so that a stack is a set of marks and its top the
+// highest mark.
 ghost use Rattle.std.specs.Prelude.{◌≡◌, ◌≤◌, ◌<◌, length};
 ghost use Rattle.passes.specs.FrameStacks.{no_frames, pushed, highest_mark, top_mark, popped, under, HoldsBelow, Room};
 ghost use Rattle.wiring.specs.Places.{one_more};
@@ -8,7 +9,9 @@ use walks::sets::{bit, no_words};
 
 // The frame of opener i is bit i % 64 of word i / 64.
 // Kept: push and pop hand the changed stack back, a form that the project asks for.
-// Kept: contracts ask that all openers are below the node at hand (`HoldsBelow`): it ties the stack to an argument. Tried as a ghost field: the check sees no proposition in it, and behind `∥ ∥₁` each proof that reads it would have to open it.
+// Kept: contracts ask that all openers are below the node at hand (`HoldsBelow`): it ties the stack to an argument.
+// Tried as a ghost field: the check sees no proposition in it, and behind `∥ ∥₁` each proof that reads it would have to
+// open it.
 #[derive(Clone, Copy)]
 pub(crate) struct FrameStack {
     pub(crate) words: [u64; 64],
@@ -26,13 +29,12 @@ pub(crate) fn number_of(frame: Option<usize>) -> u16
     requires { one_more frame ≤ 4096 }
     ensures { result ≡ one_more frame }
 {
-    match frame {
-        Some(id) => (id + 1) as u16,
-        None => 0,
-    }
+    frame.map_or(0, |id| (id + 1) as u16)
 }
 
 // The highest mark in the first n words.
+// Kept: a `for` with a way out: std has no lemma of `find_map`, so a chain would need one of its own to be led to the
+// marks.
 fn highest(words: &[u64; 64], n: usize) -> Option<usize>
     requires { n ≤ 64 }
     ensures { one_more result ≡ highest_mark words.now n }

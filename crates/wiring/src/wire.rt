@@ -1,5 +1,4 @@
 // Frames and dispatched FORs; then the lists of the nodes: counted, and written where they fit.
-ghost use Rattle.std.specs.Prelude.{length};
 ghost use Rattle.wiring.specs.Wiring.{WireReady, WiredTo};
 ghost use Rattle.wiring.specs.FromLeads.{CountReadyFrom, CountedFrom, FramesIn, ReturnsFoundFrom, ReturnsReadyFrom};
 
@@ -7,10 +6,9 @@ use crate::by_rows::return_edges_by_filled_rows;
 use crate::entries::Entries;
 use crate::fors::list_dispatched;
 use crate::frames::stack_frames;
-use crate::leads::Leads;
+use crate::leads::{FRAMES, Leads};
 use crate::return_targets::list_return_targets;
-use crate::skip_lists::store_skip_lists;
-use layout::columns::FRAME_ENTRIES;
+use crate::skip_lists::{SCRATCH, store_skip_lists};
 use layout::limits::{MAX_EDGES, MAX_STMTS};
 use layout::refusals::{Reason, Refusal};
 use layout::zeroing::all_of;
@@ -27,25 +25,20 @@ struct Counted {
     targets: usize,
 }
 
-// Room for as many edges as a graph may have and one more for each call, whose continuation need not be among them.
-const SCRATCH: usize = MAX_EDGES + MAX_STMTS;
-
-// Three entries for each of 4,096 statements.
-const FRAMES: usize = MAX_STMTS * FRAME_ENTRIES;
-
-// Without handlers, the set of each RETURN goes into its row of arguments: by walks over the stored lists, or where these are too long, by
-// rows of bits. All other nodes have `own` edges.
-// Kept: `handlers` says what the listing has, a word of the paper and of every definition here; an enum would be taken apart at each clause.
+// Without handlers, the set of each RETURN goes into its row of arguments: by walks over the stored lists, or where
+// these are too long, by rows of bits. All other nodes have `own` edges.
+// Kept: `handlers` says what the listing has, a word of the paper and of every definition here; an enum would be taken
+// apart at each clause.
 fn find_returns(
     g: &Leads<'_, '_>,
     handlers: bool,
     own: usize,
     args: &mut [u64],
     lists: &[u16],
-    scratch: &[u16],
-    buffer: &mut [u16],
+    scratch: &[u16; SCRATCH],
+    buffer: &mut [u16; MAX_STMTS],
 )
-    requires { ReturnsReadyFrom g.now own args.old lists.now scratch.now (length buffer.old) }
+    requires { ReturnsReadyFrom g.now own args.old lists.now scratch.now 4096 }
     ensures { ReturnsFoundFrom g.now handlers own args.old lists.now scratch.now args.new }
 {
     if handlers {
@@ -73,11 +66,11 @@ fn count_graph(
     handlers: bool,
     args: &mut [u64],
     lists: &mut [u16],
-    scratch: &mut [u16],
+    scratch: &mut [u16; SCRATCH],
     returns: &mut [u16],
-    buffer: &mut [u16],
+    buffer: &mut [u16; MAX_STMTS],
 ) -> Counted
-    requires { CountReadyFrom g.now handlers args.old lists.old scratch.old returns.old (length buffer.old) }
+    requires { CountReadyFrom g.now handlers args.old lists.old scratch.old returns.old 4096 }
     ensures { CountedFrom g.now handlers args.old args.new lists.new scratch.new returns.new result.edges result.targets }
 {
     let own = store_skip_lists(g, args, lists, scratch, buffer);
@@ -97,7 +90,8 @@ fn count_graph(
 }
 
 // The lists of all nodes. The tables are a listing's and the edges are counted before, so writing is never refused.
-// Kept: tables that are written go one by one; of a struct of `&mut` a clause names what is left behind it by nested pairs.
+// Kept: tables that are written go one by one; of a struct of `&mut` a clause names what is left behind it by nested
+// pairs.
 fn wire_lists(
     g: &Leads<'_, '_>,
     handlers: bool,
@@ -139,7 +133,7 @@ fn wire_lists(
 }
 
 // The lists of all nodes. Their frames and dispatched FORs are in arrays of its own, since nothing else reads them.
-// Kept: tables that are written go one by one; of a struct of `&mut` a clause names what is left behind it by nested pairs.
+// Kept: tables that are written go one by one, as above.
 pub(crate) fn wire_graph<'a>(
     r: &Records<'a>,
     w: &Entries<'a>,

@@ -4,14 +4,14 @@ use Rattle.adjacency.specs.EntryAtLaws.{rows-outside, entered_nowhere, entry_out
 use Rattle.adjacency.proofs.entry.ask_entry.Goals as goal
 
 pub returns-then-entries-n : goal.returns-then-entries-n
-returns-then-entries-n c = rw c.at.ensures (rows-outside _ _ _ _ c.count_of-n.ensures.0 c.if-entries-n.true)
+returns-then-entries-n c = rw c.at.ensures (rows-outside _ _ _ _ c.rows-n.ensures.0 c.if-entries-n.true)
 
 pub returns-in-None : goal.returns-in-None
-returns-in-None c = entered_nowhere _ _ _ _ c.count_of-n.ensures.0 c.if-entries-n.false _ c.first_entry.ensures c.in-None.is
+returns-in-None c = entered_nowhere _ _ _ _ c.rows-n.ensures.0 c.if-entries-n.false _ c.first_entry.ensures c.in-None.is
 
 pub returns-in-Some : goal.returns-in-Some
-returns-in-Some c = entered_node _ _ _ _ c.count_of-n.ensures.0 c.if-entries-n.false _ c.first_entry.ensures _ c.in-Some.is _ c.count_of.ensures.0 c.if-id-count_of.true
+returns-in-Some c = entered_node _ _ _ _ c.rows-n.ensures.0 c.if-entries-n.false _ c.first_entry.ensures _ c.in-Some.is _ c.nodes.ensures.0 c.if-id-nodes.true
 
 pub returns-in-Some-2 : goal.returns-in-Some-2
 returns-in-Some-2 c =
-    rw c.at-in-Some-2.ensures (entry_outside _ _ _ _ c.count_of-n.ensures.0 c.if-entries-n.false _ c.first_entry.ensures _ c.in-Some.is _ c.count_of.ensures.0 (omega (arith, c.if-id-count_of.false)))
+    rw c.at-in-Some-2.ensures (entry_outside _ _ _ _ c.rows-n.ensures.0 c.if-entries-n.false _ c.first_entry.ensures _ c.in-Some.is _ c.nodes.ensures.0 (omega (arith, c.if-id-nodes.false)))

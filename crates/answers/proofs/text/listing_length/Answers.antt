@@ -1,17 +1,7 @@
--- `listing_length`: no row before `at` is the one looked for. Assumes nothing.
-use native.Mathlib.Omega.{arith}
-use mathlib.Core.Path.{sym, subst, ◌∙◌}
-use Rattle.listings.specs.Bytes.{bytes}
-use Rattle.answers.specs.TextLaws.{CutAt, cut_alone, cut_here, cut_length, cut_next}
+-- `listing_length`: of the listing that `split_questions` gives. Assumes nothing.
+use Rattle.std.proofs.Common.{sym, ap, length}
+use Rattle.answers.specs.TextLaws.{split_listing}
 use Rattle.answers.proofs.text.listing_length.Goals as goal
 
-pub returns-then-to-text : goal.returns-then-to-text
-returns-then-to-text c = cut_length c.args.text.now _ (subst (CutAt c.args.text.now) (sym c.if-to-text.true) (cut_alone c.args.text.now c.loop-at.at c.find-e.result c.loop-at.invariant.0 c.find-e.ensures.0 c.loop-at.invariant.1 c.if-to-text.true))
-
-pub returns-then-equal : goal.returns-then-equal
-unfolding bytes
-returns-then-equal c = cut_length c.args.text.now _ (cut_here c.args.text.now c.loop-at.at c.find-e.result c.loop-at.invariant.0 c.find-e.ensures.0 c.loop-at.invariant.1 c.if-to-text.false c.find-e.ensures.1 (sym c.equal.ensures ∙ c.if-equal.true))
-
-pub loop-at-preserved : goal.loop-at-preserved
-unfolding bytes
-loop-at-preserved c = (omega arith, cut_next c.args.text.now c.loop-at.at c.find-e.result c.loop-at.invariant.0 c.find-e.ensures.0 c.loop-at.invariant.1 c.if-to-text.false c.find-e.ensures.1 (sym c.equal.ensures ∙ c.if-equal.false))
+pub returns : goal.returns
+returns c = ap length (sym (split_listing c.args.text.now _ _ c.split_questions.ensures))

@@ -6,8 +6,8 @@ use Rattle.basic.specs.Found.{handed_on}
 use Rattle.basic.specs.Numbers.{number_told}
 use Rattle.basic.proofs.actions.jump_at.Goals as goal
 
-pub overflow_cast-result : goal.overflow_cast-result
-overflow_cast-result c =
+pub overflow_cast-number : goal.overflow_cast-number
+overflow_cast-number c =
     let n = c.in_ok-number.number in
     let h = number_told (tokens_at c.args.file.now c.args.c) (tokens_at c.args.file.now n.next) n.value (sym c.in_ok-number.ensures) in
     omega (arith, h.0)
@@ -18,4 +18,4 @@ returns-in_err-number c = rw (sym c.in_err-number.ensures) (handed_on _ c.from_r
 
 pub returns : goal.returns
 unfolding map_found
-returns c = rw (sym c.in_ok-number.ensures)
+returns c = rw (sym c.in_ok-number.ensures, c.with.ensures)

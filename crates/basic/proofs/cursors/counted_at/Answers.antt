@@ -30,5 +30,5 @@ loop-at-preserved c =
     ap (λ (z : definition.Cover). counted z (at + 1) (drop (at + 1) f)) c.behind-cover.ensures
     ∙ sym (counted_skip (cover_of c.loop-at.cover) f at b (omega arith) refl c.if-b-eq0.false e) ∙ c.loop-at.invariant
 
-pub returns : goal.returns
-returns c = sym c.loop-at.invariant ∙ counted_past (cover_of c.loop-at.cover) c.args.file.now c.loop-at.at (omega arith)
+pub returns-after-loop-at : goal.returns-after-loop-at
+returns-after-loop-at c = sym c.loop-at.invariant ∙ counted_past (cover_of c.loop-at.cover) c.args.file.now c.loop-at.at (omega arith)

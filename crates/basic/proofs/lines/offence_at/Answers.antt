@@ -1,17 +1,17 @@
 -- `offence_at`: the number's offence comes to the others. Assumes nothing.
-use Rattle.std.proofs.Common.{◌+◌}
+use Rattle.std.proofs.Common.{◌+◌, arith}
 use borrow.Author.Tests.{le-leb, lt-leb}
 use Rattle.program_files.specs.Program.{offences}
 use Rattle.basic.specs.Lines.{inner_offences}
 use Rattle.basic.specs.OffenceLaws.{part_number}
 use Rattle.basic.proofs.lines.offence_at.Goals as goal
 
-pub returns-then-n-gt63999 : goal.returns-then-n-gt63999
+pub returns-then-from-gt-MAX_LINE_NUMBER : goal.returns-then-from-gt-MAX_LINE_NUMBER
 unfolding offences
-returns-then-n-gt63999 c b e =
-    rw (part_number (c.args.line.now.at + 2) c.args.n (inner_offences c.args.line.now.file.now c.args.line.now.at b), lt-leb c.args.n 63999 c.if-n-gt63999.true, ← c.inner_offence-o.ensures b e) (rw c.at.ensures at c.sooner.ensures)
+returns-then-from-gt-MAX_LINE_NUMBER c b e =
+    rw (part_number (c.args.line.now.at + 2) c.args.n (inner_offences c.args.line.now.file.now c.args.line.now.at b), lt-leb c.args.n 63999 (omega (arith, c.from.ensures, c.if-from-gt-MAX_LINE_NUMBER.true)), ← c.inner_offence-o.ensures b e) (rw c.at.ensures at c.sooner.ensures)
 
 pub returns : goal.returns
 unfolding offences
 returns c b e =
-    rw (part_number (c.args.line.now.at + 2) c.args.n (inner_offences c.args.line.now.file.now c.args.line.now.at b), le-leb c.args.n 63999 c.if-n-gt63999.false) (c.inner_offence-o.ensures b e)
+    rw (part_number (c.args.line.now.at + 2) c.args.n (inner_offences c.args.line.now.file.now c.args.line.now.at b), le-leb c.args.n 63999 (omega (arith, c.from.ensures, c.if-from-gt-MAX_LINE_NUMBER.false))) (c.inner_offence-o.ensures b e)

@@ -1,4 +1,4 @@
--- `line_number`: value, capped, was read up to `at`, where t stands. Assumes nothing.
+-- `line_number`: value was read up to `at`, where t stands. Assumes nothing.
 use Rattle.std.proofs.Common.{length}
 use Rattle.basic.specs.Cursors.{tokens_at, IsNext}
 use Rattle.basic.specs.Numbers.{IsRead}

@@ -2,7 +2,8 @@
 use Rattle.std.proofs.Common.{rules, arith, ◌≡◌, ◌∙◌, ◌-◌, not, length, take, drop, take_all, length-drop}
 use Rattle.std.proofs.lemmas.Iterator.{YieldsList-from_slice}
 use Rattle.std.proofs.lemmas.Iterator.Search.{position_from_yields_List}
-use Rattle.comparing.specs.JudgeStates.{passes, lists_in_front, front_passed, first_or_end}
+use Rattle.tokens.specs.ListWords.{first_or_end}
+use Rattle.comparing.specs.JudgeStates.{passes, lists_in_front, front_passed}
 use Rattle.comparing.proofs.judge.pass_lists.Goals as goal
 
 pub returns : goal.returns

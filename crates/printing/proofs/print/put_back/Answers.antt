@@ -2,12 +2,12 @@
 use mathlib.Core.Path.{sym, ◌∙◌}
 use Rattle.listings.specs.Bytes.{bytes}
 use Rattle.tables.specs.Columns.{word_of}
-use Rattle.printing.specs.PrintedTables.{wrote_back, wrote_no_back}
+use Rattle.printing.specs.PrintedTables.{some_read, wrote_back, wrote_no_back}
 use Rattle.printing.proofs.print.put_back.Goals as goal
 
 pub returns-then-is_call : goal.returns-then-is_call
 unfolding bytes word_of
-returns-then-is_call c = wrote_back c.args.stmts.now c.args.falls.now c.args.i (sym c.is_call.ensures ∙ c.if-is_call.true) c.put_some.ensures
+returns-then-is_call c = wrote_back c.args.stmts.now c.args.falls.now c.args.i (sym c.is_call.ensures ∙ c.if-is_call.true) (some_read _ _ _ _ _ c.from.ensures c.checked_sub-fall.ensures c.put_some.ensures)
 
 pub returns-else-is_call : goal.returns-else-is_call
 unfolding word_of

@@ -22,7 +22,7 @@ loop-s-init c = (omega arith, omega arith, follows_start c.args.text.now (state_
 pub returns-then-to-text : goal.returns-then-to-text
 returns-then-to-text c =
     ap by_number c.finish.ensures
-    ∙ follows_last c.args.text.now (state_of c.loop-s.s) c.loop-s.i c.loop-s.at c.find-e.result (omega arith) c.loop-s.invariant.2 (omega arith) c.find-e.ensures.0 c.if-to-text.true
+    ∙ follows_last c.loop-s.invariant.2 (omega arith) (omega arith) c.find-e.ensures.0 c.if-to-text.true
 
 pub returns-in_err-map_err : goal.returns-in_err-map_err
 returns-in_err-map_err c = go c.step.result refl
@@ -31,13 +31,11 @@ returns-in_err-map_err c = go c.step.result refl
     go (Ok u) h = absurd (grind arith)
     go (Err n) h =
         let e : c.from_residual.result ≡ Err (refusal_at n c.loop-s.i) = search rules in
-        ap by_number e ∙ follows_refused c.args.text.now (state_of c.loop-s.s) c.loop-s.i c.loop-s.at c.find-e.result (omega arith) c.loop-s.invariant.2 (omega arith) c.find-e.ensures.0
-        c.if-to-text.false c.find-e.ensures.1 c.step.result (state_of c.step.new.s) c.step.ensures n h
+        ap by_number e ∙ follows_refused c.loop-s.invariant.2 (omega arith) (omega arith) c.find-e.ensures.0 c.if-to-text.false c.find-e.ensures.1 c.step.result (state_of c.step.new.s) c.step.ensures h
 
 pub loop-s-preserved : goal.loop-s-preserved
 loop-s-preserved c = (
   omega (arith, c.find-e.ensures.1),
   omega arith,
-  follows_taken c.args.text.now (state_of c.loop-s.s) c.loop-s.i c.loop-s.at c.find-e.result (omega arith) c.loop-s.invariant.2 (omega arith) c.find-e.ensures.0
-      c.if-to-text.false c.find-e.ensures.1 c.step.result (state_of c.step.new.s) c.step.ensures (grind arith),
+  follows_taken c.loop-s.invariant.2 (omega arith) (omega arith) c.find-e.ensures.0 c.if-to-text.false c.find-e.ensures.1 c.step.result (state_of c.step.new.s) c.step.ensures (grind arith),
 )

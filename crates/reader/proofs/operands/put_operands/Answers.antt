@@ -2,6 +2,7 @@
 use mathlib.Core.Path.{◌≡◌, ap, subst, ◌∙◌}
 use mathlib.Core.List.{[], ◌∷◌}
 use lib.ListN.{length}
+use Rattle.std.proofs.Common.{rules}
 use Rattle.std.specs.Prelude.{Some, None}
 use Rattle.listings.specs.Rows.{split}
 use Rattle.tokens.specs.Kinds.{opened_kind}
@@ -15,7 +16,9 @@ cut : (c : In-Some) → split 32 c.args.s.now ≡ c.in-Some.field-0-0.now ∷ sp
 cut c = subst (FirstWord c.args.s.now) c.in-Some.is c.first_word.ensures
 
 pub returns-in_default : goal.returns-in_default
-returns-in_default c = row_alone c.args.s.now (subst (FirstWord c.args.s.now) c.in_default.is c.first_word.ensures) c.args.part.now
+returns-in_default c =
+    let e : c.default.result ≡ record { count = 0; detail = 0 } = search rules in
+    rw e (row_alone c.args.s.now (subst (FirstWord c.args.s.now) c.in_default.is c.first_word.ensures) c.args.part.now)
 
 pub put_kind-requires : goal.put_kind-requires
 put_kind-requires c =

@@ -1,4 +1,5 @@
--- `write_lists`: the lists of the first i nodes are written, and the rows of the others are as they were. Assumes nothing.
+-- `write_lists`: the lists of the first i nodes are written, and the rows of the others are as they were. Assumes
+-- nothing.
 use mathlib.Core.Path.{◌≡◌}
 use lib.ListN.{length}
 use Rattle.passes.specs.EdgeTable.{lists_to, ListsStored}

@@ -1,4 +1,5 @@
--- `fill_lists`: whatever lists the tables hold, the nodes passed stand in the lists of their successors. Assumes nothing.
+-- `fill_lists`: whatever lists the tables hold, the nodes passed stand in the lists of their successors. Assumes
+-- nothing.
 use mathlib.Core.Path.{◌≡◌}
 use lib.ListN.{length}
 use Rattle.storing.specs.PredecessorLists.{FilledTo}

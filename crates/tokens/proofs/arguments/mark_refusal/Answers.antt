@@ -1,17 +1,15 @@
--- `mark_refusal`: the table of marks, one after the other. Assumes nothing.
-use mathlib.Core.Path.{◌∙◌, sym}
-use Rattle.listings.specs.Bytes.{bytes}
-use Rattle.listings.specs.Rows.{lookup, marks, or_malformed, parse_mark}
+-- `mark_refusal`: what is none is no form. Assumes nothing.
+use Rattle.std.proofs.Common.{◌∙◌, ap}
+use Rattle.std.specs.Prelude.{Option, Result, Ok}
+use Rattle.std.specs.Option.{ok_or}
+use Rattle.std.specs.Result.{result_and}
+use Rattle.layout.specs.declared.refusals.Reason.{Reason}
+use Rattle.layout.specs.declared.refusals.Reason.TheVariants.{NotAForm}
+use Rattle.tokens.specs.declared.tiers.Mark.{Mark}
+use Rattle.tokens.specs.Arguments.{mark_verdict}
 use Rattle.tokens.proofs.arguments.mark_refusal.Goals as goal
-use Rattle.tokens.proofs.arguments.mark_refusal.Goals.{then-equal-via-then-equal, then-equal-via-else-equal+then-equal-2}
-
-pub returns-then-equal : goal.returns-then-equal
-unfolding bytes lookup marks or_malformed parse_mark
-returns-then-equal c = elim c.then-equal.branch [
-  | then-equal-via-then-equal w ↦ rw (sym c.equal.ensures ∙ w.if-equal.true)
-  | then-equal-via-else-equal+then-equal-2 w ↦ rw (sym c.equal.ensures ∙ w.if-equal.false, sym w.equal-else-equal.ensures ∙ w.if-equal-2.true)
-]
 
 pub returns : goal.returns
-unfolding bytes lookup marks or_malformed parse_mark
-returns c = rw (sym c.equal.ensures ∙ c.if-equal.false, sym c.equal-else-equal.ensures ∙ c.if-equal-2.false)
+returns c =
+    c.and.ensures ∙ ap (λ (r : Result Mark Reason). result_and r (Ok tt)) (c.ok_or.ensures.value ∙ ap (λ (o : Option Mark). ok_or o NotAForm) c.mark_of.ensures)
+    ∙ mark_verdict c.args.w.now

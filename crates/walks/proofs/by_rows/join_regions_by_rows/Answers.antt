@@ -3,7 +3,7 @@ use Rattle.walks.proofs.by_rows.join_regions_by_rows.Goals as goal
 
 pub join_entries_by_rows-requires : goal.join_entries_by_rows-requires
 join_entries_by_rows-requires c = record {
-  calls_ready = c.of-calls.ensures.ready;
-  spanned = c.of-calls.ensures.spanned;
+  calls_ready = c.among-calls.ensures.ready;
+  spanned = c.among-calls.ensures.spanned;
   in_rows = c.requires.1;
 }

@@ -1,14 +1,14 @@
 -- `join_regions`: the calls are listed, their spans found, all regions joined. Assumes nothing.
 use Rattle.passes.specs.Walk.{stored_list}
-use Rattle.passes.specs.RegionLaws.{regions_all}
+use Rattle.passes.specs.RegionLaws.{regions_all, read_stored}
 use Rattle.walks.proofs.regions.join_regions.Goals as goal
 
 pub join_entries-requires : goal.join_entries-requires
 join_entries-requires c = record {
-  calls_ready = c.of-calls.ensures.ready;
-  spanned = c.of-calls.ensures.spanned;
-  stored = c.requires.1;
-  in_sets = c.requires.2;
+  calls_ready = c.among-calls.ensures.ready;
+  spanned = c.among-calls.ensures.spanned;
+  stored = read_stored _ _ _ c.args.w.now.readable;
+  in_sets = c.requires.1;
 }
 
 pub returns : goal.returns

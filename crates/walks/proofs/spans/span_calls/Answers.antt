@@ -1,7 +1,8 @@
 -- `span_calls`: the first k calls are done. Assumes nothing.
-use Prim.Native.Nat.{ℕ}
 use mathlib.Core.Path.{ap, ◌∙◌}
 use native.Mathlib.Omega.{arith}
+use Rattle.std.specs.Prelude.{Option, None}
+use Rattle.passes.specs.declared.spans.Span.{Span}
 use lib.ListN.{length, length-replicate}
 use Rattle.passes.specs.RegionLaws.{all_get_d}
 use Rattle.passes.specs.Spans.{spanned_none, spanned_more}
@@ -11,7 +12,7 @@ pub loop-k-init : goal.loop-k-init
 loop-k-init c =
     let g = c.args.g.now in
     let a = c.args in
-    (ap length c.requires.2 ∙ length-replicate {A = ℕ} 8192 0, spanned_none g.records.stmts.now g.links.now a.calls.now 8192 _ c.requires.2)
+    (ap length c.requires.2 ∙ length-replicate {A = Option Span} 4096 None, spanned_none g.records.stmts.now g.links.now a.calls.now 4096 _ c.requires.2)
 
 pub span_call-requires : goal.span_call-requires
 span_call-requires c =

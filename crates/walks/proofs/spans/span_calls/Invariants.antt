@@ -5,4 +5,4 @@ use Rattle.passes.specs.Spans.{Spanned}
 use Rattle.walks.proofs.spans.span_calls.Given as goal
 
 abbrev pub invariant-loop-k : goal.invariant-loop-k
-invariant-loop-k l = (length l.spans ≡ 8192) × Spanned l.g.records.stmts.now l.g.links.now l.calls l.k l.spans
+invariant-loop-k l = (length l.spans ≡ 4096) × Spanned l.g.records.stmts.now l.g.links.now l.calls l.k l.spans

@@ -1,13 +1,9 @@
 -- `graph_of`: prepared, then wired; a graph with too many edges is refused. Assumes nothing.
-use Rattle.std.proofs.Common.{◌≡◌, refl, sym, ap, ◌∙◌, true, false, rules}
+use Rattle.std.proofs.Common.{◌≡◌, refl, true, false, rules}
 use Rattle.std.specs.Prelude.{is_err}
-use Rattle.passes.specs.Connecting.{no}
-use Rattle.wiring.specs.Found.{all_found, none_refused, one_refused}
+use Rattle.wiring.specs.Found.{none_refused, one_refused}
 use Rattle.wiring.specs.GraphOf.{made_graph, made_refused}
 use Rattle.wiring.proofs.build.graph_of.Goals as goal
-
-pub returns-in_err-prepare : goal.returns-in_err-prepare
-returns-in_err-prepare c = let e : all_found c.prepare.result ≡ false = ap all_found c.in_err-prepare.was in no (sym c.prepare.ensures.answered ∙ e)
 
 pub returns-else-is_err : goal.returns-else-is_err
 returns-else-is_err c =

@@ -1,15 +1,21 @@
 -- `add_closer`: nothing, or where the closer falls. Assumes nothing.
-use Rattle.std.proofs.Common.{◌≡◌, ◌-◌, refl, arith}
+use Rattle.std.proofs.Common.{◌≡◌, ◌+◌, ◌-◌, ◌*◌, refl, arith, get_or}
 use Rattle.passes.specs.ChainLaws.{closer_none, closer_some, closer_fits}
 use Rattle.wiring.specs.OnLists.{fall_made}
+use Rattle.wiring.specs.Places.{one_more}
 use Rattle.wiring.proofs.closing.add_closer.Goals as goal
 
 pub returns-in_default : goal.returns-in_default
-returns-in_default c = record { same_reference = refl; size = refl; is = (closer_none c.args.falls.now c.args.frames.now _ _ c.args.met (omega (arith, c.in_default.ensures)), c.requires.0) }
+returns-in_default c = record { same_reference = refl; size = refl; is = (rw c.in_default.is (closer_none c.args.g.now.nodes.falls.now c.args.g.now.frames.now _ _ 0 refl), c.requires.0) }
 
 pub returns : goal.returns
 returns c =
-    let e : c.in-Some.opener ≡ c.args.met - 1 = omega (arith, c.in-Some.ensures) in
-    let z : c.args.met ≡ 0 → ⊥ = omega (arith, c.in-Some.ensures) in
-    let m = fall_made c.args.falls.now _ c.requires.0 (closer_fits c.args.falls.now c.args.frames.now _ c.args.met _ z (rw e refl) c.requires.1) c.add_fall.ensures in
-    record { same_reference = m.same_reference; size = m.size; is = (closer_some c.args.falls.now c.args.frames.now _ _ _ _ c.args.met _ z (rw e refl) m.is.0, m.is.1) }
+    let fs = c.args.g.now.nodes.falls.now in
+    let fr = c.args.g.now.frames.now in
+    let o = c.in-Some.o in
+    let k = one_more c.closer.result in
+    let e : o + 1 - 1 ≡ o = omega arith in
+    let z : o + 1 ≡ 0 → ⊥ = omega arith in
+    let d : k ≡ get_or fr ((o + 1 - 1) * 3 + 1) 0 = rw e c.closer.ensures in
+    let m = fall_made fs k c.requires.0 (closer_fits fs fr _ (o + 1) k z d (rw c.in-Some.is at c.requires.1)) (rw c.fall_of.ensures at c.add_edge.ensures) in
+    record { same_reference = m.same_reference; size = m.size; is = (rw c.in-Some.is (closer_some fs fr _ _ _ _ (o + 1) k z d m.is.0), m.is.1) }

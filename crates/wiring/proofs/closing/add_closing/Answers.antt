@@ -1,6 +1,7 @@
 -- `add_closing`: by the opening word. Assumes nothing.
 use Rattle.std.proofs.Common.{rules, ◌≡◌, sym, refl, ◌∙◌}
 use Rattle.passes.specs.ClosingLaws.{ready_doif, ready_closer, closing_doif, closing-joined, closing-none}
+use Rattle.wiring.specs.Places.{one_more}
 use Rattle.wiring.proofs.closing.add_closing.Goals as goal
 
 pub add_doif-requires : goal.add_doif-requires
@@ -16,7 +17,7 @@ returns-in-21 c =
     }
 
 pub add_closer-requires : goal.add_closer-requires
-add_closer-requires c = (c.requires.ready.0, ready_closer c.args.g.now.nodes.records.stmts.now c.args.g.now.nodes.falls.now c.args.g.now.frames.now c.args.i _ c.requires.ready.1 c.from-met.result (c.from-met.ensures ∙ c.opener.ensures))
+add_closer-requires c = (c.requires.ready.0, ready_closer c.args.g.now.nodes.records.stmts.now c.args.g.now.nodes.falls.now c.args.g.now.frames.now c.args.i _ c.requires.ready.1 (one_more c.opener.result) c.opener.ensures)
 
 pub returns-in_default : goal.returns-in_default
 returns-in_default c =
@@ -24,7 +25,7 @@ returns-in_default c =
     record {
       same_reference = m.same_reference;
       size = m.size;
-      is = (closing-joined c.args.g.now.nodes.records.stmts.now c.args.g.now.nodes.falls.now c.args.g.now.frames.now c.args.i _ _ _ _ c.from-met.result (rw c.word-word.ensures at (sym c.joins_frame.ensures ∙ c.if-joins_frame.true)) (c.from-met.ensures ∙ c.opener.ensures) m.is.0, m.is.1);
+      is = (closing-joined c.args.g.now.nodes.records.stmts.now c.args.g.now.nodes.falls.now c.args.g.now.frames.now c.args.i _ _ _ _ (one_more c.opener.result) (rw c.word-word.ensures at (sym c.joins_frame.ensures ∙ c.if-joins_frame.true)) c.opener.ensures m.is.0, m.is.1);
     }
 
 pub returns-else-joins_frame : goal.returns-else-joins_frame

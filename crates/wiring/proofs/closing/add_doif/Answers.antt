@@ -1,23 +1,17 @@
 -- `add_doif`: where the ELSEs fall, or the closer. Assumes nothing.
-use Rattle.std.proofs.Common.{refl}
-use Rattle.passes.specs.ChainLaws.{doif_elses, doif_closer}
+use Rattle.std.proofs.Common.{sym}
+use Rattle.passes.specs.ChainLaws.{doif_closer}
 use Rattle.wiring.specs.OnLists.{fall_made}
+use Rattle.wiring.specs.Places.{one_more, none_zero}
 use Rattle.wiring.proofs.closing.add_doif.Goals as goal
-
-pub returns-then-first-ne0 : goal.returns-then-first-ne0
-returns-then-first-ne0 c =
-    let m = c.add_elses.ensures in
-    record {
-      same_reference = m.same_reference;
-      size = m.size;
-      is = (doif_elses c.args.falls.now c.args.frames.now c.args.i _ _ _ _ c.from-first.result c.from-first.ensures c.if-first-ne0.true m.is.0, m.is.1);
-    }
 
 pub returns : goal.returns
 returns c =
-    let m = fall_made c.args.falls.now _ c.requires.0 c.requires.1.closer c.add_fall.ensures in
+    let g = c.args.g.now in
+    let k = one_more c.closer.result in
+    let m = fall_made g.nodes.falls.now k c.requires.0 (rw c.closer.ensures c.requires.1.closer) (rw c.fall_of.ensures at c.add_edge.ensures) in
     record {
       same_reference = m.same_reference;
       size = m.size;
-      is = (doif_closer c.args.falls.now c.args.frames.now c.args.i _ _ _ _ c.from-first.result c.from-first.ensures _ c.if-first-ne0.false refl m.is.0, m.is.1);
+      is = (doif_closer g.nodes.falls.now g.frames.now c.args.i _ _ _ _ (one_more c.next_else-first.result) c.next_else-first.ensures k (none_zero _ (sym c.if-is_some.ensures)) c.closer.ensures m.is.0, m.is.1);
     }

@@ -1,40 +1,54 @@
 -- `add_elses`: the ELSEs that are done, and the rest of the chain. Assumes nothing.
-use Rattle.std.proofs.Common.{◌≡◌, ◌-◌, ◌∙◌, refl, arith}
+use Rattle.std.proofs.Common.{◌≡◌, ◌+◌, ◌-◌, ◌*◌, ◌∙◌, refl, arith, get_or}
+use Rattle.graph_laws.specs.Adding.{decode, Added}
 use Rattle.passes.specs.ChainLaws.{walk_start, walk_visit, walk_next, walk_end}
 use Rattle.passes.specs.FitLaws.{fits_room, fits_next}
 use Rattle.storing.specs.NodeLists.{grew_one}
+use Rattle.wiring.specs.Places.{one_more}
 use Rattle.wiring.proofs.closing.add_elses.Goals as goal
 
-pub loop-j-init : goal.loop-j-init
-loop-j-init c = record { same_reference = refl; size = refl; is = walk_start _ _ _ _ _ c.requires.0 c.requires.1 }
+pub loop-next-init : goal.loop-next-init
+loop-next-init c = record { same_reference = refl; size = refl; is = walk_start _ _ _ _ _ c.requires.0 c.requires.1 }
 
-pub bounds-falls-j : goal.bounds-falls-j
-bounds-falls-j c =
-    let e : c.in-Some.j ≡ c.loop-j.c - 1 = omega (arith, c.in-Some.ensures) in
-    let v = walk_visit c.args.falls.now c.args.frames.now c.args.first c.args.list.now.part.now c.args.list.now.n c.loop-j.list.part.now c.loop-j.list.n c.loop-j.c (omega (arith, c.in-Some.ensures)) c.loop-j.invariant.is in
-    rw e v.there
-
-pub loop-j-preserved : goal.loop-j-preserved
-loop-j-preserved c =
-    let p = c.loop-j.list in
+pub loop-next-preserved : goal.loop-next-preserved
+loop-next-preserved c =
+    let fs = c.args.g.now.nodes.falls.now in
+    let fr = c.args.g.now.frames.now in
+    let p = c.loop-next.list in
     let q = c.add_edge.new.self in
-    let e : c.in-Some.j ≡ c.loop-j.c - 1 = omega (arith, c.in-Some.ensures) in
-    let v = walk_visit c.args.falls.now c.args.frames.now c.args.first c.args.list.now.part.now c.args.list.now.n p.part.now p.n c.loop-j.c (omega (arith, c.in-Some.ensures)) c.loop-j.invariant.is in
-    let g = grew_one (fits_room p.part.now p.n _ c.loop-j.invariant.is.fits v.leads) (rw e at c.add_edge.ensures) in
-    let f = fits_next p.part.now q.part.now p.n q.n _ c.loop-j.invariant.is.fits v.leads g.size g.grows in
+    let j = c.in-Some.j in
+    let e : j + 1 - 1 ≡ j = omega arith in
+    let w = rw c.in-Some.is at c.loop-next.invariant.is in
+    let v = walk_visit fs fr (one_more c.args.first) c.args.list.now.part.now c.args.list.now.n p.part.now p.n (j + 1) (omega arith) w in
+    let h = rw e at v.leads in
+    let g = grew_one (fits_room p.part.now p.n _ w.fits h) (rw c.fall.ensures at c.add_edge.ensures) in
+    let f = fits_next p.part.now q.part.now p.n q.n _ w.fits h g.size g.grows in
+    let a : Added p.part.now p.n q.part.now q.n (decode (get_or fs ((j + 1 - 1) * 3) 0)) = rw e g.grows.added in
+    let d : one_more c.next_else-next.result ≡ get_or fr ((j + 1 - 1) * 3 + 2) 0 = rw e c.next_else-next.ensures in
     record {
-      same_reference = g.same_reference ∙ c.loop-j.invariant.same_reference;
-      size = g.size ∙ c.loop-j.invariant.size;
-      is = walk_next c.args.falls.now c.args.frames.now c.args.first c.args.list.now.part.now c.args.list.now.n p.part.now p.n c.loop-j.c c.from-c.result q.n _ (omega (arith, c.in-Some.ensures)) g.grows.added f g.size
-          (rw e at c.from-c.ensures) c.loop-j.invariant.is;
+      same_reference = g.same_reference ∙ c.loop-next.invariant.same_reference;
+      size = g.size ∙ c.loop-next.invariant.size;
+      is = walk_next fs fr (one_more c.args.first) c.args.list.now.part.now c.args.list.now.n p.part.now p.n (j + 1) (one_more c.next_else-next.result) q.n _ (omega arith) a f g.size d w;
     }
+
+pub loop-next-smaller : goal.loop-next-smaller
+loop-next-smaller c =
+    let fs = c.args.g.now.nodes.falls.now in
+    let fr = c.args.g.now.frames.now in
+    let p = c.loop-next.list in
+    let j = c.in-Some.j in
+    let e : j + 1 - 1 ≡ j = omega arith in
+    let v = walk_visit fs fr (one_more c.args.first) c.args.list.now.part.now c.args.list.now.n p.part.now p.n (j + 1) (omega arith) (rw c.in-Some.is at c.loop-next.invariant.is) in
+    let d : one_more c.next_else-next.result ≡ get_or fr ((j + 1 - 1) * 3 + 2) 0 = rw e c.next_else-next.ensures in
+    rw (d, c.in-Some.is) v.less
 
 pub returns : goal.returns
 returns c =
-    let p = c.loop-j.list in
-    let v = c.loop-j.invariant in
+    let p = c.loop-next.list in
+    let v = c.loop-next.invariant in
+    let w = rw c.in_default.is at v.is in
     record {
       same_reference = v.same_reference;
       size = v.size;
-      is = (walk_end c.args.falls.now c.args.frames.now c.args.first c.args.list.now.part.now c.args.list.now.n p.part.now p.n c.loop-j.c (omega (arith, c.in_default.ensures)) v.is, v.is.fits);
+      is = (walk_end c.args.g.now.nodes.falls.now c.args.g.now.frames.now (one_more c.args.first) c.args.list.now.part.now c.args.list.now.n p.part.now p.n 0 refl w, v.is.fits);
     }

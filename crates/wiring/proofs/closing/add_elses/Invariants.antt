@@ -2,10 +2,11 @@
 use Rattle.std.proofs.Common.{length}
 use Rattle.passes.specs.ChainLaws.{chain_left, Walk}
 use Rattle.storing.specs.NodeLists.{Became}
+use Rattle.wiring.specs.Places.{one_more}
 use Rattle.wiring.proofs.closing.add_elses.Given as goal
 
-abbrev pub invariant-loop-j : goal.invariant-loop-j
-invariant-loop-j l = Became l.initial.list l.list (λ a n b r. Walk l.falls l.frames l.first a n b r l.c)
+abbrev pub invariant-loop-next : goal.invariant-loop-next
+invariant-loop-next l = Became l.initial.list l.list (λ a n b r. Walk l.g.nodes.falls.now l.g.frames.now (one_more l.fn.first) a n b r (one_more l.next))
 
-abbrev pub decreases-loop-j : goal.decreases-loop-j
-decreases-loop-j l = chain_left (length l.frames) l.c
+abbrev pub decreases-loop-next : goal.decreases-loop-next
+decreases-loop-next l = chain_left (length l.g.frames.now) (one_more l.next)

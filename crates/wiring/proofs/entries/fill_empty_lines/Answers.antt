@@ -1,12 +1,9 @@
--- `fill_empty_lines`: the lines from l on have their rows, and `next` is the entry of the first of them. Assumes nothing.
-use mathlib.Core.Path.{refl}
+-- `fill_empty_lines`: the lines from l on have their rows, and `next` is the entry of the first of them.
+-- Assumes nothing.
 use native.Mathlib.Omega.{arith}
 use lib.ListN.{length-set}
-use Rattle.passes.specs.LineEntries.{filled_start, filled_down, filled_end}
+use Rattle.passes.specs.LineEntries.{filled_down, filled_end}
 use Rattle.wiring.proofs.entries.fill_empty_lines.Goals as goal
-
-pub loop-l-init : goal.loop-l-init
-loop-l-init c = (refl, λ ls others rest g e k. filled_start ls _ others rest _ _ g e k)
 
 pub loop-l-preserved : goal.loop-l-preserved
 loop-l-preserved c = (

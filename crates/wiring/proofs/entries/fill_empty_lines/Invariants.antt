@@ -1,4 +1,5 @@
--- `fill_empty_lines`: the lines from l on have their rows, and `next` is the entry of the first of them. Assumes nothing.
+-- `fill_empty_lines`: the lines from l on have their rows, and `next` is the entry of the first of them.
+-- Assumes nothing.
 use Prim.Native.Nat.{ℕ}
 use mathlib.Core.List.{List, ◌++◌}
 use mathlib.Core.Path.{◌≡◌}

@@ -1,48 +1,61 @@
 -- `fill_row`: one row, lent on as the part that it is. Assumes nothing.
+use borrow.Author.Rules.{rules}
 use Prim.Native.Nat.{◌≤◌, ◌+◌, ◌-◌, ◌*◌}
 use mathlib.Core.Path.{◌≡◌, sym, ◌∙◌, ap}
 use native.Mathlib.Omega.{arith}
 use lib.ListN.{length, take}
-use Rattle.std.proofs.Common.{length-take-le}
 use Rattle.passes.specs.ReturnSetLaws.{row_part, row_length}
 use Rattle.passes.specs.FillRows.{passes}
-use Rattle.passes.specs.FillRowLaws.{row_left, row_filled, skip_fits}
+use Rattle.passes.specs.FillRowLaws.{row_left, row_filled, skip_fits, skip_made}
 use Rattle.graph_laws.specs.EdgeBounds.{Ids}
 use Rattle.wiring.specs.Passes.{are_nexts}
+use Rattle.wiring.specs.FromLeads.{SkipMadeFrom}
 use Rattle.wiring.proofs.fill_rows.fill_row.Goals as goal
-use Rattle.wiring.proofs.fill_rows.fill_row.Goals.{After-skip_list-count}
+use Rattle.wiring.proofs.fill_rows.fill_row.Goals.{After-skip_list-kept}
+
+-- what skipping paths follow, whichever listing the tables hold
+tables-made : (c : After-skip_list-kept) → SkipMadeFrom c.args.g.now c.args.args.now c.args.i c.args.part.now c.skip_list-kept.new.buffer c.skip_list-kept.result
+tables-made c = skip_made c.list_of-count.ensures c.skip_list-kept.ensures
 
 -- the list that was made fits the part, and has nodes only
-made : (c : After-skip_list-count) → (c.skip_list-count.result ≤ length c.skip_list-count.new.part) × Ids 4096 (take c.skip_list-count.result c.skip_list-count.new.part)
+fitting : (c : After-skip_list-kept) → (c.skip_list-kept.result ≤ length c.skip_list-kept.new.buffer) × Ids 4096 (take c.skip_list-kept.result c.skip_list-kept.new.buffer)
 unfolding passes
-made c =
-    skip_fits c.args.g.now.nodes.records.stmts.now c.args.args.now c.args.g.now.entries.rows.now c.args.g.now.nodes.falls.now c.args.g.now.nodes.links.now c.args.g.now.frames.now c.args.g.now.dispatched.now c.args.g.now.entries.count c.args.i
-    c.args.part.now _ _ (c.requires.ready.skips (rw c.word.ensures at (sym c.in_pass.ensures ∙ c.if-not-in_pass.false))) c.skip_list-count.ensures
+fitting c =
+    let size : length c.args.part.now ≡ 4096 = search rules in
+    skip_fits _ _ _ _ _ _ _ _ _
+    c.args.part.now _ _ (rw size (c.requires.ready.skips (rw c.word.ensures at (sym c.in_pass.ensures ∙ c.if-not-in_pass.false)))) (tables-made c)
 
 pub returns-then-not-in_pass : goal.returns-then-not-in_pass
 unfolding passes
 returns-then-not-in_pass c =
-    row_left c.args.g.now.nodes.records.stmts.now c.args.args.now c.args.g.now.entries.rows.now c.args.g.now.nodes.falls.now c.args.g.now.nodes.links.now c.args.g.now.frames.now c.args.g.now.dispatched.now c.args.g.now.entries.count c.args.i (are_nexts c.args.pass)
+    row_left _ _ _ _ _ _ _ _ _ (are_nexts c.args.pass)
     (rw c.word.ensures at (sym c.in_pass.ensures ∙ c.if-not-in_pass.true))
 
-pub skip_list-count-requires-clause-ready : goal.skip_list-count-requires-clause-ready
+pub list_of-count-requires-clause-ready : goal.list_of-count-requires-clause-ready
 unfolding passes
-skip_list-count-requires-clause-ready c = c.requires.ready.skips (rw c.word.ensures at (sym c.in_pass.ensures ∙ c.if-not-in_pass.false))
+list_of-count-requires-clause-ready c = (c.requires.ready.skips (rw c.word.ensures at (sym c.in_pass.ensures ∙ c.if-not-in_pass.false))).ready
 
-pub slice_bounds-put_set-end-2 : goal.slice_bounds-put_set-end-2
-slice_bounds-put_set-end-2 c = (made (goal.at.slice_bounds-put_set-end-2 c).After-skip_list-count).0
+pub skip_list-kept-requires : goal.skip_list-kept-requires
+unfolding passes
+skip_list-kept-requires c =
+    let s = c.requires.ready.skips (rw c.word.ensures at (sym c.in_pass.ensures ∙ c.if-not-in_pass.false)) in
+    let r = s.ready in
+    let size : length c.args.part.now ≡ 4096 = search rules in
+    omega (arith, size, (c.list_of-count.ensures r.listing r.keys₀ r.nodes r.prepared r.kept r.size r.node).within)
 
-pub slice_bounds-put_set-end-3 : goal.slice_bounds-put_set-end-3
-slice_bounds-put_set-end-3 c = sym (length-take-le c.skip_list-count.result c.skip_list-count.new.part (made (goal.at.slice_bounds-put_set-end-3 c).After-skip_list-count).0)
+pub shared_ref_as_front-put_set : goal.shared_ref_as_front-put_set
+shared_ref_as_front-put_set c =
+    let size : length c.skip_list-kept.new.buffer ≡ 4096 = search rules in
+    omega (arith, size, (fitting (goal.at.shared_ref_as_front-put_set c).After-skip_list-kept).0)
 
 pub put_set-requires : goal.put_set-requires
 put_set-requires c =
     let k : c.args.i * 64 + 64 - c.args.i * 64 ≡ 64 = omega arith in
-    (ap length (row_part c.args.args.now c.args.i _ k) ∙ row_length c.args.args.now c.args.i c.requires.ready.fits, (made (goal.at.put_set-requires c).After-skip_list-count).1)
+    (ap length (row_part c.args.args.now c.args.i _ k) ∙ row_length c.args.args.now c.args.i c.requires.ready.fits, (fitting (goal.at.put_set-requires c).After-skip_list-kept).1)
 
 pub returns : goal.returns
 unfolding passes
 returns c =
     let k : c.args.i * 64 + 64 - c.args.i * 64 ≡ 64 = omega arith in
-    row_filled c.args.g.now.nodes.records.stmts.now c.args.args.now c.args.g.now.entries.rows.now c.args.g.now.nodes.falls.now c.args.g.now.nodes.links.now c.args.g.now.frames.now c.args.g.now.dispatched.now c.args.g.now.entries.count c.args.i (are_nexts c.args.pass)
-    c.args.part.now _ _ _ _ (rw c.word.ensures at (sym c.in_pass.ensures ∙ c.if-not-in_pass.false)) k c.requires.ready.fits c.skip_list-count.ensures c.put_set.ensures
+    row_filled _ _ _ _ _ _ _ _ _ (are_nexts c.args.pass)
+    c.args.part.now _ _ _ _ (rw c.word.ensures at (sym c.in_pass.ensures ∙ c.if-not-in_pass.false)) k c.requires.ready.fits (tables-made (goal.at.returns c).After-skip_list-kept) c.put_set.ensures

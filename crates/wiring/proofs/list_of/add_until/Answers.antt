@@ -1,16 +1,15 @@
 -- `add_until`: nothing, or the body and then where it falls. Assumes nothing.
 use Rattle.std.proofs.Common.{sym, ◌∙◌}
-use Rattle.passes.specs.AddRoom.{room_first, room_next, room_as}
-use Rattle.passes.specs.NodeListLaws.{until_none, until_parts, body_room}
-use Rattle.storing.specs.NodeLists.{grew_as, grew_none, grew_both, grew_link, grew_within}
+use Rattle.passes.specs.NextBodies.{link_is}
+use Rattle.passes.specs.NodeListLaws.{until_none, until_parts}
+use Rattle.storing.specs.NodeLists.{added_as, added_both, added_none}
+use Rattle.wiring.specs.Places.{none_zero, some_more}
 use Rattle.wiring.proofs.list_of.add_until.Goals as goal
 
-pub returns-then-met-eq0 : goal.returns-then-met-eq0
-returns-then-met-eq0 c = grew_as (until_none c.args.g.now.nodes.falls.now c.args.g.now.frames.now c.args.i (sym c.opener-met.ensures ∙ c.if-met-eq0.true)) (grew_none _)
+pub returns-then-is_none : goal.returns-then-is_none
+returns-then-is_none c = added_as (until_none _ _ _ (sym c.opener-opener.ensures ∙ none_zero _ c.if-is_none.ensures)) (added_none _)
 
 pub returns : goal.returns
 returns c =
-    let e = until_parts c.args.g.now.nodes.falls.now c.args.g.now.frames.now c.args.i (rw c.opener-met.ensures at c.if-met-eq0.false) in
-    let r = room_as e c.requires.room_to_add in
-    let b = grew_link (body_room _ _ _ _ c.requires.i_in_bounds.1 (room_first _ _ _ _ r)) (rw c.opener-met.ensures at c.add_fall.ensures) in
-    grew_as e (grew_both b (grew_within (room_next _ _ _ _ r _ _ b.grows) (rw c.fall.ensures at c.add_edge.ensures)))
+    let b = added_as (link_is _ _) (rw (c.fall_of.ensures, c.opener-opener.ensures) at c.add_edge.ensures) in
+    added_as (until_parts _ _ _ (rw c.opener-opener.ensures at (some_more _ c.if-is_none.ensures))) (added_both b (rw c.fall.ensures at c.add_edge-2.ensures))

@@ -1,4 +1,4 @@
--- `all_line_entry_nodes`: the nodes of the first k rows are added, and those that are left ascend from the last one. Assumes nothing.
+-- `all_line_entry_nodes`: the nodes of the first rows are added, the entries that are left ascend. Assumes nothing.
 use Rattle.std.proofs.Common.{take, drop}
 use Rattle.graph.specs.Lists.{each}
 use Rattle.graph_laws.specs.Adding.{decode}
@@ -7,5 +7,5 @@ use Rattle.passes.specs.EntryOrder.{Rises, LastAdded}
 use Rattle.storing.specs.NodeLists.{Grew}
 use Rattle.wiring.proofs.list_of.all_line_entry_nodes.Given as goal
 
-abbrev pub invariant-loop-k : goal.invariant-loop-k
-invariant-loop-k l = Grew l.initial.list l.list (each decode (take l.k (entry_column 1 l.w.count l.w.rows.now))) × LastAdded l.list.part.now l.list.n l.last × Rises l.last (drop l.k (entry_column 1 l.w.count l.w.rows.now))
+abbrev pub invariant-loop-row : goal.invariant-loop-row
+invariant-loop-row l = Grew l.initial.list l.list (each decode (take l.row-index (entry_column 1 l.w.count l.w.rows.now))) × LastAdded l.list.part.now l.list.n l.last × Rises l.last (drop l.row-index (entry_column 1 l.w.count l.w.rows.now))

@@ -1,5 +1,5 @@
 -- `list_of`: own edges, late edges, an orphan's targets. Assumes nothing.
-use Rattle.std.proofs.Common.{rules, ◌∙◌, ap, subst, ℕ, List, length}
+use Rattle.std.proofs.Common.{rules, arith, ◌≡◌, ◌≤◌, ◌∙◌, ap, subst, ℕ, List, length}
 use Rattle.graph.specs.Graph.{wire, base}
 use Rattle.passes.specs.NodeList.{ListIs}
 use Rattle.passes.specs.Growing.{Grown}
@@ -10,16 +10,23 @@ use Rattle.wiring.proofs.list_of.list_of.Goals.{After-add_own, After-add_closing
 
 -- the list after the node's own edges, and after those that later nodes add
 own : (c : After-add_own) → Grown c.requires.ready.nodes c.add_own.new.list.part.now c.add_own.new.list.n
-own c = after-own c.requires.ready.prepared c.args.args.now c.args.i c.requires.ready.node c.requires.ready.kept c.requires.ready.size c.args.part.now _ _ c.requires.ready.room (grew_new c.new-list.ensures.empty c.add_own.ensures)
+own c =
+    let size : length c.args.part.now ≡ 4096 = search rules in
+    let room : c.requires.ready.nodes ≤ length c.args.part.now = omega (arith, size, c.requires.ready.room) in
+    after-own c.requires.ready.prepared c.args.args.now c.args.i c.requires.ready.node c.requires.ready.kept c.requires.ready.size c.args.part.now _ _ room (grew_new c.new-list.ensures.empty c.add_own.ensures)
 
 late : (c : After-add_closing) → Grown c.requires.ready.nodes c.add_closing.new.list.part.now c.add_closing.new.list.n
 late c =
-    let g = after-own c.requires.ready.prepared c.args.args.now c.args.i c.requires.ready.node c.requires.ready.kept c.requires.ready.size c.args.part.now _ _ c.requires.ready.room (grew_new c.new-list.ensures.empty c.add_own.ensures) in
+    let size : length c.args.part.now ≡ 4096 = search rules in
+    let room : c.requires.ready.nodes ≤ length c.args.part.now = omega (arith, size, c.requires.ready.room) in
+    let g = after-own c.requires.ready.prepared c.args.args.now c.args.i c.requires.ready.node c.requires.ready.kept c.requires.ready.size c.args.part.now _ _ room (grew_new c.new-list.ensures.empty c.add_own.ensures) in
     after-closing c.requires.ready.prepared c.args.args.now c.args.i c.requires.ready.node c.requires.ready.kept c.requires.ready.size _ _ _ _ g c.add_closing.ensures.is.0 c.add_closing.ensures.size c.add_closing.ensures.is.1.within
 
 pub add_own-requires-clause-ready : goal.add_own-requires-clause-ready
 add_own-requires-clause-ready c =
-    rw (c.new-list.ensures.empty.0, c.new-list.ensures.empty.1) (own_room c.requires.ready.prepared c.args.args.now c.args.i c.requires.ready.node c.requires.ready.kept c.requires.ready.size c.args.part.now c.requires.ready.room)
+    let size : length c.args.part.now ≡ 4096 = search rules in
+    let room : c.requires.ready.nodes ≤ length c.args.part.now = omega (arith, size, c.requires.ready.room) in
+    rw (c.new-list.ensures.empty.0, c.new-list.ensures.empty.1) (own_room c.requires.ready.prepared c.args.args.now c.args.i c.requires.ready.node c.requires.ready.kept c.requires.ready.size c.args.part.now room)
 
 pub add_closing-requires-clause-ready : goal.add_closing-requires-clause-ready
 add_closing-requires-clause-ready c = closing_room c.requires.ready.prepared c.args.args.now c.args.i c.requires.ready.node c.requires.ready.kept c.requires.ready.size _ _ (own (goal.at.add_closing-requires-clause-ready c).After-add_own)

@@ -2,8 +2,8 @@
 use Rattle.std.proofs.Common.{take}
 use Rattle.graph.specs.Lists.{each}
 use Rattle.passes.specs.NextBodies.{link_body}
-use Rattle.storing.specs.NodeLists.{Grew}
+use Rattle.storing.specs.NodeLists.{AddedTo}
 use Rattle.wiring.proofs.nexts.add_links.Given as goal
 
 abbrev pub invariant-loop-t : goal.invariant-loop-t
-invariant-loop-t l = Grew l.initial.list l.list (each (link_body l.falls) (take l.t-index l.row))
+invariant-loop-t l = AddedTo l.initial.list l.list (each (link_body l.falls) (take l.t-index l.row))

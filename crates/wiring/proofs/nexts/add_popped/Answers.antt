@@ -1,10 +1,7 @@
 -- `add_popped`: the row's links, joined, are the FORs that are popped. Assumes nothing.
-use Rattle.passes.specs.NextBodies.{links_added, popped_room}
-use Rattle.storing.specs.NodeLists.{grew_by}
+use Rattle.passes.specs.NextBodies.{links_joined}
+use Rattle.storing.specs.NodeLists.{added_as}
 use Rattle.wiring.proofs.nexts.add_popped.Goals as goal
 
-pub add_links-requires : goal.add_links-requires
-add_links-requires c = popped_room c.args.falls.now c.args.links.now c.args.i c.args.count _ _ c.requires
-
 pub returns : goal.returns
-returns c = grew_by (links_added c.args.falls.now c.args.links.now c.args.i c.args.count _ _ _ _) c.add_links.ensures
+returns c = added_as (links_joined _ _ _ _) (rw c.targets.ensures at c.add_links.ensures)

@@ -6,4 +6,4 @@ use Rattle.storing.specs.NodeLists.{Grew}
 use Rattle.wiring.proofs.nexts.add_slot.Given as goal
 
 abbrev pub invariant-loop-o : goal.invariant-loop-o
-invariant-loop-o l = Grew l.initial.list l.list (each (selected_body l.args l.falls l.key) (take l.o-index l.fors))
+invariant-loop-o l = Grew l.initial.list l.list (each (selected_body l.args l.g.nodes.falls.now l.key) (take l.o-index l.g.dispatched.now))

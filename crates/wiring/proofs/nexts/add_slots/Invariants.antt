@@ -6,4 +6,4 @@ use Rattle.storing.specs.NodeLists.{Grew}
 use Rattle.wiring.proofs.nexts.add_slots.Given as goal
 
 abbrev pub invariant-loop-k : goal.invariant-loop-k
-invariant-loop-k l = Grew l.initial.list l.list (each (slot_bodies l.args l.falls l.fors) (take l.k l.keys))
+invariant-loop-k l = Grew l.initial.list l.list (each (slot_bodies l.args l.g.nodes.falls.now l.g.dispatched.now) (take l.k l.keys))

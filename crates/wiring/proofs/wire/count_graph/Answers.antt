@@ -1,15 +1,18 @@
 -- `count_graph`: own edges, return targets, the RETURNs' edges. Assumes nothing.
 use borrow.Author.Rules.{rules}
-use mathlib.Core.Path.{refl}
+use lib.ListN.{length}
+use mathlib.Core.Path.{◌≡◌, refl}
 use Rattle.passes.specs.PreparedLaws.{prepared_roles}
 use Rattle.wiring.specs.CountGraph.{count_skips, count_targets, count_found, count_fits, graph_counted}
 use Rattle.wiring.proofs.wire.count_graph.Goals as goal
 
 pub store_skip_lists-own-requires : goal.store_skip_lists-own-requires
-store_skip_lists-own-requires c = count_skips c.requires _ refl
+store_skip_lists-own-requires c =
+    let size : length c.args.buffer.now ≡ 4096 = search rules in
+    count_skips c.requires _ size
 
 pub find_returns-requires : goal.find_returns-requires
-find_returns-requires c = count_found c.requires (c.store_skip_lists-own.ensures c.requires.listing c.requires.prepared (prepared_roles c.requires.prepared)) _ c.store_skip_lists-own.auto.buffer
+find_returns-requires c = count_found c.requires (c.store_skip_lists-own.ensures c.requires.listing c.requires.prepared (prepared_roles c.requires.prepared)) _ refl
 
 pub overflow_add-result : goal.overflow_add-result
 overflow_add-result c =

@@ -1,5 +1,5 @@
 -- `add_fall`: nothing, or the entry of the node. Assumes nothing.
-use Rattle.std.proofs.Common.{◌≡◌, ◌-◌, ◌*◌, get_or, arith, rules}
+use Rattle.std.proofs.Common.{◌≡◌, ◌-◌, arith}
 use Rattle.storing.specs.NodeLists.{added_none, added_as, fall_none, fall_is}
 use Rattle.storing.proofs.growing.NodeList.add_fall.Goals as goal
 
@@ -9,5 +9,4 @@ returns-in_default c = added_as (fall_none c.args.falls.now c.args.t (omega (ari
 pub returns : goal.returns
 returns c =
     let e : c.in-Some.j ≡ c.args.t - 1 = omega (arith, c.from.ensures, c.in-Some.ensures) in
-    let u : c.unwrap_or-fall.result ≡ get_or c.args.falls.now (c.in-Some.j * 3) 0 = search rules in
-    added_as (fall_is c.args.falls.now c.args.t (omega (arith, c.from.ensures, c.in-Some.ensures))) (rw (u, e) at c.add_edge.ensures)
+    added_as (fall_is c.args.falls.now c.args.t (omega (arith, c.from.ensures, c.in-Some.ensures))) (rw (c.entry.ensures, e) at c.add_edge.ensures)
