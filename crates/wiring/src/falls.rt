@@ -169,7 +169,7 @@ impl<'a, 'b> Rows<'a, 'b> {
 
     // Where the statements of all lines fall, and where their branches lead.
     // Each line's statements fall to the next line's entry. From the last line up, where that entry is at hand.
-    pub fn connect_lines(&self, falls: &mut [u16]) -> Result<(), NotFound>
+    pub(crate) fn connect_lines(&self, falls: &mut [u16]) -> Result<(), NotFound>
         requires { self.now.records.n * 3 ≤ length falls.old }
         ensures { LinesConnected self.now.entries.rows.now self.now.records.stmts.now self.now.entries.count self.now.records.n falls.old falls.new (all_found result) }
     {
