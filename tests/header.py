@@ -19,7 +19,7 @@ HEADER, RUST, WORDS = "include/flowgraph.h", "rust/src/ffi.rs", "rust/src/word.r
 LIBRARY = "crates/flowgraph/src"
 CHECK = "crates/flowgraph/src/check.rt"
 PROGRAM_LINES = "crates/basic/src/lines.rt"
-DECISIONS, ROOM, SIZES = "docs/DECISIONS.md", "crates/wiring/src/room.rt", "crates/at_limits/src/list.rt"
+DECISIONS, ROOM, SIZES = "docs/DECISIONS.md", "crates/wiring/src/room.rt", "crates/printing/src/list.rt"
 LENT = "crates/at_limits/src/lent.rt"
 COLUMNS, LIMIT_CONSTANTS, OPENING = "crates/layout/src/columns.rt", "crates/layout/src/limits.rt", "crates/tokens/src/words.rt"
 LIMITS = {"MAX_BYTES": "MAX_BYTES", "MAX_LINES": "MAX_LINES", "MAX_STATEMENTS": "MAX_STMTS", "MAX_EDGES": "MAX_EDGES", "MAX_DEPTH": "MAX_DEPTH"}
@@ -52,17 +52,17 @@ class Files:
 # ---- calls: {name: (result, [(parameter, C type), ..])}
 
 
-def c_param(name, kind):
+def c_param(files, name, kind):
     """A Rattle parameter as C has it: a slice is a pointer and a length."""
     shared = re.fullmatch(r"&(?:'\w+ )?(mut )?(.*)", kind)
     if not shared:
         return [(name, C_TYPES[kind])]
     const = "" if shared[1] else "const "
-    array = re.fullmatch(r"\[(\w+)(?:; (\d+))?\]", shared[2])
+    array = re.fullmatch(r"\[(\w+)(?:; (\w+))?\]", shared[2])
     if not array:
         return [(name, f"{const}{C_TYPES[shared[2]]} *")]
     if array[2]:
-        return [(name, f"{const}{C_TYPES[array[1]]} [{array[2]}]")]
+        return [(name, f"{const}{C_TYPES[array[1]]} [{value(files, array[2])}]")]
     return [(name, f"{const}{C_TYPES[array[1]]} *"), (f"{name}_len", "size_t")]
 
 
@@ -78,7 +78,7 @@ def rattle_calls(files):
         for mangled, name, params, result in exported:
             if not mangled:
                 raise SystemExit(f"{path}: {name} is not marked #[unsafe(no_mangle)]")
-            params = [c for p in split_params(params) for c in c_param(*re.split(r"\s*:\s*", p, maxsplit=1))]
+            params = [c for p in split_params(params) for c in c_param(files, *re.split(r"\s*:\s*", p, maxsplit=1))]
             found[name] = (C_TYPES[result] if result else "void", params)
     return found
 
@@ -128,10 +128,10 @@ def constant(text, name):
 
 
 def value(files, name):
-    """A number, or a constant of the layout: a number, or a product of such."""
+    """A number, or a constant of the sources: a number, or a product of such."""
     if name.isdigit():
         return int(name)
-    for path in (LIMIT_CONSTANTS, COLUMNS):
+    for path in (LIMIT_CONSTANTS, COLUMNS, SIZES):
         found = re.search(rf"const {name}: \w+ = ([^;]+);", files[path])
         if found:
             return math.prod(value(files, factor) for factor in found[1].split(" * "))
@@ -144,7 +144,7 @@ def entries_by_room(files):
     for row in re.findall(r"^.*\.min\(.*$", files[ROOM], flags=re.M):
         for table, by in re.findall(r"\b([a-z]+)(?: / (\w+))?", row):
             if table in TABLES:
-                found[table] = constant(files[COLUMNS], by) if by else 1
+                found[table] = value(files, by) if by else 1
     return found
 
 
@@ -159,7 +159,7 @@ def decided_tables(files):
 
 def page_size(files):
     """The room that programs lend for a printed graph, which is proved to suffice."""
-    return int(re.search(r"\bout: &mut \[u8; (\d+)\]", files[SIZES])[1])
+    return constant(files[SIZES], "MAX_PRINTED")
 
 
 def opening_words(files):
@@ -299,7 +299,7 @@ DAMAGE = [
     (RUST, r"counts: \*mut \[u32; 6\]", "counts: *mut [u32; 5]"),
     (RUST, r"pub const PAGE_SIZE: usize = 1048576", "pub const PAGE_SIZE: usize = 1048577"),
     (RUST, r"page: \*mut \[u8; 1048576\]", "page: *mut [u8; 1048575]"),
-    (CHECK, r"page: &mut \[u8; 1048576\]", "page: &mut [u8; 1048577]"),
+    (CHECK, r"page: &mut \[u8; MAX_PRINTED\]", "page: &mut [u8; MAX_BYTES]"),
     (CHECK, r"    graph: &\[u8\],\n", ""),
     (REASONS, r"WrongRow = 32,", "WrongRow = 36,"),
     (REASONS, r"EndsEarly = 33,", "EndsEarly = 36,"),
@@ -307,7 +307,7 @@ DAMAGE = [
     (WORDS, r'    For "for",\n    Next "next",', '    Next "next",\n    For "for",'),
     (ROOM, r"falls / FALL_ENTRIES", "falls / LIST_ENTRIES"),
     (LENT, r"\[u16; FALLS_LENGTH\]", "[u16; LISTS_LENGTH]"),
-    (SIZES, r"out: &mut \[u8; 1048576\]", "out: &mut [u8; 1048577]"),
+    (SIZES, r"MAX_PRINTED: usize = 1048576", "MAX_PRINTED: usize = 1048577"),
     (DECISIONS, r"\| `lists` \| 4 a", "| `lists` | 5 a"),
     (OPENING, r'\(b"if", Kind', '(b"ig", Kind'),
     (COLUMNS, r"const INDEX: usize = 3", "const INDEX: usize = 4"),

@@ -12,7 +12,7 @@ use tables::counts::Counts;
 // The entry of the first of n rows with that number, a node or none. The numbers need not ascend.
 // Kept: a loop; tried `iter().find(..)`, by which 2,000 questions for entries took 16 % more instructions.
 fn first_entry(entries: &[u16], n: usize, number: u16) -> Option<usize>
-    requires { n * 2 ≤ length entries.now }
+    requires { n * ENTRY_ENTRIES ≤ length entries.now }
     ensures { node_of result ≡ entry_in (entries_in n entries.now) number }
 {
     let (rows, _) = entries.as_chunks::<ENTRY_ENTRIES>();
@@ -35,8 +35,7 @@ pub fn ask_entry(counts: &[u32; 6], entries: &[u16], number: u16) -> Result<Opti
         return Err(Reason::Outside.at(0));
     }
     match first_entry(entries, n, number) {
-        None => Ok(None),
-        Some(id) if id < used.nodes() => Ok(Some(id)),
-        Some(_) => Err(Reason::Outside.at(0)),
+        Some(id) if used.nodes() <= id => Err(Reason::Outside.at(0)),
+        entry => Ok(entry),
     }
 }

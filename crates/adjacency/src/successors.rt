@@ -4,21 +4,21 @@ ghost use Rattle.tables.specs.Told.{told};
 ghost use Rattle.adjacency.specs.ListsAt.{list_at, successors_at, predecessors_at, part_of};
 ghost use Rattle.adjacency.specs.Sides.{column_of, side_at};
 
-use layout::columns::LIST_ENTRIES;
+use layout::columns::{LIST_ENTRIES, PRED_START};
 use layout::refusals::{Reason, Refusal};
 use tables::counts::Counts;
 
-// Which of a node's lists, by the column where its start stands (0 or `PRED_START`); its length stands next.
+// Which of a node's lists, by the column where its start stands; its length stands next.
 #[derive(Clone, Copy)]
 enum Side {
     Successors = 0,
-    Predecessors = 2,
+    Predecessors = PRED_START as isize,
 }
 
 impl Side {
     fn column(self) -> usize
         ensures value { result ≡ column_of self }
-        ensures few { result ≤ 2 }
+        ensures few { result ≤ PRED_START }
     {
         self as usize
     }

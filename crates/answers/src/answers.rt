@@ -13,7 +13,7 @@ use crate::print::{put_entry, put_list_row, put_stmt};
 use crate::words::{ByNumber, Form, FrameWords, frame_words, open_row};
 use formatting::page::Page;
 use frame_lists::frame::FrameTables;
-use layout::limits::MAX_STMTS;
+use layout::limits::{MAX_ARGS, MAX_STMTS};
 use layout::refusals::{Reason, Refusal};
 use layout::zeroing::all_of;
 use questions::entry::line_first;
@@ -23,7 +23,11 @@ use questions::successors::{ask_predecessors, ask_successors};
 use tokens::arguments::{Arguments, check_all, single_number};
 use tokens::numbers::number;
 
+// A line index and a path: as many numbers as a statement may have, and one before them.
+const MAX_PATH_WORDS: usize = MAX_ARGS + 1;
+
 // By the opening word; n is a line's number for an entry, else a node.
+// Kept: here and below functions of a page and of tables, no methods: each is named by what it puts, and writes the page.
 fn put_by_number(
     page: &mut Page<'_>,
     g: &QuestionTables<'_>,
@@ -76,6 +80,8 @@ fn put_path(page: &mut Page<'_>, g: &QuestionTables<'_>, numbers: &[u16]) -> Res
 }
 
 // L N .., of row k of the questions: 2 goes before 3, and 3 before 8.
+// Kept: `k` goes along, here and below: were rows judged first and refusals given their place by the caller, what was
+// judged would be an enum of all questions, a path's numbers among them.
 fn answer_path(
     page: &mut Page<'_>,
     g: &QuestionTables<'_>,
@@ -86,10 +92,10 @@ fn answer_path(
 {
     let words = check_all(s, Arguments::Numbers);
     words.verdict.map_err(|reason| reason.at(k))?;
-    if 65 < words.count {
+    if MAX_PATH_WORDS < words.count {
         return Err(Reason::TooWide.at(k));
     }
-    let mut room = all_of::<u16, 65>(0);
+    let mut room = all_of::<u16, MAX_PATH_WORDS>(0);
     fill_numbers(s, &mut room);
     put_path(page, g, &room[..words.count])
 }

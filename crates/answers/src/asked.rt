@@ -1,8 +1,8 @@
 // The tables that questions are answered from, whoever wrote them.
 
 // Kept: beside `Graph`, which has two more that no question reads: whoever asks would have to name these too.
-// Kept: no `FrameTables` among them; tried, and the borrow checker does not cover that one filled from tables of their
-// own lifetimes.
+// Kept: no `FrameTables` among them: tried; the borrow checker does not cover a struct filled from tables whose lifetimes
+// differ.
 #[derive(Clone, Copy)]
 pub struct QuestionTables<'a> {
     pub counts: &'a [u32; 6],

@@ -8,13 +8,10 @@ ghost use Rattle.answers.specs.AnswersAt.{entry_row};
 use formatting::page::Page;
 
 // A word, each number after a space, and the end of the row.
-// Kept: by `Page`'s pieces, as `put_returns` of `printing`: a method of `Page` would have these two callers,
-// each with a text of its own for its row, and save four lines.
 pub(crate) fn put_list_row(page: &mut Page<'_>, word: &[u8], list: &[u16])
     ensures { Wrote page.old page.new (list_row word.now list.now) }
 {
-    page.put_bytes(word);
-    page.put_spaced(list);
+    page.put_list(word, list);
     page.put_bytes(b")\n");
 }
 

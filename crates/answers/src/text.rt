@@ -11,27 +11,22 @@ use crate::answers::answer_row;
 use crate::asked::QuestionTables;
 use formatting::page::Page;
 use layout::refusals::Reason;
-use tokens::scan::{equal, find};
+use tokens::scan::{equal, first_row};
 
 // "What stands before the first row that is exactly `(questions` is the listing",
 // and what stands behind that row, if there is one, are the questions.
-// Kept: `loop`, since where a row stands is what is asked, and what no byte 10 ends is no row:
-// pieces of `split` tell neither, and those of `split_inclusive` would still be added up in an `at` beside them.
+// Kept: `while let`, as the reader's `judge`: what is left where the row stands is asked for.
 pub fn split_questions(text: &[u8]) -> (&[u8], Option<&[u8]>)
     ensures { TextSplit text.now result.0.now result.1 }
 {
-    let mut at: usize = 0;
-    loop {
-        let e = find(&text[at..], b'\n');
-        let to = at + e;
-        if to == text.len() {
-            return (text, None);
+    let mut left = text;
+    while let Some((row, rest)) = first_row(left) {
+        if equal(row, b"(questions") {
+            return (&text[..text.len() - left.len()], Some(rest));
         }
-        if equal(&text[at..to], b"(questions") {
-            return (&text[..at], Some(&text[to + 1..]));
-        }
-        at = to + 1;
+        left = rest;
     }
+    (text, None)
 }
 
 // How many bytes the listing has, for whoever asks for these alone.
@@ -42,29 +37,24 @@ pub fn listing_length(text: &[u8]) -> usize
 }
 
 // Rows of questions, as far as the `)` that closes them.
-// Kept: `loop`, as `split_questions`: what stands behind a row, or that nothing does, decides.
+// Kept: k counted by hand, as i in the reader's `judge`.
 fn put_rows(page: &mut Page<'_>, text: &[u8], g: &QuestionTables<'_>)
     ensures { Wrote page.old page.new (answer_rows (answer_of g.now) 0 (split 10 text.now)) }
 {
     let mut k: usize = 0;
-    let mut at: usize = 0;
-    loop {
-        let e = find(&text[at..], b'\n');
-        let to = at + e;
-        if to == text.len() {
-            return page.put_refusal(Reason::NotAForm.at(k));
-        }
-        let row = &text[at..to];
+    let mut left = text;
+    while let Some((row, rest)) = first_row(left) {
         if equal(row, b")") {
-            if to + 1 == text.len() {
+            if rest.is_empty() {
                 return;
             }
             return page.put_refusal(Reason::NotAForm.at(k + 1));
         }
         answer_row(page, g, k, row);
         k += 1;
-        at = to + 1;
+        left = rest;
     }
+    page.put_refusal(Reason::NotAForm.at(k))
 }
 
 // The same into a lent part; answers where the next byte would go.

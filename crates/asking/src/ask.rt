@@ -9,6 +9,7 @@ use formatting::page::print_refusal;
 use wiring::build::build;
 
 // The rows of questions, if there are any.
+// Kept: a length, as `formatting::page::print_bytes` answers.
 fn answer_questions(out: &mut [u8], rows: Option<&[u8]>, g: &QuestionTables<'_>) -> usize
     ensures { QuestionsAnswered rows.entry (answer_of g.now) out.old out.new result }
 {
@@ -21,7 +22,7 @@ fn answer_questions(out: &mut [u8], rows: Option<&[u8]>, g: &QuestionTables<'_>)
 // Builds the graph of a text's listing in the lent tables and answers its questions, or gives the listing's refusal;
 // answers where the next byte would go (the length of `out` if it did not fit).
 // Inlined, so that a program that makes the tables as zeros does not zero them twice.
-// Kept: the C interface lends the tables one by one.
+// Kept: the tables one by one, as `build` takes them.
 // Kept: a length, as `answer_rows`.
 #[inline(always)]
 pub fn ask_text(

@@ -6,6 +6,30 @@ use layout::limits::{
     MAX_STMTS, STMTS_LENGTH,
 };
 
+// Calls a routine with all tables between an input and what it writes.
+// Kept: a macro, since a method that is handed the routine as a closure would have the eleven tables named at each call
+// again.
+#[macro_export]
+macro_rules! with_tables {
+    ($routine:path, $input:expr, $t:ident, $out:expr) => {
+        $routine(
+            $input,
+            &mut $t.counts,
+            &mut $t.lines,
+            &mut $t.stmts,
+            &mut $t.args,
+            &mut $t.entries,
+            &mut $t.falls,
+            &mut $t.links,
+            &mut $t.lists,
+            &mut $t.returns,
+            &mut $t.succ,
+            &mut $t.pred,
+            $out,
+        )
+    };
+}
+
 // What a program lends, on its own stack.
 #[derive(Drop)]
 pub struct Tables {

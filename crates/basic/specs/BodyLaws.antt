@@ -12,6 +12,8 @@ use Rattle.program_files.specs.Program.{Placed, Cover, behind, counts, counted, 
 use Rattle.basic.specs.Actions.{coded}
 use Rattle.basic.specs.Bodies.{summary}
 use Rattle.basic.specs.Fuel.{rest_shorter, action_shorter, action_more, pass_shorter}
+use Rattle.basic.specs.Rests as rests
+use Rattle.basic.specs.Rests.{Rest, rest-zero, pass_rest, zero_at}
 use Rattle.basic.specs.declared.actions.Action.TheVariants as coding
 use Rattle.basic.specs.declared.bodies.Body.{Body}
 use Rattle.basic.specs.declared.found.Lack.{Lack}
@@ -284,6 +286,31 @@ left_does b v c x m h =
 
 pub left-holds : (b : ℕ) (x m : List Placed) → found coding.Holds x ≡ map_found coded (action (length m) b m) → length x ≤ length m
 left-holds b x m h = action-rest b m x (holds_is (action (length m) b m) x h)
+
+-- ---- where the line's zero stands
+
+zero_left : (k b : ℕ) (x m : List Placed) (o : definition.Action) → action k b m ≡ found o x → zero_at x ≡ zero_at m
+zero_left k b x m o e = let r : Rest x m = rw e at (rests.action-rest k b m) in rest-zero r
+
+pub zero_does : (b v c : ℕ) (x m : List Placed) → found (coding.Does v c) x ≡ map_found coded (action (length m) b m) → zero_at (pass_over x) ≡ zero_at m
+zero_does b v c x m h =
+    let g = does_is (action (length m) b m) v c x h in
+    rest-zero (pass_rest x) ∙ zero_left (length m) b x m (does g.stmt) g.is
+
+pub zero_jumps : (b v : ℕ) (x m : List Placed) → found (coding.Jumps v) x ≡ map_found coded (action (length m) b m) → zero_at x ≡ zero_at m
+zero_jumps b v x m h = zero_left (length m) b x m (jumps v) (jumps_is (action (length m) b m) v x h)
+
+pub zero_holds : (b : ℕ) (x m : List Placed) → found coding.Holds x ≡ map_found coded (action (length m) b m) → zero_at x ≡ zero_at m
+zero_holds b x m h = zero_left (length m) b x m holds (holds_is (action (length m) b m) x h)
+
+module _ (p b : ℕ) (m l : List Placed) (e : l ≡ (p, b) ∷ m) where
+  pub zero_here : b ≡ 0 → zero_at l ≡ p
+  unfolding zero_at
+  zero_here h = rw (e, eq-eqb b 0 h) refl
+
+  pub zero_on : (b ≡ 0 → ⊥) → zero_at l ≡ zero_at m
+  unfolding zero_at
+  zero_on h = rw (e, ne_eqb b 0 h) refl
 
 -- a flag, with a test
 pub flagged : (a : Bool) (n m : ℕ) → (a || ltb m n) ≡ (a || not (leb n m))

@@ -1,5 +1,6 @@
 -- Lists of numbers and of keys, item by item. Assumes nothing.
-use Rattle.std.specs.Prelude.{ℕ, zero, suc, ◌+◌, ◌-◌, ◌≤◌, ◌<◌, ◌≡◌, ◌⊎◌, ◌++◌, refl, List, [], ◌∷◌, map, Bool, true, false, eqb, length, get_or, take, drop}
+use Rattle.std.specs.Prelude.{ℕ, zero, suc, ◌+◌, ◌-◌, ◌≤◌, ◌<◌, ◌≡◌, ◌⊎◌, ◌++◌, refl, List, [], ◌∷◌, map, Bool, true, false, eqb, length, get_or, take, drop, Result, Ok, Err}
+use Rattle.std.specs.Result.{IsOk}
 use Rattle.std.proofs.Common.{inl, inr, sym, ◌∙◌, ap, arith, not-suc-le-zero, add-one, length-drop, drop-cons}
 use Rattle.std.proofs.Math.ListN.{set}
 use borrow.Author.Tests.{ne_eqb, eqb-true}
@@ -10,8 +11,11 @@ use Rattle.program_files.specs.Program.{Placed, Found, found, lacks, map_found, 
 use Rattle.basic.specs.Cursors.{ahead, IsNext}
 use Rattle.basic.specs.declared.cursors.Cursor.{Cursor}
 use Rattle.basic.specs.declared.cursors.Token.{Token}
+use Rattle.basic.specs.declared.found.Found as declared
+use Rattle.basic.specs.declared.found.Lack.{Lack}
 use Rattle.basic.specs.declared.items.Item.{Item}
 use Rattle.basic.specs.declared.items.Item.TheVariants.{Number, Name}
+use Rattle.basic.specs.Found.{found_by}
 use Rattle.basic.specs.Tokens.{next_is}
 use Rattle.basic.specs.Items.{item, items_from, values_in, put_front, Counts}
 use Rattle.basic.specs.Fuel.{rest_shorter, map_shorter, Shortens, number_shortens, name_shortens, several_more}
@@ -198,6 +202,11 @@ listed-count n (lacks p) h = absurd h
 
 pub listed-lacking : (vs : List ℕ) (x : Found (List ℕ)) (p : ℕ) → IsListed vs x → x ≡ lacks p → ⊥
 listed-lacking vs x p h e = rw e at h
+
+-- an item of those is found
+pub listed_found : (vs : List ℕ) (b : Item) (T : Cursor → List Placed) (l : List Placed) (r : Result (declared.Found ℕ) Lack) → found_by T r ≡ item b l → IsListed vs (items_from b l) → IsOk r
+listed_found vs b T l (Ok f) e h = refl
+listed_found vs b T l (Err q) e h = absurd (listed-lacking vs (items_from b l) q.place h (items_lacking b l q.place (sym e)))
 
 -- vs: all that were found at first, of which those from i on are found now
 module _ (vs : List ℕ) (i : ℕ) (inside : i < length vs) (x : Found (List ℕ)) (h : IsListed (drop i vs) x) (v : ℕ) where

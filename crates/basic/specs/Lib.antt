@@ -1,3 +1,4 @@
+pub mod Covered
 pub mod Covers
 pub mod Cursors
 pub mod Found

@@ -1,5 +1,5 @@
 -- A line behind others: what its numbers, its statements and its offences decide. Assumes nothing.
-use Rattle.std.specs.Prelude.{ℕ, suc, ◌+◌, ◌*◌, ◌-◌, ◌≤◌, ◌<◌, ◌≡◌, refl, List, [], ◌∷◌, ◌++◌, Bool, true, false, ◌&&◌, ◌||◌, eqb, ltb, leb, length, get_or, take, drop, Some, None, Result, Ok, Err}
+use Rattle.std.specs.Prelude.{ℕ, suc, ◌+◌, ◌*◌, ◌-◌, ◌≤◌, ◌<◌, ◌≡◌, refl, List, [], ◌∷◌, ◌++◌, Bool, true, false, ◌&&◌, ◌||◌, eqb, ltb, leb, length, get_or, drop, Some, None, Result, Ok, Err}
 use Rattle.std.specs.Prelude as std
 use Rattle.std.proofs.Common.{arith, sym, ap, ◌∙◌, subst, drop-cons, drop-drop}
 use Rattle.std.proofs.Math.Option.{Option, none, some}
@@ -8,9 +8,8 @@ use Rattle.listings.specs.Bytes.{pick}
 use Rattle.listings.specs.Listing.{Stmts, ∅, Lines, line, total, count, size}
 use Rattle.listings.specs.ListingText.{last_number}
 use Rattle.listings.specs.Read.{Outcome, Answer, check, ascends, taken, refused, refusal}
-use Rattle.listings.specs.Scan.{index_of, rest_all}
 use Rattle.program_files.specs.Program.{Offence, Body, body, bad, join_go, body_of, shallow, short, lacking, sooner, soonest, offences, with_line, stmts_in, judged, lines_from}
-use Rattle.basic.specs.Lines.{maybe, word_at, bytes_at, stmts_at, zero_at, offence_of, offence_in, IsLeast, WithTold, Kept, LineTold}
+use Rattle.basic.specs.Lines.{maybe, word_at, bytes_at, stmts_at, zero_at, offence_of, offence_in, EndsLine, IsLeast, WithTold, Kept, LineTold}
 use Rattle.basic.specs.Bodies.{summary}
 use Rattle.basic.specs.Fuel.{body_more}
 use Rattle.basic.specs.Cursors.{join-length}
@@ -232,8 +231,7 @@ module _ (f : List ℕ) (p n : ℕ) (inside : p + 3 < length f) (link : word_at 
         (ms, u.1, λ k. rw z (line_taken f p inside link k ls good.0 clean good.1 ms (subst (λ (x : ℕ). with_line ls x good.0 ≡ taken ms) number u.0)))
 
 -- where the next line's link stands
-pub kept_at : (f : List ℕ) (p z : ℕ) (r : Result Taken Refusal) → z ≡ index_of 0 (take (length f - (p + 4)) (drop (p + 4) f)) → Kept (p + 4 + z + 1) r → Kept (p + 5 + zero_at f p) r
+pub kept_at : (f : List ℕ) (p z : ℕ) (r : Result Taken Refusal) → EndsLine f p z → Kept (z + 1) r → Kept (p + 5 + zero_at f p) r
 kept_at f p z r e h =
-    let g : z ≡ zero_at f p = e ∙ ap (index_of 0) (rest_all f (p + 4)) in
-    let i : p + 4 + z + 1 ≡ p + 5 + zero_at f p = omega arith in
+    let i : z + 1 ≡ p + 5 + zero_at f p = omega arith in
     subst (λ (x : ℕ). Kept x r) i h

@@ -55,6 +55,10 @@ stmts_at f p = body_of (length (bytes_at f p)) ∅ (join_go (bytes_at f p))
 abbrev pub zero_at : List ℕ → ℕ → ℕ
 zero_at f p = index_of 0 (drop (p + 4) f)
 
+-- z is that place in the file
+abbrev pub EndsLine : List ℕ → ℕ → ℕ → Type 0
+EndsLine f p z = z ≡ p + 4 + zero_at f p
+
 -- whether the file ends before that zero
 abbrev pub IsCut : List ℕ → ℕ → std.Option Refusal → Type 0
 IsCut f p o = offence_in o ≡ soonest (pick (ltb (zero_at f p) (length (drop (p + 4) f))) [] ((length f, 33) ∷ []))

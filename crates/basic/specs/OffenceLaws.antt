@@ -1,6 +1,7 @@
 -- The least offence of a line, part by part. Assumes nothing.
-use Rattle.std.specs.Prelude.{ℕ, suc, ◌+◌, ◌≤◌, ◌<◌, ◌≡◌, refl, List, [], ◌∷◌, ◌++◌, Bool, true, false, ◌&&◌, ◌||◌, eqb, ltb, leb, length, drop, Some, None, Result, Ok, Err}
+use Rattle.std.specs.Prelude.{ℕ, suc, ◌+◌, ◌-◌, ◌≤◌, ◌<◌, ◌≡◌, refl, List, [], ◌∷◌, ◌++◌, Bool, true, false, ◌&&◌, ◌||◌, eqb, ltb, leb, length, take, drop, Some, None, Result, Ok, Err}
 use Rattle.std.specs.Bool.{then_some}
+use Rattle.std.specs.List.{list_any}
 use Rattle.std.proofs.Common.{arith, sym, ap, ◌∙◌, inl, inr, length-drop}
 use Rattle.std.proofs.Math.Option.{Option, none, some}
 use borrow.Author.Tests.{lt-ltb, le-ltb, le-leb, lt-leb, eq-eqb, ne_eqb, ltb-true, ltb-false, eqb-true, eqb-false}
@@ -8,11 +9,11 @@ use Rattle.std.specs.Prelude.{cond}
 use Rattle.std.proofs.Common.{Less, Equal, Greater}
 use Rattle.std.specs.Ordering.{is_lt, is_some_and, nat_cmp, partial_lt, partial_ordering_then}
 use Rattle.listings.specs.Bytes.{pick}
-use Rattle.listings.specs.Scan.{index_le}
+use Rattle.listings.specs.Scan.{index_of, index_le}
 use Rattle.listings.specs.Tests.{both_true, either_true}
 use Rattle.program_files.specs.Program as definition
 use Rattle.program_files.specs.Program.{Placed, Offence, Cover, uncovered, behind, counts, counted, sooner, soonest, foreign, lacking, body, bad, offences}
-use Rattle.basic.specs.Lines.{IsCut, first_foreign, with_foreign, bytes_at, zero_at}
+use Rattle.basic.specs.Lines.{EndsLine, IsCut, first_foreign, with_foreign, bytes_at, zero_at}
 use Rattle.layout.specs.Refusals.{refusal_at}
 use Rattle.layout.specs.declared.refusals.Reason.TheVariants as reason
 use Rattle.basic.specs.Bodies.{summary}
@@ -98,6 +99,34 @@ module _ (p b : ℕ) (m : List Placed) where
   unfolding first_foreign
   foreign_on h = rw (ne_eqb b 100 h) refl
 
+-- none among a line's bytes is none among those that count
+module _ (p b : ℕ) (r : List Placed) (h : first_foreign r ≡ None) where
+  foreign_none : (t u : Bool) → u ≡ false → eqb b 100 ≡ u → first_foreign (pick t ((p, b) ∷ r) r) ≡ None
+  unfolding first_foreign
+  foreign_none true u i e = rw (e, i) h
+  foreign_none false u i e = h
+
+foreign_absent : (c : Cover) (p : ℕ) (l : List ℕ) → list_any (λ y. eqb y 100) (take (index_of 0 l) l) ≡ false → first_foreign (counted c p l) ≡ None
+unfolding counted index_of first_foreign
+foreign_absent c p [] h = refl
+foreign_absent c p (b ∷ l) h = go (eqb b 0) (λ e. foreign_absent (behind c b) (suc p) l e) h
+  where
+    some_more : (u : Bool) → eqb b 100 ≡ u → (list_any (λ y. eqb y 100) (take (index_of 0 l) l) ≡ false → first_foreign (counted (behind c b) (suc p) l) ≡ None)
+        → u || list_any (λ y. eqb y 100) (take (index_of 0 l) l) ≡ false → first_foreign (pick (counts c b) ((p, b) ∷ counted (behind c b) (suc p) l) (counted (behind c b) (suc p) l)) ≡ None
+    some_more true i f e = absurd cc
+    some_more false i f e = foreign_none p b (counted (behind c b) (suc p) l) (f e) (counts c b) false refl i
+
+    go : (t : Bool) → (list_any (λ y. eqb y 100) (take (index_of 0 l) l) ≡ false → first_foreign (counted (behind c b) (suc p) l) ≡ None)
+        → list_any (λ y. eqb y 100) (take (pick t 0 (suc (index_of 0 l))) (b ∷ l)) ≡ false
+        → first_foreign (pick t ((p, 0) ∷ []) (pick (counts c b) ((p, b) ∷ counted (behind c b) (suc p) l) (counted (behind c b) (suc p) l))) ≡ None
+    go true f e = refl
+    go false f e = some_more (eqb b 100) refl f e
+
+pub none_foreign : (f : List ℕ) (p z : ℕ) → EndsLine f p z → list_any (λ y. eqb y 100) (take (z - (p + 4)) (drop (p + 4) f)) ≡ false → None ≡ first_foreign (bytes_at f p)
+none_foreign f p z e h =
+    let k : z - (p + 4) ≡ zero_at f p = omega arith in
+    sym (foreign_absent uncovered (p + 4) (drop (p + 4) f) (rw k at h))
+
 -- ---- the choice of two
 
 module _ (p n q m : ℕ) where
@@ -153,20 +182,23 @@ part_whole : (e : ℕ) (t : Bool) → t ≡ true → none ≡ soonest (pick t []
 unfolding soonest
 part_whole e t h = rw h refl
 
--- z: where the line's zero stands
-pub cut_at : (f : List ℕ) (p z : ℕ) → p + 3 < length f → z ≡ zero_at f p → IsCut f p (then_some (eqb (p + 4 + z) (length f)) (refusal_at reason.EndsEarly (length f)))
-cut_at f p z h e = go (eqb (p + 4 + z) (length f)) refl
+pub cut_at : (f : List ℕ) (p z : ℕ) → p + 3 < length f → EndsLine f p z → IsCut f p (then_some (eqb z (length f)) (refusal_at reason.EndsEarly (length f)))
+cut_at f p z h e = go (eqb z (length f)) refl
   where
-    go : (t : Bool) → eqb (p + 4 + z) (length f) ≡ t → IsCut f p (then_some t (refusal_at reason.EndsEarly (length f)))
+    go : (t : Bool) → eqb z (length f) ≡ t → IsCut f p (then_some t (refusal_at reason.EndsEarly (length f)))
     go true g =
         let a = length-drop (p + 4) f in
-        let b = eqb-true (p + 4 + z) (length f) g in
+        let b = eqb-true z (length f) g in
         part_cut (length f) _ (le-ltb (zero_at f p) (length (drop (p + 4) f)) (omega arith))
     go false g =
         let a = length-drop (p + 4) f in
         let b = index_le 0 (drop (p + 4) f) in
-        let c : p + 4 + z ≡ length f → ⊥ = λ i. absurd (let k = sym (eq-eqb (p + 4 + z) (length f) i) ∙ g in cc) in
+        let c : z ≡ length f → ⊥ = λ i. absurd (let k = sym (eq-eqb z (length f) i) ∙ g in cc) in
         part_whole (length f) _ (lt-ltb (zero_at f p) (length (drop (p + 4) f)) (omega arith))
+
+-- that zero stands in the file or at its end
+pub zero_within : (f : List ℕ) (p z : ℕ) → p + 3 < length f → EndsLine f p z → z ≤ length f
+zero_within f p z h e = omega (arith, length-drop (p + 4) f, index_le 0 (drop (p + 4) f))
 
 pub part_foreign : (f : List ℕ) (p : ℕ) (x : List Offence) → soonest (foreign (bytes_at f p) ++ x) ≡ with_foreign (first_foreign (bytes_at f p)) (soonest x)
 part_foreign f p x = foreign-first uncovered (p + 4) (drop (p + 4) f) x

@@ -50,7 +50,7 @@ fn seek_at(file: &[u8], c: Cursor, x: u8, y: u8) -> Result<Found<u8>, Lack>
     }
 }
 
-// "The rest of a statement is passed over": up to its colon or zero.
+// "The rest of a statement is passed over": up to its colon or zero, at which the cursor stands that is answered.
 // Kept: `loop`, as `seek_at`.
 pub(crate) fn pass_over(file: &[u8], c: Cursor) -> Cursor
     ensures { tokens_at file.now result ≡ pass_over (tokens_at file.now c) }
@@ -59,7 +59,7 @@ pub(crate) fn pass_over(file: &[u8], c: Cursor) -> Cursor
     loop {
         let t = token_at(file, at);
         match t.byte {
-            0 | b':' => return at,
+            0 | b':' => return Cursor::uncovered(t.place),
             _ => at = t.next,
         }
     }
@@ -86,12 +86,12 @@ fn list_at(word: u16, n: Result<Found<usize>, Lack>) -> Result<Found<Action>, La
     })
 }
 
-// A word alone.
-fn bare_at(word: u16, c: Cursor) -> Result<Found<Action>, Lack>
-    ensures { result ≡ Ok (record { value = Action.Does word 0; next = c }) }
+// A word with so many arguments; what follows begins at c.
+fn does_at(word: u16, count: usize, c: Cursor) -> Result<Found<Action>, Lack>
+    ensures { result ≡ Ok (record { value = Action.Does word count; next = c }) }
 {
     Ok(Found {
-        value: Action::Does { word, count: 0 },
+        value: Action::Does { word, count },
         next: c,
     })
 }
@@ -152,13 +152,7 @@ fn next_at(file: &[u8], c: Cursor) -> Result<Found<Action>, Lack>
     if is_capital(t.byte) {
         return list_at(NEXT, count_items(file, c, Item::Name));
     }
-    Ok(Found {
-        value: Action::Does {
-            word: NEXT,
-            count: 1,
-        },
-        next: c,
-    })
+    does_at(NEXT, 1, c)
 }
 
 // RUN with a number or without.
@@ -169,17 +163,18 @@ fn run_at(file: &[u8], c: Cursor) -> Result<Found<Action>, Lack>
     if is_digit(t.byte) {
         return one_at(RUN, line_number(file, c));
     }
-    bare_at(RUN, c)
+    does_at(RUN, 0, c)
 }
 
 // The statement whose first byte is b; c stands behind it.
+// Kept: a byte and a cursor, not a `Token`: `put_args` has them from a row's `Simple`, which keeps no place.
 pub fn action_at(file: &[u8], b: u8, c: Cursor) -> Result<Found<Action>, Lack>
     ensures { found_by (tokens_at file.now) result ≡ map_found coded (action (fuel file.now c) b (tokens_at file.now c)) }
 {
     match b {
-        codes::END | codes::STOP => bare_at(STOP, c),
-        codes::RETURN => bare_at(RETURN, c),
-        codes::CLR => bare_at(CLR, c),
+        codes::END | codes::STOP => does_at(STOP, 0, c),
+        codes::RETURN => does_at(RETURN, 0, c),
+        codes::CLR => does_at(CLR, 0, c),
         codes::FOR => one_at(FOR, key_at(file, c)),
         codes::NEXT => next_at(file, c),
         codes::GOTO => one_at(GOTO, line_number(file, c)),
@@ -187,11 +182,12 @@ pub fn action_at(file: &[u8], b: u8, c: Cursor) -> Result<Found<Action>, Lack>
         codes::RUN => run_at(file, c),
         codes::IF => if_at(file, c),
         codes::ON => on_at(file, c),
-        _ => bare_at(PLAIN, c),
+        _ => does_at(PLAIN, 0, c),
     }
 }
 
 // The arguments of that statement at the front of `part`, as far as it goes: numbers, a name's key, 0 for `*`.
+// Kept: a byte and a cursor, as `action_at`.
 pub fn put_args(file: &[u8], b: u8, c: Cursor, part: &mut [u64])
     ensures { part.new ≡ put_front (args_in (action (fuel file.now c) b (tokens_at file.now c))) part.old }
 {

@@ -56,10 +56,8 @@ fn store_items(file: &[u8], c: Cursor, kind: Item, count: usize, part: &mut [u64
     let mut at = c;
     let room = count.min(part.len());
     for slot in &mut part[..room] {
-        let Ok(item) = item_at(file, at, kind) else {
-            // It was counted.
-            unreachable!();
-        };
+        // It was counted.
+        let item = item_at(file, at, kind).unwrap();
         *slot = item.value;
         at = token_at(file, item.next).next;
     }

@@ -4,7 +4,7 @@ ghost use Rattle.program_files.specs.Program.{read_program};
 ghost use Rattle.basic.specs.Judge.{judged_of, told_of};
 
 use super::line::{Counted, LineAt};
-use super::lines::{judge_line, word_at};
+use super::lines::word_at;
 use layout::limits::MAX_BYTES;
 use layout::refusals::{Reason, Refusal};
 
@@ -40,7 +40,7 @@ pub fn judge_program(file: &[u8]) -> Result<Counts, Refusal>
         if len < at + 4 {
             return Err(Reason::EndsEarly.at(len));
         }
-        let line = judge_line(&LineAt { file, at }, s)?;
+        let line = LineAt { file, at }.judge(s)?;
         s = line.counted;
         at = line.next;
     }

@@ -6,6 +6,7 @@ pub mod actions;
 mod bodies;
 mod codes;
 pub mod cover;
+mod covered;
 pub mod cursors;
 pub mod found;
 mod items;

@@ -1,5 +1,6 @@
 // A line of a file, and what is counted of those before it.
 ghost use Rattle.std.specs.Prelude.{◌≡◌, ◌+◌, ◌<◌, ◌≤◌, None, length};
+ghost use Rattle.layout.specs.declared.limits.TheConstants.{MAX_STMTS};
 
 // Behind some lines: the last number, if there is a line; how many lines and statements.
 #[derive(Clone, Copy)]
@@ -7,7 +8,7 @@ pub(crate) struct Counted {
     pub(crate) last: Option<u16>,
     pub(crate) lines: usize,
     pub(crate) stmts: usize,
-    ghost little: { stmts ≤ 4096 },
+    ghost little: { stmts ≤ MAX_STMTS },
 }
 
 impl Counted {

@@ -4,12 +4,13 @@ ghost use Rattle.std.proofs.Math.Option.{some};
 ghost use Rattle.listings.specs.Listing.{Stmts};
 ghost use Rattle.program_files.specs.Program.{sooner};
 ghost use Rattle.program_files.specs.Program as definition;
-ghost use Rattle.basic.specs.Bodies.{summary};
+ghost use Rattle.basic.specs.Bodies.{summary, AtMost};
 ghost use Rattle.basic.specs.Cursors.{raw_at};
-ghost use Rattle.basic.specs.Lines.{LineTold, WithTold, Kept, IsCut, IsInnerLeast, IsLeast, word_at, bytes_at, with_foreign, zero_at, first_foreign, offence_of, offence_in};
+ghost use Rattle.basic.specs.Lines.{LineTold, WithTold, Kept, EndsLine, IsInnerLeast, IsLeast, word_at, bytes_at, stmts_at, with_foreign, zero_at, first_foreign, offence_of, offence_in};
 
 use super::bodies::{Body, judge_body};
 use super::codes;
+use super::covered::zero_from;
 use super::cursors::{Cursor, counted_at};
 use super::found::Lack;
 use super::line::{Counted, LineAt, Taken};
@@ -17,7 +18,6 @@ use super::numbers::MAX_LINE_NUMBER;
 use layout::limits::{MAX_LINES, MAX_STMTS};
 use layout::refusals::{Reason, Refusal};
 use tokens::numbers::ascends;
-use tokens::scan::find;
 
 // The word of two bytes at a place, the low byte first.
 pub(crate) fn word_at(file: &[u8], at: usize) -> u16
@@ -58,95 +58,118 @@ fn sooner(a: Refusal, b: Option<Refusal>) -> Refusal
     a
 }
 
-// An offence, or the first 64 hexadecimal of the line.
-fn or_foreign(line: &LineAt<'_>, o: Option<Refusal>) -> Option<Refusal>
-    ensures { offence_in result ≡ with_foreign (first_foreign (bytes_at line.now.file.now line.now.at)) (offence_in o) }
-{
-    let from = Cursor::uncovered(line.at + 4);
-    match foreign_at(line.file, from) {
-        Some(place) => Some(sooner(Reason::ForeignByte.at(place), o)),
-        None => o,
+// Kept: the zero and its fact in four contracts: a struct of them would be made for these four alone.
+impl LineAt<'_> {
+    // The statements of the line, and where its zero stands: beside them, since it is asked of a line that lacks
+    // something too.
+    fn body(&self) -> (Result<Body, Lack>, usize)
+        ensures told { result.0 ≡ summary (stmts_at self.now.file.now self.now.at) }
+        ensures few { AtMost (length self.now.file.now) result.0 }
+        ensures zero { EndsLine self.now.file.now self.now.at result.1 }
+    {
+        let from = self.at + 4;
+        match judge_body(self.file, Cursor::uncovered(from)) {
+            Ok(whole) => (Ok(whole.body), whole.zero),
+            Err(lack) => (Err(lack), zero_from(self.file, from)),
+        }
+    }
+
+    // The first 64 hexadecimal that counts of the line, whose zero stands at `zero`.
+    // Whether it has one at all is asked first: most lines have none, and std's `contains` takes many bytes at once.
+    fn foreign(&self, zero: usize) -> Option<usize>
+        requires { EndsLine self.now.file.now self.now.at zero }
+        ensures { result ≡ first_foreign (bytes_at self.now.file.now self.now.at) }
+    {
+        let from = self.at + 4;
+        if !self.file[from..zero].contains(&codes::FOREIGN) {
+            return None;
+        }
+        foreign_at(self.file, Cursor::uncovered(from))
+    }
+
+    // An offence, or the first 64 hexadecimal of the line.
+    // Kept: a `match`, whose arms are the definition's cases (`with_foreign`); below, `or_foreign` in both arms: the offence by
+    // a name of its own would be as many lines.
+    fn or_foreign(&self, zero: usize, o: Option<Refusal>) -> Option<Refusal>
+        requires { EndsLine self.now.file.now self.now.at zero }
+        ensures { offence_in result ≡ with_foreign (first_foreign (bytes_at self.now.file.now self.now.at)) (offence_in o) }
+    {
+        match self.foreign(zero) {
+            Some(place) => Some(sooner(Reason::ForeignByte.at(place), o)),
+            None => o,
+        }
+    }
+
+    // The least offence of the line, but for its number's. body: its statements.
+    fn inner_offence(&self, zero: usize, body: Result<Body, Lack>) -> Option<Refusal>
+        requires { EndsLine self.now.file.now self.now.at zero }
+        ensures { IsInnerLeast self.now.file.now self.now.at body result }
+    {
+        let end = self.file.len();
+        let cut = (zero == end).then_some(Reason::EndsEarly.at(end));
+        match body {
+            Err(lack) => self.or_foreign(zero, Some(sooner(lack.into(), cut))),
+            Ok(_) => self.or_foreign(zero, cut),
+        }
+    }
+
+    // The least offence of the line, whose number is n.
+    fn offence(&self, n: u16, zero: usize, body: Result<Body, Lack>) -> Option<Refusal>
+        requires { EndsLine self.now.file.now self.now.at zero }
+        ensures { IsLeast self.now.file.now self.now.at n body result }
+    {
+        let o = self.inner_offence(zero, body);
+        if MAX_LINE_NUMBER < u32::from(n) {
+            return Some(sooner(Reason::Lacking.at(self.at + 2), o));
+        }
+        o
+    }
+
+    // The line, whose link is not 0, behind others. Its place in a refusal by 4 to 8 is its index.
+    pub(crate) fn judge(&self, s: Counted) -> Result<Taken, Refusal>
+        requires linked { word_at self.now.file.now self.now.at ≡ 0 → ⊥ }
+        requires short { length self.now.file.now ≤ 65536 }
+        ensures told { LineTold self.now.file.now self.now.at s result }
+        ensures kept { Kept (self.now.at + 5 + zero_at self.now.file.now self.now.at) result }
+    {
+        let n = word_at(self.file, self.at + 2);
+        let (body, zero) = self.body();
+        if let Some(offence) = self.offence(n, zero, body) {
+            return Err(offence);
+        }
+        s.with_line(n, body?, zero + 1)
     }
 }
 
-// The least offence of the line, but for its number's. body: its statements; cut: that the file ends before its zero.
-fn inner_offence(
-    line: &LineAt<'_>,
-    body: Result<Body, Lack>,
-    cut: Option<Refusal>,
-) -> Option<Refusal>
-    requires ends { IsCut line.now.file.now line.now.at cut }
-    ensures { IsInnerLeast line.now.file.now line.now.at body result }
-{
-    match body {
-        Err(lack) => or_foreign(line, Some(sooner(lack.into(), cut))),
-        Ok(_) => or_foreign(line, cut),
+impl Counted {
+    // "within a line 4 to 8 come after 33 to 35, lowest first"
+    fn with_line(self, n: u16, body: Body, next: usize) -> Result<Taken, Refusal>
+        requires few { body.stmts ≤ 65536 }
+        ensures told { (st : Stmts) → Ok body ≡ summary (definition.body st) → WithTold self n st result }
+        ensures kept { Kept next result }
+    {
+        if !ascends(self.last, n) {
+            return Err(Reason::LineOrder.at(self.lines));
+        }
+        if MAX_LINES <= self.lines {
+            return Err(Reason::TooManyLines.at(self.lines));
+        }
+        if MAX_STMTS < self.stmts + body.stmts {
+            return Err(Reason::TooManyStatements.at(self.lines));
+        }
+        if body.deep {
+            return Err(Reason::TooDeep.at(self.lines));
+        }
+        if body.long {
+            return Err(Reason::TooWide.at(self.lines));
+        }
+        Ok(Taken {
+            counted: Counted {
+                last: Some(n),
+                lines: self.lines + 1,
+                stmts: self.stmts + body.stmts,
+            },
+            next,
+        })
     }
-}
-
-// The least offence of the line, whose number is n.
-fn offence_at(
-    line: &LineAt<'_>,
-    n: u16,
-    body: Result<Body, Lack>,
-    cut: Option<Refusal>,
-) -> Option<Refusal>
-    requires ends { IsCut line.now.file.now line.now.at cut }
-    ensures { IsLeast line.now.file.now line.now.at n body result }
-{
-    let o = inner_offence(line, body, cut);
-    if MAX_LINE_NUMBER < u32::from(n) {
-        return Some(sooner(Reason::Lacking.at(line.at + 2), o));
-    }
-    o
-}
-
-// The line, whose link is not 0, behind others. Its place in a refusal by 4 to 8 is its index.
-pub(crate) fn judge_line(line: &LineAt<'_>, s: Counted) -> Result<Taken, Refusal>
-    requires linked { word_at line.now.file.now line.now.at ≡ 0 → ⊥ }
-    requires short { length line.now.file.now ≤ 65536 }
-    ensures told { LineTold line.now.file.now line.now.at s result }
-    ensures kept { Kept (line.now.at + 5 + zero_at line.now.file.now line.now.at) result }
-{
-    let n = word_at(line.file, line.at + 2);
-    let from = line.at + 4;
-    let body = judge_body(line.file, Cursor::uncovered(from));
-    let zero = find(&line.file[from..], 0);
-    let end = line.file.len();
-    let cut = (from + zero == end).then_some(Reason::EndsEarly.at(end));
-    if let Some(offence) = offence_at(line, n, body, cut) {
-        return Err(offence);
-    }
-    with_line(n, body?, from + zero + 1, s)
-}
-
-// "within a line 4 to 8 come after 33 to 35, lowest first"
-fn with_line(n: u16, body: Body, next: usize, s: Counted) -> Result<Taken, Refusal>
-    requires few { body.stmts ≤ 65536 }
-    ensures told { (st : Stmts) → Ok body ≡ summary (definition.body st) → WithTold s n st result }
-    ensures kept { Kept next result }
-{
-    if !ascends(s.last, n) {
-        return Err(Reason::LineOrder.at(s.lines));
-    }
-    if MAX_LINES <= s.lines {
-        return Err(Reason::TooManyLines.at(s.lines));
-    }
-    if MAX_STMTS < s.stmts + body.stmts {
-        return Err(Reason::TooManyStatements.at(s.lines));
-    }
-    if body.deep {
-        return Err(Reason::TooDeep.at(s.lines));
-    }
-    if body.long {
-        return Err(Reason::TooWide.at(s.lines));
-    }
-    Ok(Taken {
-        counted: Counted {
-            last: Some(n),
-            lines: s.lines + 1,
-            stmts: s.stmts + body.stmts,
-        },
-        next,
-    })
 }

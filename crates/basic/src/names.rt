@@ -7,10 +7,10 @@ ghost use Rattle.basic.specs.Found.{found_by};
 
 use super::cursors::{Cursor, token_at};
 use super::found::{Found, Lack};
-use tokens::names::{is_capital, is_letter, is_suffix};
+use tokens::names::{KEY_BASE, is_capital, is_letter, is_suffix};
 
 // Below this weight a character is one of the two that the cut keeps.
-const KEPT: u64 = 4096;
+const KEPT: u64 = KEY_BASE * KEY_BASE;
 
 // The key of the name at c: of its first two characters and its kind.
 // Kept: `while`: a letter says where the next one is looked for, and the cursor behind the last is answered too; an
@@ -29,7 +29,7 @@ pub(crate) fn key_at(file: &[u8], c: Cursor) -> Result<Found<u64>, Lack>
     while is_letter(t.byte) {
         if weight < KEPT {
             key += weight * u64::from(t.byte - 32);
-            weight *= 64;
+            weight *= KEY_BASE;
         }
         next = t.next;
         t = token_at(file, next);

@@ -12,8 +12,8 @@ use tokens::numbers::{is_digit, with_digit};
 pub(crate) const MAX_LINE_NUMBER: u32 = 63999;
 
 // "a line number exceeds 63999": its place is its first byte.
-// Kept: `while`: a digit says where the next one is looked for, and the cursor behind the last is answered too; an
-// iterator of digits would be a struct of token and cursor whose `next` does what a turn does here.
+// Kept: `while`, as `names::key_at`.
+// Kept: `u64`, as the arguments of the lent table are: numbers and keys are found by one type.
 pub(crate) fn line_number(file: &[u8], c: Cursor) -> Result<Found<u64>, Lack>
     ensures { found_by (tokens_at file.now) result ≡ line_number (tokens_at file.now c) }
 {

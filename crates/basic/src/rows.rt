@@ -6,10 +6,10 @@ ghost use Rattle.basic.specs.Rows.{Yields, StartsRows, FirstOf, IsDue, ends_then
 ghost use Rattle.basic.specs.Rests.{zero_at, Ordered};
 
 use super::actions::{Action, action_at, pass_over};
+use super::covered::zero_from;
 use super::cursors::{Cursor, token_at};
 use super::lines::word_at;
 use super::sources::{FileRow, Simple, Source, Sourced, Stage};
-use tokens::scan::find;
 
 // Before the first row of a file.
 pub fn first_row() -> Source
@@ -22,15 +22,17 @@ pub fn first_row() -> Source
     }
 }
 
-// The same place, where something else is due.
-// Kept: field by field, since Rattle has no `..s` for a struct with a ghost field.
-fn staged(s: Source, stage: Stage) -> Source
-    ensures { result ≡ record s { stage = stage } }
-{
-    Source {
-        stage,
-        at: s.at,
-        ends: s.ends,
+impl Source {
+    // The same place, where something else is due.
+    // Kept: field by field, since Rattle has no `..s` for a struct with a ghost field.
+    fn staged(self, stage: Stage) -> Source
+        ensures { result ≡ record self { stage = stage } }
+    {
+        Source {
+            stage,
+            at: self.at,
+            ends: self.ends,
+        }
     }
 }
 
@@ -73,7 +75,7 @@ fn link_behind(file: &[u8], c: Cursor) -> usize
     if file.len() <= c.at {
         return c.at;
     }
-    c.at + find(&file[c.at..], 0) + 1
+    zero_from(file, c.at) + 1
 }
 
 // A row `)`; behind the last of them the next line is due.
@@ -171,17 +173,17 @@ pub fn row_at(file: &[u8], s: Source) -> Option<Sourced>
     match s.stage {
         Stage::Module => Some(Sourced {
             row: FileRow::Module,
-            next: staged(s, Stage::Line),
+            next: s.staged(Stage::Line),
         }),
         Stage::Line => Some(line_row_at(file, s.at.at)),
         Stage::Statements => Some(statement_row_at(file, s)),
         Stage::To(number) => Some(Sourced {
             row: FileRow::To(number),
-            next: staged(s, Stage::Ends),
+            next: s.staged(Stage::Ends),
         }),
         Stage::Stmts => Some(Sourced {
             row: FileRow::Stmts,
-            next: staged(s, Stage::Statements),
+            next: s.staged(Stage::Statements),
         }),
         Stage::Ends => Some(end_row_at(file, s)),
         Stage::Ended => None,

@@ -5,6 +5,8 @@ use super::cursors::Cursor;
 
 // What is due next: the module's row, a line or the module's end, a statement or the end of its list, the row of a jump
 // branch to a number, `(stmts`, rows `)`, nothing.
+// Kept: `Ended`, and no `Option` of a source: `row_at`, which is public, answers none there, so that callers have one
+// loop.
 #[derive(Clone, Copy)]
 pub enum Stage {
     Module,
@@ -38,6 +40,8 @@ pub struct Simple {
 
 // A row: the module's, without handlers; a line's; a statement's; `(if`, `(to N)`, `(stmts`, `)`.
 // Kept: `End` is the row `)`, and not that there is none.
+// Kept: beside reader's `Row`: a file has no handlers, no IFELSE and no RCOMP, and its statements say where their
+// arguments stand.
 #[derive(Clone, Copy)]
 pub enum FileRow {
     Module,

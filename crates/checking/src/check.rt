@@ -7,23 +7,23 @@ ghost use Rattle.passes.specs.TableForms.{sizes_of};
 ghost use Rattle.wiring.specs.BuiltAnswer.{built_told};
 ghost use Rattle.checking.specs.Checking.{concluded, GraphChecked};
 
-use comparing::compare::{Comparing, begin, feed, rule};
+use comparing::compare::Comparing;
 use layout::refusals::Refusal;
-use printing::list::list_graph;
+use printing::list::{MAX_PRINTED, list_graph};
 
 // The graph given ends: the listing's refusal, whatever was given, or what the comparison says.
 pub fn conclude(built: Result<(), Refusal>, s: Comparing, due: &[u8]) -> Result<(), Refusal>
     ensures { verdict_of result ≡ concluded (built_told built) (standing_of s) due.now }
 {
     built?;
-    rule(s, due)
+    s.rule(due)
 }
 
 // The graph given beside the one due, as it stands on a page.
 fn check_page(built: Result<(), Refusal>, due: &[u8], graph: &[u8]) -> Result<(), Refusal>
     ensures { verdict_of result ≡ concluded (built_told built) (fed due.now (same 0 start) graph.now) due.now }
 {
-    let s = feed(begin(), due, graph);
+    let s = Comparing::begin().feed(due, graph);
     conclude(built, s, due)
 }
 
@@ -43,7 +43,7 @@ pub fn check_graph(
     returns: &mut [u16],
     succ: &mut [u16],
     pred: &mut [u16],
-    page: &mut [u8; 1048576],
+    page: &mut [u8; MAX_PRINTED],
 ) -> Result<(), Refusal>
     ensures { GraphChecked text.now graph.now (sizes_of lines.old stmts.old args.old entries.old falls.old links.old lists.old returns.old succ.old pred.old) counts.new lines.new stmts.new args.new entries.new falls.new links.new lists.new returns.new succ.new pred.new page.old page.new result }
 {

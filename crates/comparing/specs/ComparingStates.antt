@@ -20,8 +20,8 @@ use Rattle.layout.specs.declared.refusals.Refusal.{Refusal}
 use Rattle.layout.specs.Refusals.{number_of}
 
 unfoldable pub standing_of : Comparing → Standing
-standing_of (Same at j) = same at (reading_of j)
-standing_of (Differs at j) = differs at (reading_of j)
+standing_of (Same r) = same r.at (reading_of r.judge)
+standing_of (Differs r) = differs r.at (reading_of r.judge)
 standing_of (Ended k at) = ended (number_of k) at
 
 -- the number and the place of each verdict

@@ -129,7 +129,6 @@ front_passed b (c ∷ f) = go (passes c b) refl (front_passed b f)
         rw q (record { step_is = list_passed f b c e ∙ p.step_is; stops = p.stops })
     go false e p = record { step_is = refl; stops = λ d t q. let z : c ≡ d = cc in rw (← z) e }
 
--- the first place at which a test passes, or the end
 -- ---- one byte outside numbers, behind the lists passed
 
 module _ (f : List ℕ) (b : ℕ) (r : List ℕ) (p : Passed f b r) where

@@ -1,69 +1,35 @@
 // The graph given beside the graph due, byte by byte; the first row that is not the one due decides.
 ghost use Rattle.std.specs.Prelude.{◌≡◌, true, ◌<◌, ◌≤◌, eqb, length, drop};
 ghost use Rattle.listings.specs.Bytes.{pick};
-ghost use Rattle.layout.specs.Refusals.{number_of};
-ghost use Rattle.comparing.specs.Judging.{start, met};
+ghost use Rattle.comparing.specs.Judging.{start};
 ghost use Rattle.comparing.specs.JudgeStates.{reading_of};
-ghost use Rattle.comparing.specs.Comparing.{same, begins, rows_number, differing, fed_byte, fed, place_at, ruled};
+ghost use Rattle.comparing.specs.Comparing.{same, begins, differing, fed_byte, fed, place_at, ruled};
 ghost use Rattle.comparing.specs.ComparingStates.{standing_of, verdict_of};
 ghost use Rattle.comparing.specs.Feeding.{RowsDue, FedTo};
 
 use crate::judge::Judge;
 use layout::refusals::{Reason, Refusal};
 
-// Of the graph due `at` bytes were met. All that was given is due so far; this row is not the one due; a row was not,
-// and has ended.
+// How many bytes of the graph due were met, and where the row stands beside its form.
+#[derive(Clone, Copy)]
+pub struct Reached {
+    pub at: usize,
+    pub judge: Judge,
+}
+
+// All that was given is due so far; this row is not the one due; a row was not, and has ended.
 #[derive(Clone, Copy)]
 pub enum Comparing {
-    Same { at: usize, judge: Judge },
-    Differs { at: usize, judge: Judge },
+    Same(Reached),
+    Differs(Reached),
     Ended { reason: Reason, at: usize },
 }
 
-// Before the first byte.
-pub fn begin() -> Comparing
-    ensures { standing_of result ≡ same 0 start }
-{
-    Comparing::Same {
-        at: 0,
-        judge: Judge::Start,
-    }
-}
-
-// Why a row is refused that is not the one due.
-fn row_reason(judge: Judge) -> Reason
-    ensures { number_of result ≡ rows_number (reading_of judge) }
-{
-    if judge.in_form() {
-        return Reason::WrongRow;
-    }
-    Reason::NotARow
-}
-
-// A byte of a row that is not the one due.
-fn differ(at: usize, judge: Judge, b: u8) -> Comparing
-    ensures { standing_of result ≡ differing at (reading_of judge) b }
-{
-    if b == b'\n' {
-        return Comparing::Ended {
-            reason: row_reason(judge),
-            at,
-        };
-    }
-    Comparing::Differs {
-        at,
-        judge: judge.judge_byte(b),
-    }
-}
-
-// The judge behind a byte that is due: a row's end begins the next row.
-fn next_judge(judge: Judge, b: u8) -> Judge
-    ensures { reading_of result ≡ pick (eqb b 10) start (met (reading_of judge) b) }
-{
-    if b == b'\n' {
-        return Judge::Start;
-    }
-    judge.judge_byte(b)
+// What was found so far, and what is left of a piece.
+#[derive(Clone, Copy)]
+struct Fed<'a> {
+    state: Comparing,
+    left: &'a [u8],
 }
 
 // Whether byte b is the next one due.
@@ -73,26 +39,6 @@ fn is_due(due: &[u8], at: usize, b: u8) -> bool
     ensures { (result ≡ begins (drop at due.now) b) × (result ≡ true → at < length due.now) }
 {
     due.get(at) == Some(&b)
-}
-
-// One byte more, where all was as due.
-fn feed_same(at: usize, judge: Judge, due: &[u8], b: u8) -> Comparing
-    ensures { standing_of result ≡ fed_byte due.now (same at (reading_of judge)) b }
-{
-    if is_due(due, at, b) {
-        return Comparing::Same {
-            at: at + 1,
-            judge: next_judge(judge, b),
-        };
-    }
-    differ(at, judge, b)
-}
-
-// What was found so far, and what is left of a piece.
-#[derive(Clone, Copy)]
-struct Fed<'a> {
-    state: Comparing,
-    left: &'a [u8],
 }
 
 // Where the last row ended, behind byte b, the last of i.
@@ -106,6 +52,8 @@ fn row_behind(b: u8, i: usize, m: usize) -> usize
 }
 
 // How many bytes of a piece that begins a row are rows due. Such rows need no judge.
+// Kept: by place, at each byte of the graph due as `is_due` reads it: it can end before the piece does, where a `zip` would
+// stop as behind the last byte.
 fn rows_due(at: usize, due: &[u8], piece: &[u8]) -> usize
     ensures { RowsDue due.now at piece.now result }
 {
@@ -122,64 +70,6 @@ fn rows_due(at: usize, due: &[u8], piece: &[u8]) -> usize
     m
 }
 
-// Where all was as due: rows that are due at once, else one byte.
-fn feed_rows<'a>(at: usize, judge: Judge, due: &[u8], piece: &'a [u8]) -> Fed<'a>
-    requires { 0 < length piece.now }
-    ensures { FedTo due.now (same at (reading_of judge)) piece.now (standing_of result.state) result.left.now }
-{
-    let m = if judge.is_start() {
-        rows_due(at, due, piece)
-    } else {
-        0
-    };
-    if m == 0 {
-        return Fed {
-            state: feed_same(at, judge, due, piece[0]),
-            left: &piece[1..],
-        };
-    }
-    Fed {
-        state: Comparing::Same {
-            at: at + m,
-            judge: Judge::Start,
-        },
-        left: &piece[m..],
-    }
-}
-
-// At least one byte more; behind a row that was not due nothing counts.
-fn feed_more<'a>(s: Comparing, due: &[u8], piece: &'a [u8]) -> Fed<'a>
-    requires { 0 < length piece.now }
-    ensures { FedTo due.now (standing_of s) piece.now (standing_of result.state) result.left.now }
-{
-    match s {
-        Comparing::Same { at, judge } => feed_rows(at, judge, due, piece),
-        Comparing::Differs { at, judge } => Fed {
-            state: differ(at, judge, piece[0]),
-            left: &piece[1..],
-        },
-        Comparing::Ended { reason, at } => Fed {
-            state: Comparing::Ended { reason, at },
-            left: &[],
-        },
-    }
-}
-
-// One piece more of the graph given.
-// Kept: `while`, since a turn takes one byte or many rows: an iterator of such steps would be no plainer.
-pub fn feed(s: Comparing, due: &[u8], piece: &[u8]) -> Comparing
-    ensures { standing_of result ≡ fed due.now (standing_of s) piece.now }
-{
-    let mut r = s;
-    let mut left = piece;
-    while !left.is_empty() {
-        let f = feed_more(r, due, left);
-        r = f.state;
-        left = f.left;
-    }
-    r
-}
-
 // The row in which byte `at` of the graph due stands: so many end before it.
 fn place_at(due: &[u8], at: usize) -> usize
     ensures { result ≡ place_at due.now at }
@@ -187,26 +77,132 @@ fn place_at(due: &[u8], at: usize) -> usize
     due.iter().take(at).filter(|b| **b == b'\n').count()
 }
 
-// The graph given ends, and all was as due.
-fn rule_same(at: usize, judge: Judge, due: &[u8]) -> Result<(), Refusal>
-    ensures { verdict_of result ≡ ruled due.now (same at (reading_of judge)) }
-{
-    if !judge.is_start() {
-        return Err(Reason::NotARow.at(place_at(due, at)));
+impl Reached {
+    // A byte of a row that is not the one due.
+    #[tactic(auto, using(std::proofs::lemmas::Bool::Decides::nat_tests), unfolding(crate::specs::Comparing::differing, crate::specs::ComparingStates::standing_of))]
+    fn differ(self, b: u8) -> Comparing
+        ensures { standing_of result ≡ differing self.at (reading_of self.judge) b }
+    {
+        if b == b'\n' {
+            return Comparing::Ended {
+                reason: self.judge.row_reason(),
+                at: self.at,
+            };
+        }
+        Comparing::Differs(Reached {
+            at: self.at,
+            judge: self.judge.judge_byte(b),
+        })
     }
-    if due.len() <= at {
-        return Ok(());
+
+    // One byte more, where all was as due.
+    #[tactic(auto, unfolding(crate::specs::Comparing::fed_byte, crate::specs::ComparingStates::standing_of))]
+    fn feed_same(self, due: &[u8], b: u8) -> Comparing
+        ensures { standing_of result ≡ fed_byte due.now (same self.at (reading_of self.judge)) b }
+    {
+        if is_due(due, self.at, b) {
+            return Comparing::Same(Reached {
+                at: self.at + 1,
+                judge: self.judge.next_judge(b),
+            });
+        }
+        self.differ(b)
     }
-    Err(Reason::WrongRow.at(place_at(due, at)))
+
+    // Where all was as due: rows that are due at once, else one byte.
+    fn feed_rows<'a>(self, due: &[u8], piece: &'a [u8]) -> Fed<'a>
+        requires { 0 < length piece.now }
+        ensures { FedTo due.now (same self.at (reading_of self.judge)) piece.now (standing_of result.state) result.left.now }
+    {
+        let m = if self.judge.is_start() {
+            rows_due(self.at, due, piece)
+        } else {
+            0
+        };
+        if m == 0 {
+            return Fed {
+                state: self.feed_same(due, piece[0]),
+                left: &piece[1..],
+            };
+        }
+        Fed {
+            state: Comparing::Same(Reached {
+                at: self.at + m,
+                judge: Judge::Start,
+            }),
+            left: &piece[m..],
+        }
+    }
+
+    // The graph given ends, and all was as due.
+    #[tactic(auto, using(crate::specs::ComparingStates::nothing_left, crate::specs::ComparingStates::something_left), unfolding(crate::specs::Comparing::ruled, crate::specs::ComparingStates::verdict_of))]
+    fn rule_same(self, due: &[u8]) -> Result<(), Refusal>
+        ensures { verdict_of result ≡ ruled due.now (same self.at (reading_of self.judge)) }
+    {
+        if !self.judge.is_start() {
+            return Err(Reason::NotARow.at(place_at(due, self.at)));
+        }
+        if due.len() <= self.at {
+            return Ok(());
+        }
+        Err(Reason::WrongRow.at(place_at(due, self.at)))
+    }
 }
 
-// The graph given ends: right, or refused at the first row that is not the one due.
-pub fn rule(s: Comparing, due: &[u8]) -> Result<(), Refusal>
-    ensures { verdict_of result ≡ ruled due.now (standing_of s) }
-{
-    match s {
-        Comparing::Same { at, judge } => rule_same(at, judge, due),
-        Comparing::Differs { at, judge: _ } => Err(Reason::NotARow.at(place_at(due, at))),
-        Comparing::Ended { reason, at } => Err(reason.at(place_at(due, at))),
+impl Comparing {
+    // Before the first byte.
+    #[tactic(auto, unfolding(crate::specs::JudgeStates::reading_of, crate::specs::ComparingStates::standing_of))]
+    pub fn begin() -> Comparing
+        ensures { standing_of result ≡ same 0 start }
+    {
+        Comparing::Same(Reached {
+            at: 0,
+            judge: Judge::Start,
+        })
+    }
+
+    // At least one byte more; behind a row that was not due nothing counts.
+    fn feed_more<'a>(self, due: &[u8], piece: &'a [u8]) -> Fed<'a>
+        requires { 0 < length piece.now }
+        ensures { FedTo due.now (standing_of self) piece.now (standing_of result.state) result.left.now }
+    {
+        match self {
+            Comparing::Same(r) => r.feed_rows(due, piece),
+            Comparing::Differs(r) => Fed {
+                state: r.differ(piece[0]),
+                left: &piece[1..],
+            },
+            Comparing::Ended { .. } => Fed {
+                state: self,
+                left: &[],
+            },
+        }
+    }
+
+    // One piece more of the graph given.
+    // Kept: `while`, since a turn takes one byte or many rows: an iterator of such steps would be no plainer.
+    pub fn feed(self, due: &[u8], piece: &[u8]) -> Comparing
+        ensures { standing_of result ≡ fed due.now (standing_of self) piece.now }
+    {
+        let mut s = self;
+        let mut left = piece;
+        while !left.is_empty() {
+            let f = s.feed_more(due, left);
+            s = f.state;
+            left = f.left;
+        }
+        s
+    }
+
+    // The graph given ends: right, or refused at the first row that is not the one due.
+    #[tactic(auto, unfolding(crate::specs::Comparing::ruled, crate::specs::ComparingStates::standing_of, crate::specs::ComparingStates::verdict_of))]
+    pub fn rule(self, due: &[u8]) -> Result<(), Refusal>
+        ensures { verdict_of result ≡ ruled due.now (standing_of self) }
+    {
+        match self {
+            Comparing::Same(r) => r.rule_same(due),
+            Comparing::Differs(r) => Err(Reason::NotARow.at(place_at(due, r.at))),
+            Comparing::Ended { reason, at } => Err(reason.at(place_at(due, at))),
+        }
     }
 }

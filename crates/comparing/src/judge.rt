@@ -1,16 +1,21 @@
 // Whether a row is one that a graph prints, judged byte by byte: its length has no limit.
 ghost use Rattle.std.specs.Prelude.{◌≡◌, true, ◌||◌, [], eqb};
 ghost use Rattle.listings.specs.Rows.{is_digit};
+ghost use Rattle.listings.specs.Bytes.{pick};
+ghost use Rattle.layout.specs.Refusals.{number_of};
 ghost use Rattle.graph.specs.Check.{outside, inside, begun, outside_step, digit_step, step, may_end};
 ghost use Rattle.comparing.specs.Judging.{start, beside, chosen, met, good, stepped_to};
-ghost use Rattle.comparing.specs.Comparing.{is_start};
+ghost use Rattle.comparing.specs.Comparing.{is_start, rows_number};
 ghost use Rattle.comparing.specs.JudgeStates.{passes, Passed, left_of, reading_of};
 
 use layout::limits::MAX_NUMBER;
+use layout::refusals::Reason;
 use tokens::numbers::{is_digit, with_digit};
 
 // What is left of a form, where `#` is a number, `*` numbers with a space before each and `%` numbers with a space
 // between them; in a list, one more number may come first.
+// Kept: forms are texts with three signs, as the definition's `row_forms` are, from which they are checked.
+// Kept: `list` beside what is left, and no `Option` of it: both are read at each byte.
 #[derive(Clone, Copy)]
 pub struct Place {
     left: &'static [u8],
@@ -18,6 +23,7 @@ pub struct Place {
 }
 
 // Nothing read; a bracket; no form; beside a form: outside numbers, where one must begin, in one of that value.
+// Kept: `Lost`, and no `Result` of a judge: a state as the others, in which the row is read to its end.
 #[derive(Clone, Copy)]
 pub enum Judge {
     Start,
@@ -126,7 +132,7 @@ fn only_lists(left: &[u8]) -> bool
 
 impl Place {
     // A byte that begins a number; this is the place behind it.
-    #[tactic(auto, unfolding(crate::specs::JudgeStates::reading_of, graph::specs::Check::begun, crate::specs::Judging::stepped_to))]
+    #[tactic(auto, using(listing_laws::specs::NumberText::digit_range), unfolding(crate::specs::JudgeStates::reading_of, graph::specs::Check::begun, crate::specs::Judging::stepped_to))]
     fn begin_number(self, b: u8) -> Judge
         ensures { reading_of result ≡ stepped_to (begun (left_of self) b) }
     {
@@ -140,6 +146,7 @@ impl Place {
     }
 
     // A byte outside numbers: a list that is open goes on, or the form does.
+    #[tactic(auto, using(crate::specs::JudgeStates::list_goes_on, crate::specs::JudgeStates::form_goes_on))]
     fn outside_step(self, b: u8) -> Judge
         ensures { reading_of result ≡ stepped_to (outside_step (left_of self) b) }
     {
@@ -203,7 +210,30 @@ impl Judge {
         }
     }
 
+    // The judge behind a byte that is due: a row's end begins the next row.
+    #[tactic(auto, using(std::proofs::lemmas::Bool::Decides::nat_tests), unfolding(crate::specs::JudgeStates::reading_of))]
+    pub(crate) fn next_judge(self, b: u8) -> Judge
+        ensures { reading_of result ≡ pick (eqb b 10) start (met (reading_of self) b) }
+    {
+        if b == b'\n' {
+            return Judge::Start;
+        }
+        self.judge_byte(b)
+    }
+
+    // Why a row is refused that is not the one due.
+    #[tactic(auto, unfolding(crate::specs::Comparing::rows_number))]
+    pub(crate) fn row_reason(self) -> Reason
+        ensures { number_of result ≡ rows_number (reading_of self) }
+    {
+        if self.in_form() {
+            return Reason::WrongRow;
+        }
+        Reason::NotARow
+    }
+
     // Whether nothing of a row was read.
+    #[tactic(auto, using(crate::specs::ComparingStates::begun_lem), unfolding(crate::specs::Comparing::is_start, crate::specs::JudgeStates::reading_of))]
     pub(crate) fn is_start(self) -> bool
         ensures { result ≡ is_start (reading_of self) }
     {

@@ -8,44 +8,32 @@ ghost use Rattle.answers.specs.Flowask.{ask_text, flowask};
 
 use asking::ask::ask_text;
 use at_limits::lent::Tables;
+use at_limits::with_tables;
 use filling::read_full;
 use formatting::page::print_refusal;
 use layout::refusals::Reason;
 use std::io::Write;
 
 // So many bytes a text may have, questions and all.
-const MAX_BYTES: usize = 262144;
+const MAX_TEXT: usize = 262144;
 
 // So many bytes its answers may have together.
 const MAX_ANSWERS: usize = 2097152;
 
 // With tables that suffice at all limits.
+// Kept: a length, here and below, as `formatting::page::print_bytes` answers.
 fn ask_at_limits(text: &[u8], out: &mut [u8]) -> usize
     ensures { Puts out.old 0 out.new result (ask_text limits text.now) }
 {
     let mut t = Tables::zeroed();
-    ask_text(
-        text,
-        &mut t.counts,
-        &mut t.lines,
-        &mut t.stmts,
-        &mut t.args,
-        &mut t.entries,
-        &mut t.falls,
-        &mut t.links,
-        &mut t.lists,
-        &mut t.returns,
-        &mut t.succ,
-        &mut t.pred,
-        out,
-    )
+    with_tables!(ask_text, text, t, out)
 }
 
 // There is room for a byte more than the answers may have, so that the length tells whether they are too long.
-fn ask(text: &[u8], out: &mut [u8; 2097153]) -> usize
+fn ask(text: &[u8], out: &mut [u8; MAX_ANSWERS + 1]) -> usize
     ensures { Whole out.new result (flowask text.now) }
 {
-    if MAX_BYTES < text.len() {
+    if MAX_TEXT < text.len() {
         return print_refusal(out, Reason::TextTooLong.at(0));
     }
     let r = ask_at_limits(text, out);
@@ -58,8 +46,8 @@ fn ask(text: &[u8], out: &mut [u8; 2097153]) -> usize
 // The text ends where the input does; one that goes on past the room for it is refused by its length.
 // Kept: these lines stand in four programs; `filling` says why.
 fn main(rt: HostRuntime) {
-    let mut text = [0u8; 262145];
-    let mut out = [0u8; 2097153];
+    let mut text = [0u8; MAX_TEXT + 1];
+    let mut out = [0u8; MAX_ANSWERS + 1];
     let n = read_full(&mut rt.stdin(), &mut text);
     let r = ask(&text[..n], &mut out);
     let _ = rt.stdout().write_all(&out[..r]);

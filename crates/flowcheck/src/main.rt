@@ -6,38 +6,22 @@ ghost use Rattle.checking.specs.Pieces.{SomeFed, SomeChecked};
 
 use at_limits::list::list_text;
 use checking::check::conclude;
-use checking::verdict::show_verdict;
-use comparing::compare::{Comparing, begin, feed};
+use checking::verdict::{MAX_ROW, show_verdict};
+use comparing::compare::Comparing;
 use filling::read_full;
+use layout::limits::MAX_BYTES;
+use printing::list::MAX_PRINTED;
 use std::env::FillError;
 use std::fs::File;
 use std::io;
 use std::io::{Read, Write};
 use std::rt::Env;
 
-// Are there two arguments behind the program's name? One that is too long for any name is an argument.
-fn are_two(rt: &HostRuntime) -> bool {
-    let mut name = [0u8; 4096];
-    if let Err(FillError::NotPresent) = rt.arg(2, &mut name) {
-        return false;
-    }
-    matches!(rt.arg(3, &mut name), Err(FillError::NotPresent))
-}
+// Room for every name that std can open.
+const MAX_NAME: usize = 4096;
 
-// Says on standard error what became of the file of that name.
-fn fail_name(rt: &HostRuntime, name: &[u8], error: io::Error) {
-    let mut errors = rt.stderr();
-    let _ = errors.write_all(name);
-    let _ = writeln!(errors, ": {error}");
-}
-
-// Opens the file of that name. A name that is not UTF-8 is one that std cannot open.
-fn open_name(rt: &HostRuntime, name: &[u8]) -> io::Result<File> {
-    match str::from_utf8(name) {
-        Ok(path) => File::open(rt, path),
-        Err(_) => Err(io::Error::from(io::ErrorKind::InvalidFilename)),
-    }
-}
+// So many bytes of a graph are read and compared at once.
+const PIECE: usize = 65536;
 
 // An open file and its name.
 #[derive(Drop)]
@@ -46,58 +30,87 @@ struct Named<'a> {
     name: &'a [u8],
 }
 
-// Opens the file that argument i names. Where it is not to be had, that is said on standard error.
-fn open_named<'a>(rt: &HostRuntime, i: usize, room: &'a mut [u8; 4096]) -> Option<Named<'a>> {
-    let Ok(len) = rt.arg(i, room) else {
-        let _ = rt
-            .stderr()
-            .write_all(b"flowcheck: the name of a file: File name too long\n");
-        return None;
-    };
-    let name = &room[..len];
-    match open_name(rt, name) {
-        Ok(file) => Some(Named { file, name }),
-        Err(error) => {
-            fail_name(rt, name, error);
-            None
-        }
-    }
+// Why nothing is said of the graph: the name of a file that has no room, a file that goes on where it was read to its
+// end, or what std says of the file of that name.
+#[derive(Drop)]
+enum Failure<'a> {
+    LongName,
+    Unread,
+    Of { name: &'a [u8], error: io::Error },
 }
 
-// Whether a file was read to its end: one more read brings nothing. If it fails, or brings a byte, that is said.
-fn is_read(rt: &HostRuntime, named: &mut Named<'_>) -> bool {
+// Whether there is an argument i. One that is too long for any name is an argument.
+fn is_given(rt: &HostRuntime, i: usize) -> bool {
+    let mut name = [0u8; MAX_NAME];
+    !matches!(rt.arg(i, &mut name), Err(FillError::NotPresent))
+}
+
+// Says on standard error why nothing is said of the graph.
+// Kept: no `Display`: a file's name is bytes, and may be no UTF-8.
+fn tell(rt: &HostRuntime, failure: Failure<'_>) {
+    let mut errors = rt.stderr();
+    let _ = match failure {
+        Failure::LongName => {
+            errors.write_all(b"flowcheck: the name of a file: File name too long\n")
+        }
+        Failure::Unread => errors.write_all(b"flowcheck: a file was not read to its end\n"),
+        Failure::Of { name, error } => {
+            let _ = errors.write_all(name);
+            writeln!(errors, ": {error}")
+        }
+    };
+}
+
+// Opens the file of that name. A name that is not UTF-8 is one that std cannot open.
+fn open_name(rt: &HostRuntime, name: &[u8]) -> io::Result<File> {
+    let path = str::from_utf8(name).map_err(|_| io::Error::from(io::ErrorKind::InvalidFilename))?;
+    File::open(rt, path)
+}
+
+// Opens the file that argument i names.
+fn open_named<'a>(
+    rt: &HostRuntime,
+    i: usize,
+    room: &'a mut [u8; MAX_NAME],
+) -> Result<Named<'a>, Failure<'a>> {
+    let len = rt.arg(i, room).map_err(|_| Failure::LongName)?;
+    let name = &room[..len];
+    let file = open_name(rt, name).map_err(|error| Failure::Of { name, error })?;
+    Ok(Named { file, name })
+}
+
+// That a file was read to its end: one more read brings nothing.
+fn expect_end<'a>(named: &mut Named<'a>) -> Result<(), Failure<'a>> {
     let mut byte = [0u8; 1];
     match named.file.read(&mut byte) {
-        Ok(0) => true,
-        Ok(_) => {
-            let _ = rt
-                .stderr()
-                .write_all(b"flowcheck: a file was not read to its end\n");
-            false
-        }
-        Err(error) => {
-            fail_name(rt, named.name, error);
-            false
-        }
+        Ok(0) => Ok(()),
+        Ok(_) => Err(Failure::Unread),
+        Err(error) => Err(Failure::Of {
+            name: named.name,
+            error,
+        }),
     }
 }
 
-// Whether a listing was read to its end, or as far as it can matter: a longer one is refused by its length.
-fn is_text_read(rt: &HostRuntime, n: usize, listing: &mut Named<'_>) -> bool {
-    n == 65537 || is_read(rt, listing)
+// That a listing was read to its end, or as far as it can matter: a longer one is refused by its length.
+fn expect_text_end<'a>(n: usize, listing: &mut Named<'a>) -> Result<(), Failure<'a>> {
+    if MAX_BYTES < n {
+        return Ok(());
+    }
+    expect_end(listing)
 }
 
 // The graph in a file beside the one due, in pieces.
-// A proved loop has to end, so its turns are counted, up to a number that no run comes to.
+// Kept: a range and no `loop`: a proved loop has to end, so its turns are counted, up to a number that no run comes to.
 fn compare_file(file: &mut File, due: &[u8]) -> Comparing
     ensures { SomeFed due.now (standing_of result) }
 {
-    let mut s = begin();
-    let mut piece = [0u8; 65536];
+    let mut s = Comparing::begin();
+    let mut piece = [0u8; PIECE];
     for _ in 0..u64::MAX {
         let n = read_full(file, &mut piece);
-        s = feed(s, due, &piece[..n]);
-        if n < 65536 {
+        s = s.feed(due, &piece[..n]);
+        if n < PIECE {
             return s;
         }
     }
@@ -105,40 +118,48 @@ fn compare_file(file: &mut File, due: &[u8]) -> Comparing
 }
 
 // The row for a listing's text and a graph in a file: the definition's for some bytes, those that `compare_file` feeds.
-fn check_file(text: &[u8], file: &mut File, row: &mut [u8; 64]) -> usize
+// Kept: a length, as `formatting::page::print_bytes` answers.
+fn check_file(text: &[u8], file: &mut File, row: &mut [u8; MAX_ROW]) -> usize
     ensures { SomeChecked text.now row.new result }
 {
-    let mut page = [0u8; 1048576];
+    let mut page = [0u8; MAX_PRINTED];
     let listed = list_text(text, &mut page);
-    let built = listed.built;
-    let n = listed.len;
-    let s = compare_file(file, &page[..n]);
-    let v = conclude(built, s, &page[..n]);
-    show_verdict(row, v)
+    let due = &page[..listed.len];
+    let s = compare_file(file, due);
+    show_verdict(row, conclude(listed.built, s, due))
 }
 
-// Both files are opened before anything is judged, and the row is printed where both could be read.
+// The row for the files that the arguments name. Both are opened before anything is judged, and both are read to their
+// ends.
+fn check_named<'a>(
+    rt: &HostRuntime,
+    listing_name: &'a mut [u8; MAX_NAME],
+    graph_name: &'a mut [u8; MAX_NAME],
+    row: &'a mut [u8; MAX_ROW],
+) -> Result<&'a [u8], Failure<'a>> {
+    let mut listing = open_named(rt, 1, listing_name)?;
+    let mut graph = open_named(rt, 2, graph_name)?;
+    let mut text = [0u8; MAX_BYTES + 1];
+    let n = read_full(&mut listing.file, &mut text);
+    expect_text_end(n, &mut listing)?;
+    let r = check_file(&text[..n], &mut graph.file, row);
+    expect_end(&mut graph)?;
+    Ok(&row[..r])
+}
+
+// Prints the row where both files could be read.
 fn main(rt: HostRuntime) {
-    if !are_two(&rt) {
+    if !is_given(&rt, 2) || is_given(&rt, 3) {
         let _ = rt.stderr().write_all(b"usage: flowcheck LISTING GRAPH\n");
         return;
     }
-    let mut listing_name = [0u8; 4096];
-    let mut graph_name = [0u8; 4096];
-    let Some(mut listing) = open_named(&rt, 1, &mut listing_name) else {
-        return;
-    };
-    let Some(mut graph) = open_named(&rt, 2, &mut graph_name) else {
-        return;
-    };
-    let mut text = [0u8; 65537];
-    let n = read_full(&mut listing.file, &mut text);
-    if !is_text_read(&rt, n, &mut listing) {
-        return;
-    }
-    let mut row = [0u8; 64];
-    let r = check_file(&text[..n], &mut graph.file, &mut row);
-    if is_read(&rt, &mut graph) {
-        let _ = rt.stdout().write_all(&row[..r]);
+    let mut listing_name = [0u8; MAX_NAME];
+    let mut graph_name = [0u8; MAX_NAME];
+    let mut row = [0u8; MAX_ROW];
+    match check_named(&rt, &mut listing_name, &mut graph_name, &mut row) {
+        Ok(row) => {
+            let _ = rt.stdout().write_all(row);
+        }
+        Err(failure) => tell(&rt, failure),
     }
 }

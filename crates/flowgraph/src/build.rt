@@ -10,8 +10,8 @@ use c_answers::build::number_of_done;
 use reader::listing::Input;
 use wiring::build::{build, build_input};
 
-#[unsafe(no_mangle)]
 // `build` for C: 0 for a graph, or the refusal's number and its place.
+#[unsafe(no_mangle)]
 pub extern "C" fn flow_build(
     text: &[u8],
     counts: &mut [u32; 6],
@@ -35,8 +35,8 @@ pub extern "C" fn flow_build(
     number_of_done(built, place)
 }
 
-#[unsafe(no_mangle)]
 // The same of a saved program: the graph of the listing that it means.
+#[unsafe(no_mangle)]
 pub extern "C" fn flow_build_program(
     program: &[u8],
     counts: &mut [u32; 6],

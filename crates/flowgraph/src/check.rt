@@ -5,9 +5,10 @@ ghost use Rattle.flowgraph.specs.CheckNumbers.{CheckNumbered};
 
 use c_answers::build::number_of_done;
 use checking::check::check_graph;
+use printing::list::MAX_PRINTED;
 
-#[unsafe(no_mangle)]
 // `check_graph` for C: 0 where the graph is the listing's, or the refusal's number and its place.
+#[unsafe(no_mangle)]
 pub extern "C" fn flow_check(
     text: &[u8],
     graph: &[u8],
@@ -22,7 +23,7 @@ pub extern "C" fn flow_check(
     returns: &mut [u16],
     succ: &mut [u16],
     pred: &mut [u16],
-    page: &mut [u8; 1048576],
+    page: &mut [u8; MAX_PRINTED],
     place: &mut [usize; 1],
 ) -> u8
     ensures { CheckNumbered text.now graph.now (sizes_of lines.old stmts.old args.old entries.old falls.old links.old lists.old returns.old succ.old pred.old) counts.new lines.new stmts.new args.new entries.new falls.new links.new lists.new returns.new succ.new pred.new page.old page.new result place.new }

@@ -5,8 +5,8 @@ ghost use Rattle.c_answers.specs.QuestionNumbers.{entry_words, Numbered};
 use c_answers::question::number_of_answer;
 use questions::entry::line_first;
 
-#[unsafe(no_mangle)]
 // `line_first` for C: the entry and 1, or 0 and 0 where the line has none.
+#[unsafe(no_mangle)]
 pub extern "C" fn flow_entry(
     counts: &[u32; 6],
     entries: &[u16],

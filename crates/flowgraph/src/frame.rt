@@ -8,8 +8,8 @@ use c_answers::question::number_of_answer;
 use frame_lists::frame::FrameTables;
 use questions::frame::frame_successors;
 
-#[unsafe(no_mangle)]
 // `frame_successors` for C: the list's length; the list stands in the lent slice.
+#[unsafe(no_mangle)]
 pub extern "C" fn flow_frame(
     counts: &[u32; 6],
     stmts: &[u16],

@@ -4,7 +4,11 @@
 
 use at_limits::list::list_text;
 use filling::read_full;
+use printing::list::MAX_PRINTED;
 use std::io::{Read, Write};
+
+// Room for the longest text that a test has.
+const MAX_TEXT: usize = 131072;
 
 // One byte of the input, while there is one.
 fn next_byte(input: &mut impl Read) -> Option<u8> {
@@ -16,6 +20,7 @@ fn next_byte(input: &mut impl Read) -> Option<u8> {
 }
 
 // The row before a text: its byte count.
+// Kept: a byte is a digit, whatever it is; `parse` would refuse what is none, and what this program makes of a row stays.
 fn next_length(input: &mut impl Read) -> Option<usize> {
     let mut n: usize = 0;
     for _ in 0..9 {
@@ -34,25 +39,19 @@ fn print_framed(output: &mut impl Write, answer: &[u8]) {
     let _ = output.write_all(answer);
 }
 
-// A text of that length.
-fn answer_part(input: &mut impl Read, output: &mut impl Write, text: &mut [u8], n: usize) {
-    if text.len() < n {
+// A text of n bytes; nothing where it is longer than any that a test has.
+fn answer_text(input: &mut impl Read, output: &mut impl Write, n: usize) {
+    let mut text = [0u8; MAX_TEXT];
+    let mut out = [0u8; MAX_PRINTED];
+    let Some(part) = text.get_mut(..n) else {
         return;
-    }
-    let mut out = [0u8; 1048576];
-    let part = &mut text[..n];
+    };
     read_full(input, part);
     let listed = list_text(part, &mut out);
     print_framed(output, &out[..listed.len]);
 }
 
-// Room for the longest text that a test has.
-fn answer_text(input: &mut impl Read, output: &mut impl Write, n: usize) {
-    let mut text = [0u8; 131072];
-    answer_part(input, output, &mut text, n);
-}
-
-// A proved loop has to end, so it counts its turns, to a number that no run comes to.
+// Kept: a range and no `loop`, as flowcheck's compare_file: up to a number that no run comes to.
 fn main(rt: HostRuntime) {
     let mut input = rt.stdin();
     let mut output = rt.stdout();

@@ -14,6 +14,8 @@ use tokens::words::word;
 // A lent part, and where its next byte goes.
 // Kept: numbers and refusals are put by hand, and not by `Display`: a part is bytes and no `str`, and what does not fit
 // is dropped and is no error, so a `write!` would have nothing to answer.
+// Kept: the methods of a byte, bytes and numbers are of one shape, each hands its place to a routine of a part and takes it
+// back; the head of `parts.rt` says why.
 #[derive(Drop)]
 pub struct Page<'a> {
     bytes: &'a mut [u8],
@@ -79,6 +81,14 @@ impl<'a> Page<'a> {
         ensures { Wrote self.old self.new (spaced list.now) }
     {
         self.at = parts::put_spaced(self.bytes, self.at, list);
+    }
+
+    // A word and a list.
+    pub fn put_list(&mut self, word: &[u8], list: &[u16])
+        ensures { Wrote self.old self.new (word.now ++ spaced list.now) }
+    {
+        self.put_bytes(word);
+        self.put_spaced(list);
     }
 
     // A word and two numbers.

@@ -38,7 +38,8 @@ pub(crate) fn put_bytes(part: &mut [u8], at: usize, word: &[u8]) -> usize
     all
 }
 
-// The digits before the last one are those of a tenth. Two of them in a turn: that takes half the calls.
+// The digits before the last one are those of a tenth.
+// Kept: two digits a turn: one by one, `flowlist` takes 3 to 5 % more instructions.
 // Kept: the place by value, as the head of this file says.
 pub(crate) fn put_decimal(part: &mut [u8], at: usize, x: usize) -> usize
     ensures { Puts part.old at part.new result (decimal x) }

@@ -16,9 +16,11 @@ use statements::statement::no_statement;
 use tables::calls::is_call;
 use tables::counts::Counts;
 use tables::lists::list_ends;
+use tables::nodes::entry;
 use tokens::names::key_of;
 
 // The tables that the question reads, whoever wrote them.
+// Kept: not `Nodes`, whose nodes are no more than a graph has: these may be.
 #[derive(Clone, Copy)]
 pub struct FrameTables<'a> {
     pub counts: &'a [u32; 6],
@@ -63,18 +65,19 @@ fn keeps_shared(word: u16, flag: bool) -> bool
 }
 
 impl FrameTables<'_> {
-    // The number of node i's opening word; 0 where the table ends before it, and so are the two below.
+    // The number of node i's opening word; 0 where the table ends before it. There the
+    // first argument is 0 too, and it falls nowhere.
     #[tactic(auto, unfolding(tables::specs::Columns::word_of))]
     fn word(&self, i: usize) -> u16
         ensures { result ≡ word_of self.now.stmts.now i }
     {
-        let at = i.saturating_mul(STMT_ENTRIES);
-        self.stmts.get(at).copied().unwrap_or(0)
+        entry(self.stmts, i.saturating_mul(STMT_ENTRIES))
     }
 
     // Its first argument.
+    // Kept: by `get`, as `walks::sets::has_bit`.
     fn first_arg(&self, i: usize) -> u64
-        ensures { result ≡ get_or self.now.args.now (i * 64) 0 }
+        ensures { result ≡ get_or self.now.args.now (i * ARG_ENTRIES) 0 }
     {
         let at = i.saturating_mul(ARG_ENTRIES);
         self.args.get(at).copied().unwrap_or(0)
@@ -85,11 +88,11 @@ impl FrameTables<'_> {
     fn fall(&self, i: usize) -> Option<u16>
         ensures { option_to_list result ≡ fall_entry self.now.falls.now i }
     {
-        let at = i.saturating_mul(FALL_ENTRIES);
-        self.falls.get(at).copied().unwrap_or(0).checked_sub(1)
+        entry(self.falls, i.saturating_mul(FALL_ENTRIES)).checked_sub(1)
     }
 
     // By the node's opening word.
+    // Kept: three tests, and no `match` of the word: two of them ask more than the word.
     fn write_frame(&self, q: FrameQuestion, out: &mut [u16]) -> Result<usize, Refusal>
         requires { FrameInsideFrom self.now q.header q.node }
         ensures { FrameAnswered (if_room (length out.old) (frame_read_from self.now q.header q.node q.key q.flag)) out.old out.new result }
@@ -126,8 +129,7 @@ impl FrameTables<'_> {
     fn part_outside(&self, i: usize) -> bool
         ensures { result ≡ part_outside self.now.lists.now self.now.succ.now i }
     {
-        let (_, end) = list_ends(self.lists, i);
-        self.succ.len() < end
+        self.succ.len() < list_ends(self.lists, i).end
     }
 
     // Only a call's fall is read, so only that one is tested.

@@ -1,21 +1,22 @@
 // The layout of the lent tables (docs/DECISIONS.md, "Tables"): how many entries a statement has in each, and what
-// stands in them.
+// stands in them. The table of line entries has two for a line, its number and its node.
 // Kept: forms, tiers and marks are numbers, as entries that C reads.
-// How many entries the table of line entries has for a line: its number, and its node.
+use crate::limits::MAX_ARGS;
+
 pub const ENTRY_ENTRIES: usize = 2;
 
 pub const ENTRY_NUMBER: usize = 0;
 
 pub const ENTRY_NODE: usize = 1;
 
-// How many entries each table has for a statement.
+// How many entries each table has for a statement; a link for each argument.
 pub const STMT_ENTRIES: usize = 12;
 
-pub const ARG_ENTRIES: usize = 64;
+pub const ARG_ENTRIES: usize = MAX_ARGS;
 
 pub const FALL_ENTRIES: usize = 3;
 
-pub const LINK_ENTRIES: usize = 64;
+pub const LINK_ENTRIES: usize = ARG_ENTRIES;
 
 pub const LIST_ENTRIES: usize = 4;
 
@@ -63,6 +64,19 @@ pub const PRED_COUNT: usize = 3;
 pub const CLOSER: usize = 1;
 
 pub const ELSE_LINK: usize = 2;
+
+// What `counts` has: lines, statements, whether there are handlers, edges, return targets, rows of line entries.
+pub const LINE_COUNT: usize = 0;
+
+pub const NODE_COUNT: usize = 1;
+
+pub const HANDLERS: usize = 2;
+
+pub const EDGE_COUNT: usize = 3;
+
+pub const TARGET_COUNT: usize = 4;
+
+pub const ROW_COUNT: usize = 5;
 
 // A branch's form: none, statements, a line number.
 pub const NO_BRANCH: u16 = 0;

@@ -1,5 +1,5 @@
-// Each number of the layout once: columns of the tables, numbers of the opening words, limits; and what every table
-// asks for: an entry as an index, entries zeroed.
+// Each number of the layout once: columns of the tables, numbers of the opening words, limits; why something is
+// refused; and what every table asks for: a count as an index, entries zeroed.
 #![tactic(auto)]
 
 pub mod columns;

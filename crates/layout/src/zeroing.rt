@@ -11,7 +11,8 @@ pub fn all_of<T: Copy, const N: usize>(value: T) -> [T; N]
 
 // The entries from `at` on become `value`.
 // Kept: a loop; tried with std's `fill`, which asks of a type parameter that no clone fails, and says of clones what
-// the type's `Clone` does: callers would have to show both.
+// the type's `Clone` does: callers would have to show both. A caller's own `t[at..].fill(0)` would want the place's bound
+// shown; this answers for every place.
 pub fn fill_behind<T: Copy>(t: &mut [T], at: usize, value: T)
     ensures { t.new ≡ filled_behind value at t.old }
 {

@@ -6,12 +6,22 @@ ghost use Rattle.passes.specs.FramePass.{move_of, moves_stack};
 use layout::words::{DOIF, DONE, ELSE, ENDLOOP, EXIT, EXITIF, LOOP, REPEAT, UNTIL};
 
 // What a statement does to a stack.
+// Kept: `Stays`, and no `Option` of a move: each word has a move by the definition, and it is the last arm of both.
 #[derive(Clone, Copy)]
 pub enum FrameMove {
     Stays,
     Opens,
     Closes,
     Joins,
+}
+
+impl FrameMove {
+    // Whether the stack is changed.
+    pub fn moves(self) -> bool
+        ensures { result ≡ moves_stack (move_of self) }
+    {
+        matches!(self, FrameMove::Opens | FrameMove::Closes)
+    }
 }
 
 // REPEAT and LOOP open, UNTIL and ENDLOOP close, EXIT and EXITIF join.
@@ -38,11 +48,4 @@ pub fn do_move(word: u16) -> FrameMove
         DONE => FrameMove::Closes,
         _ => FrameMove::Stays,
     }
-}
-
-// Whether the stack is changed.
-pub fn moves(m: FrameMove) -> bool
-    ensures { result ≡ moves_stack (move_of m) }
-{
-    matches!(m, FrameMove::Opens | FrameMove::Closes)
 }

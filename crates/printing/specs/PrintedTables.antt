@@ -62,10 +62,10 @@ path_some stmts zero i = omega arith
 path_some stmts (suc k) i = simp length-append (omega arith)
 
 module _ (stmts : List ℕ) (p : Page) (i x : ℕ) (e : x ≡ index_of stmts i) where
-  unheld : (k h : ℕ) → h ≡ holder_of stmts i → h ≡ 0 → x ∷ [] ≡ path_in stmts k i
+  unheld : (k : ℕ) → 0 ≡ holder_of stmts i → x ∷ [] ≡ path_in stmts k i
   unfolding path_in
-  unheld zero h f z = ap (λ (y : ℕ). y ∷ []) e
-  unheld (suc k) h f z = ap (λ (y : ℕ). y ∷ []) e ∙ ap (λ (y : ℕ). held_by (λ h. path_in stmts k h) y ++ (index_of stmts i ∷ [])) (sym z ∙ f)
+  unheld zero f = ap (λ (y : ℕ). y ∷ []) e
+  unheld (suc k) f = ap (λ (y : ℕ). y ∷ []) e ∙ ap (λ (y : ℕ). held_by (λ h. path_in stmts k h) y ++ (index_of stmts i ∷ [])) f
 
   -- no further up
   pub path_top : {q : Page} (k : ℕ) → k ≡ 0 → Wrote p q (decimal x) → Wrote p q (joined (path_in stmts k i))
@@ -74,20 +74,19 @@ module _ (stmts : List ℕ) (p : Page) (i x : ℕ) (e : x ≡ index_of stmts i) 
   path_top (suc k) z a = absurd (omega arith)
 
   -- no IF holds it
-  pub path_first : {q : Page} (k h : ℕ) → h ≡ holder_of stmts i → h ≡ 0 → Wrote p q (decimal x) → Wrote p q (joined (path_in stmts k i))
-  path_first k h f z a = wrote_is (sym (joined-one x) ∙ ap joined (unheld k h f z)) a
+  pub path_first : {q : Page} (k : ℕ) → 0 ≡ holder_of stmts i → Wrote p q (decimal x) → Wrote p q (joined (path_in stmts k i))
+  path_first k f a = wrote_is (sym (joined-one x) ∙ ap joined (unheld k f)) a
 
   -- behind the path of the IF that holds it
-  pub path_next : {q s : Page} (k h : ℕ) → h ≡ holder_of stmts i → (k ≡ 0 → ⊥) → (h ≡ 0 → ⊥)
-      → Wrote p q (joined (path_in stmts (k - 1) (h - 1))) → Wrote q s (32 ∷ decimal x) → Wrote p s (joined (path_in stmts k i))
+  pub path_next : {q s : Page} (k h : ℕ) → suc h ≡ holder_of stmts i → (k ≡ 0 → ⊥) → Wrote p q (joined (path_in stmts (k - 1) h)) → Wrote q s (32 ∷ decimal x)
+      → Wrote p s (joined (path_in stmts k i))
   unfolding path_in
-  path_next zero h f y z a b = absurd (y refl)
-  path_next (suc k) zero f y z a b = absurd (z refl)
-  path_next (suc k) (suc h) f y z a b =
+  path_next zero h f y a b = absurd (y refl)
+  path_next (suc k) h f y a b =
       wrote_is
       (sym (joined_snoc (path_in stmts k h) x (path_some stmts k h)) ∙ ap (λ (v : ℕ). joined (path_in stmts k h ++ (v ∷ []))) e
       ∙ ap (λ (v : ℕ). joined (held_by (λ h. path_in stmts k h) v ++ (index_of stmts i ∷ []))) f)
-      (wrote_both (rw (sub-one (suc k), sub-one (suc h)) at a) b)
+      (wrote_both (rw (sub-one (suc k)) at a) b)
 
 -- the IF that holds a statement is one of them
 pub holder_in : {stmts : List ℕ} {n i h : ℕ} → Holders stmts n → i < n → h ≡ holder_of stmts i → (h ≡ 0 → ⊥) → h - 1 < n
@@ -162,9 +161,9 @@ pub wrote_no_back : (p : Page) (stmts falls : List ℕ) (i : ℕ) → call_word 
 unfolding back_text
 wrote_no_back p stmts falls i e = rw e (wrote_none p)
 
-pub wrote_returns : {p q s t : Page} (l : List ℕ) → Wrote p q (bytes "(returns") → Wrote q s (spaced l) → Wrote s t (bytes ")\n") → Wrote p t (returns_text l)
+pub wrote_returns : {p q s : Page} (l : List ℕ) → Wrote p q (bytes "(returns" ++ spaced l) → Wrote q s (bytes ")\n") → Wrote p s (returns_text l)
 unfolding returns_text
-wrote_returns l a b c = wrote_both (wrote_both a b) c
+wrote_returns l a b = wrote_is (simp append_assoc) (wrote_both a b)
 
 -- of some listing
 abbrev pub SomeGraph : (lines stmts entries falls lists returns succ pred : List ℕ) (rows n targets : ℕ) → Type 0

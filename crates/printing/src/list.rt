@@ -12,8 +12,11 @@ use reader::listing::Input;
 use tables::graphs::Graph;
 use wiring::build::build_input;
 
+// Room for every graph that is printed: within the limits none has more bytes.
+pub const MAX_PRINTED: usize = 1048576;
+
 // Prints the graph that the tables hold, on a page of its own.
-// Kept: what the tables hold in a `requires`: in a ghost field it would stand in `∥ ∥₁`, for each reader to open.
+// Kept: what the tables hold in a `requires`, as print_nodes::put_node.
 fn print_counted(g: &Graph<'_>, out: &mut [u8]) -> usize
     requires { SomeGraphFrom g.now }
     ensures { GraphPrintedFrom g.now out.old out.new result }

@@ -8,10 +8,11 @@ ghost use Rattle.printing.specs.PrintedTables.{entry_text, back_text, returns_te
 
 use crate::print_nodes::put_nodes;
 use formatting::page::Page;
-use layout::columns::{ENTRY_ENTRIES, ENTRY_NODE, ENTRY_NUMBER, FALL_ENTRIES, STMT_ENTRIES};
+use layout::columns::{ENTRY_ENTRIES, ENTRY_NODE, ENTRY_NUMBER, FALL_ENTRIES};
 use tables::calls::is_call;
 use tables::counts::Counts;
 use tables::graphs::Graph;
+use tables::nodes::Records;
 
 // The row of a number with a node, or nothing where there is none.
 fn put_some(page: &mut Page<'_>, word: &[u8], a: usize, node: Option<usize>)
@@ -23,8 +24,9 @@ fn put_some(page: &mut Page<'_>, word: &[u8], a: usize, node: Option<usize>)
 }
 
 // The entry in row k; no row where there is none.
+// Kept: by the row's place: the definition prints row k of the table (`entry_text`).
 fn put_entry(page: &mut Page<'_>, entries: &[u16], k: usize)
-    requires { k * 2 + 2 ≤ length entries.now }
+    requires { k * ENTRY_ENTRIES + ENTRY_ENTRIES ≤ length entries.now }
     ensures { Wrote page.old page.new (entry_text entries.now k) }
 {
     let number = usize::from(entries[k * ENTRY_ENTRIES + ENTRY_NUMBER]);
@@ -34,7 +36,7 @@ fn put_entry(page: &mut Page<'_>, entries: &[u16], k: usize)
 
 // The entries of so many rows, by number.
 fn put_entries(page: &mut Page<'_>, entries: &[u16], rows: usize)
-    requires { rows * 2 ≤ length entries.now }
+    requires { rows * ENTRY_ENTRIES ≤ length entries.now }
     ensures { Wrote page.old page.new (each (entry_text entries.now) (below rows)) }
 {
     for k in 0..rows {
@@ -43,48 +45,51 @@ fn put_entries(page: &mut Page<'_>, entries: &[u16], rows: usize)
 }
 
 // The continuation of node i, if it is a call and has one.
-fn put_back(page: &mut Page<'_>, stmts: &[u16], falls: &[u16], i: usize)
-    requires { (i * 12 + 12 ≤ length stmts.now) × (i * 3 + 3 ≤ length falls.now) }
-    ensures { Wrote page.old page.new (back_text stmts.now falls.now i) }
+fn put_back(page: &mut Page<'_>, records: &Records<'_>, falls: &[u16], i: usize)
+    requires { i * FALL_ENTRIES + FALL_ENTRIES ≤ length falls.now }
+    ensures { Wrote page.old page.new (back_text records.now.stmts.now falls.now i) }
 {
-    if is_call(stmts[i * STMT_ENTRIES]) {
+    if is_call(records.word(i)) {
         let fall = usize::from(falls[i * FALL_ENTRIES]).checked_sub(1);
         put_some(page, b"(back", i, fall);
     }
 }
 
 // The continuations by call.
-fn put_backs(page: &mut Page<'_>, stmts: &[u16], falls: &[u16], n: usize)
-    requires { (n * 12 ≤ length stmts.now) × (n * 3 ≤ length falls.now) }
-    ensures { Wrote page.old page.new (each (back_text stmts.now falls.now) (below n)) }
+fn put_backs(page: &mut Page<'_>, records: &Records<'_>, falls: &[u16])
+    requires { records.now.n * FALL_ENTRIES ≤ length falls.now }
+    ensures { Wrote page.old page.new (each (back_text records.now.stmts.now falls.now) (below records.now.n)) }
 {
-    for i in 0..n {
-        put_back(page, stmts, falls, i);
+    for i in 0..records.n {
+        put_back(page, records, falls, i);
     }
 }
 
 // The return targets in order.
+// Kept: the table and how many of it, since what is printed is told of the table (`returns_text`).
 fn put_returns(page: &mut Page<'_>, returns: &[u16], targets: usize)
     requires { targets ≤ length returns.now }
     ensures { Wrote page.old page.new (returns_text (take targets returns.now)) }
 {
-    page.put_bytes(b"(returns");
-    page.put_spaced(&returns[..targets]);
+    page.put_list(b"(returns", &returns[..targets]);
     page.put_bytes(b")\n");
 }
 
 // Prints the graph that the tables hold.
-// Kept: what the tables hold in a `requires`: in a ghost field it would stand in `∥ ∥₁`, for each reader to open.
+// Kept: what the tables hold in a `requires`, as put_node.
 pub(crate) fn print_graph(g: &Graph<'_>, page: &mut Page<'_>)
     requires { SomeGraphFrom g.now }
     ensures { GraphWroteFrom g.now page.old page.new }
 {
     let used = Counts(g.counts);
-    page.put_pair(b"(graph", 0, used.nodes());
+    let stmts = g.stmts;
+    let n = used.nodes();
+    let records = Records { stmts, n };
+    page.put_pair(b"(graph", 0, n);
     page.put_bytes(b"\n");
-    put_nodes(page, g);
+    put_nodes(page, g, &records);
     put_entries(page, g.entries, used.rows());
     put_returns(page, g.returns, used.targets());
-    put_backs(page, g.stmts, g.falls, used.nodes());
+    put_backs(page, &records, g.falls);
     page.put_bytes(b")\n");
 }

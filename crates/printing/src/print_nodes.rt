@@ -1,7 +1,7 @@
 // The rows of the nodes, read off the tables.
-ghost use Rattle.std.specs.Prelude.{◌≡◌, ◌++◌, ◌+◌, ◌*◌, ◌<◌, ◌≤◌, length};
+ghost use Rattle.std.specs.Prelude.{◌≡◌, ◌+◌, ◌*◌, ◌<◌, ◌≤◌, length};
 ghost use Rattle.graph.specs.Lists.{each, below};
-ghost use Rattle.graph.specs.Print.{spaced, joined};
+ghost use Rattle.graph.specs.Print.{joined};
 ghost use Rattle.tables.specs.Columns.{succ_start, succ_count, pred_start, pred_count, path_in};
 ghost use Rattle.formatting.specs.Pages.{Wrote};
 ghost use Rattle.printing.specs.FromGraph.{nodes_from, NodesReadableFrom, lists_text_from, node_text_from};
@@ -9,25 +9,21 @@ ghost use Rattle.printing.specs.PrintedTables.{head_text};
 
 use adjacency::successors::{predecessors, successors};
 use formatting::page::Page;
-use layout::columns::{HOLDER, INDEX, LINE, STMT_ENTRIES};
+use layout::columns::LIST_ENTRIES;
 use layout::limits::MAX_DEPTH;
-use tables::counts::Counts;
 use tables::graphs::Graph;
+use tables::nodes::Records;
 
-// Kept: here and below, functions of a page and a graph, since both types are of crates below.
 // The path of node i: that of the IF that holds it, and then its own number.
 // It goes up through `left` IFs at most.
-// Kept: what can be read in a `requires`: in a ghost field it would stand in `∥ ∥₁`, for each reader to open.
-fn put_path(page: &mut Page<'_>, g: &Graph<'_>, i: usize, left: usize)
-    requires { (i < nodes_from g.now) × NodesReadableFrom g.now }
-    ensures { Wrote page.old page.new (joined (path_in g.now.stmts.now left i)) }
+// Kept: here and below, functions of a page and of a graph or its records: all three are types of crates below.
+fn put_path(page: &mut Page<'_>, records: &Records<'_>, i: usize, left: usize)
+    ensures { Wrote page.old page.new (joined (path_in records.now.stmts.now left i)) }
 {
-    let row = i * STMT_ENTRIES;
-    let index = usize::from(g.stmts[row + INDEX]);
-    let holder = usize::from(g.stmts[row + HOLDER]);
-    match holder.checked_sub(1) {
+    let index = usize::from(records.index(i));
+    match records.holder(i) {
         Some(outer) if left > 0 => {
-            put_path(page, g, outer, left - 1);
+            put_path(page, records, outer, left - 1);
             page.put_number(index);
         }
         _ => page.put_decimal(index),
@@ -43,45 +39,38 @@ fn put_head(page: &mut Page<'_>, i: usize, number: usize, line: usize)
     page.put_bytes(b" (");
 }
 
-// A word and a list.
-fn put_list(page: &mut Page<'_>, word: &[u8], list: &[u16])
-    ensures { Wrote page.old page.new (word.now ++ spaced list.now) }
-{
-    page.put_bytes(word);
-    page.put_spaced(list);
-}
-
 // Both lists of node i, which are parts of the edge tables, and the end of the row.
 fn put_lists(page: &mut Page<'_>, g: &Graph<'_>, i: usize)
-    requires { (i < nodes_from g.now) × (nodes_from g.now * 4 ≤ length g.now.lists.now) × (succ_start g.now.lists.now i + succ_count g.now.lists.now i ≤ length g.now.succ.now) × (pred_start g.now.lists.now i + pred_count g.now.lists.now i ≤ length g.now.pred.now) }
+    requires { (i < nodes_from g.now) × (nodes_from g.now * LIST_ENTRIES ≤ length g.now.lists.now) × (succ_start g.now.lists.now i + succ_count g.now.lists.now i ≤ length g.now.succ.now) × (pred_start g.now.lists.now i + pred_count g.now.lists.now i ≤ length g.now.pred.now) }
     ensures { Wrote page.old page.new (lists_text_from g.now i) }
 {
     let own = successors(g.counts, g.lists, g.succ, i);
     let before = predecessors(g.counts, g.lists, g.pred, i);
-    put_list(page, b") (succ", own);
-    put_list(page, b") (pred", before);
+    page.put_list(b") (succ", own);
+    page.put_list(b") (pred", before);
     page.put_bytes(b"))\n");
 }
 
 // The row of node i.
-// Kept: a `requires`, as `put_path`.
-fn put_node(page: &mut Page<'_>, g: &Graph<'_>, i: usize)
-    requires { (i < nodes_from g.now) × NodesReadableFrom g.now }
-    ensures { Wrote page.old page.new (node_text_from g.now i) }
+// Kept: what can be read in a `requires`; no plainer in a ghost field, where it would stand in `∥ ∥₁`, and each reader's
+// proof would have to open it.
+fn put_node(page: &mut Page<'_>, g: &Graph<'_>, records: &Records<'_>, i: usize)
+    requires { (i < records.now.n) × NodesReadableFrom g.now records.now }
+    ensures { Wrote page.old page.new (node_text_from g.now records.now i) }
 {
-    let line = usize::from(g.stmts[i * STMT_ENTRIES + LINE]);
+    let line = records.line(i);
     put_head(page, i, usize::from(g.lines[line]), line);
-    put_path(page, g, i, MAX_DEPTH);
+    put_path(page, records, i, MAX_DEPTH);
     put_lists(page, g, i);
 }
 
 // The rows of all nodes.
-// Kept: a `requires`, as `put_path`.
-pub(crate) fn put_nodes(page: &mut Page<'_>, g: &Graph<'_>)
-    requires { NodesReadableFrom g.now }
-    ensures { Wrote page.old page.new (each (node_text_from g.now) (below (nodes_from g.now))) }
+// Kept: a `requires`, as `put_node`.
+pub(crate) fn put_nodes(page: &mut Page<'_>, g: &Graph<'_>, records: &Records<'_>)
+    requires { NodesReadableFrom g.now records.now }
+    ensures { Wrote page.old page.new (each (node_text_from g.now records.now) (below records.now.n)) }
 {
-    for i in 0..Counts(g.counts).nodes() {
-        put_node(page, g, i);
+    for i in 0..records.n {
+        put_node(page, g, records, i);
     }
 }

@@ -31,6 +31,7 @@ fn put_rows(file: &[u8], out: &mut [u8]) -> usize
 
 // The listing that a file means, in the bracket form, or its refusal. Bytes that do not fit are dropped; the answer is
 // where the next byte would go.
+// Kept: a length, here and below, as `formatting::page::print_bytes` answers.
 pub fn list_program(file: &[u8], out: &mut [u8]) -> usize
     ensures { Puts out.old 0 out.new result (prglist file.now) }
 {
@@ -40,8 +41,11 @@ pub fn list_program(file: &[u8], out: &mut [u8]) -> usize
     }
 }
 
+// Room for every listing that a saved program means.
+pub const MAX_LISTED: usize = 2097152;
+
 // With room for the longest listing: all of it stands in the page.
-pub fn list_page(file: &[u8], out: &mut [u8; 2097152]) -> usize
+pub fn list_page(file: &[u8], out: &mut [u8; MAX_LISTED]) -> usize
     ensures puts { Puts out.old 0 out.new result (prglist file.now) }
     ensures whole { Whole out.new result (prglist file.now) }
 {

@@ -8,12 +8,16 @@ ghost use Rattle.program_text.specs.StmtText.{slot_text, arg_text, arg_texts, st
 
 use formatting::page::Page;
 use layout::words::{FOR, NEXT};
+use tokens::names::KEY_BASE;
+
+// So many bytes a cut name has at most.
+const MAX_NAME: usize = 3;
 
 // The byte of a key's lowest digit.
 fn key_byte(key: u64) -> u8
     ensures { result ≡ 32 + key % 64 }
 {
-    32 + (key % 64) as u8
+    b' ' + (key % KEY_BASE) as u8
 }
 
 // The bytes of a name, by its key.
@@ -24,7 +28,7 @@ fn put_key(page: &mut Page<'_>, key: u64, most: usize)
         return;
     }
     page.put_byte(key_byte(key));
-    put_key(page, key / 64, most - 1);
+    put_key(page, key / KEY_BASE, most - 1);
 }
 
 // A name of three bytes at most, or `*`.
@@ -35,10 +39,11 @@ fn put_slot(page: &mut Page<'_>, key: u64)
     if key == 0 {
         return page.put_byte(b'*');
     }
-    put_key(page, key, 3);
+    put_key(page, key, MAX_NAME);
 }
 
 // FOR and NEXT have names, the others numbers.
+// Kept: `as`; std has no conversion from u64 to usize that cannot fail.
 fn put_arg(page: &mut Page<'_>, word: u16, v: u64)
     ensures { Wrote page.old page.new (arg_text word v) }
 {

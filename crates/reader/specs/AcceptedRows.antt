@@ -16,7 +16,7 @@ use Rattle.tokens.specs.declared.words.Kind.TheVariants as kind
 use Rattle.reader.specs.CodedRows.{place_number, number_due, as_line, as_to, as_row, Said, simple_of, closed_args, opened_args, args_row, closed_bare, opened_bare, bare_row, closed_others, form_false, form_one, form_more, row_end, row_bad}
 use Rattle.reader.specs.Machine.{State, one_more, step_simple, step_row}
 use Rattle.reader.specs.declared.rows.Position.TheVariants as at
-use Rattle.reader.specs.declared.rows.Cond.TheVariants as cond
+use Rattle.tokens.specs.declared.words.Cond.TheVariants as cond
 use Rattle.layout.specs.declared.refusals.Reason.TheVariants as reason
 use Rattle.reader.specs.declared.rows.Row.TheVariants as row
 
@@ -109,7 +109,7 @@ opened_same kind.Module ws = module_same ws
 opened_same kind.Line ws = line_same (single ws)
 opened_same kind.To ws = refl
 opened_same kind.Stmts ws = refl
-opened_same kind.Cond ws = refl
+opened_same (kind.Cond x) ws = refl
 opened_same kind.Bare ws = refl
 opened_same kind.Number ws = refl
 opened_same kind.Numbers ws = refl
@@ -142,7 +142,7 @@ closed_bare_same kind.Module k = refl
 closed_bare_same kind.Line k = refl
 closed_bare_same kind.To k = refl
 closed_bare_same kind.Stmts k = refl
-closed_bare_same kind.Cond k = refl
+closed_bare_same (kind.Cond x) k = refl
 closed_bare_same kind.Bare k = refl
 closed_bare_same kind.Number k = refl
 closed_bare_same kind.Numbers k = refl
@@ -156,7 +156,7 @@ opened_bare_same kind.Module k = refl
 opened_bare_same kind.Line k = refl
 opened_bare_same kind.To k = refl
 opened_bare_same kind.Stmts k = refl
-opened_bare_same kind.Cond k = refl
+opened_bare_same (kind.Cond x) k = refl
 opened_bare_same kind.Bare k = refl
 opened_bare_same kind.Number k = refl
 opened_bare_same kind.Numbers k = refl

@@ -1,5 +1,5 @@
 -- What a row says, as the code answers it, and how the code finds it. Assumes nothing.
-use Rattle.std.specs.Prelude.{ℕ, zero, suc, ◌+◌, ◌-◌, ◌≤◌, ◌<◌, ◌≡◌, refl, List, [], ◌∷◌, ◌++◌, Bool, true, false, ◌&&◌, eqb, ltb, length, take, drop, Option as Maybe, Some, None, Result, Ok, Err}
+use Rattle.std.specs.Prelude.{ℕ, zero, suc, ◌+◌, ◌≤◌, ◌<◌, ◌≡◌, refl, List, [], ◌∷◌, ◌++◌, Bool, true, false, ◌&&◌, eqb, ltb, length, take, drop, Option as Maybe, Some, None, Result, Ok, Err}
 use Rattle.std.proofs.Common.{sym, ◌∙◌, subst, arith, not-suc-le-zero, le_of_suc-le-suc, ne_eqb}
 use Rattle.std.proofs.Math.Path.{ap}
 use Rattle.std.proofs.Math.Option.{Option, none, some}
@@ -18,7 +18,9 @@ use Rattle.listings.specs.Scan.{index_of, index_le, split_last, split_more, spli
 use Rattle.tokens.specs.Numbers.{as_number, flag_of}
 use Rattle.tokens.specs.Arguments.{Verdict, verdict, lowest, check_for, check_next, check_kind, refusal_with, numbers_refusal, slots_refusal}
 use Rattle.tokens.specs.declared.arguments.Checked.{Checked}
-use Rattle.tokens.specs.Kinds.{form_kind, kind_found, opened_kind, word_found, word_is, no_word_is, opened_past}
+use Rattle.tokens.specs.Kinds.{as_cond, form_kind, kind_found, opened_kind, word_found, word_is, no_word_is, opened_past}
+use Rattle.tokens.specs.declared.words.Cond.{Cond}
+use Rattle.tokens.specs.declared.words.Cond.TheVariants as cond
 use Rattle.tokens.specs.declared.words.Kind.{Kind}
 use Rattle.tokens.specs.declared.words.Kind.TheVariants as kind
 use Rattle.layout.specs.declared.refusals.Reason.{Reason}
@@ -26,8 +28,6 @@ use Rattle.layout.specs.declared.refusals.Reason.TheVariants as reason
 use Rattle.reader.specs.declared.rows.Position.{Position as Place}
 use Rattle.reader.specs.declared.rows.Position.TheVariants as at
 use Rattle.reader.specs.declared.rows.Misfit.{Misfit}
-use Rattle.reader.specs.declared.rows.Cond.{Cond}
-use Rattle.reader.specs.declared.rows.Cond.TheVariants as cond
 use Rattle.reader.specs.declared.rows.Which.{Which}
 use Rattle.reader.specs.declared.rows.Which.TheVariants as which
 use Rattle.reader.specs.declared.rows.Bracket.{Bracket}
@@ -54,11 +54,6 @@ word_number o = word_index (simple_word o)
 numbered : Unit {0}
 unfolding word_index words first opening_words bytes same simple_word
 numbered = tt
-
-abbrev pub as_cond : CondWord → Cond
-as_cond if = cond.If
-as_cond ifelse = cond.IfElse
-as_cond rcomp = cond.Rcomp
 
 abbrev pub cond_index : Cond → ℕ
 cond_index cond.If = 0
@@ -157,7 +152,7 @@ closed_args kind.Module k ws = simple_by k (check_kind kind.Module ws)
 closed_args kind.Line k ws = simple_by k (check_kind kind.Line ws)
 closed_args kind.To k ws = as_to (single ws)
 closed_args kind.Stmts k ws = simple_by k (check_kind kind.Stmts ws)
-closed_args kind.Cond k ws = simple_by k (check_kind kind.Cond ws)
+closed_args (kind.Cond x) k ws = simple_by k (check_kind (kind.Cond x) ws)
 closed_args kind.Bare k ws = simple_by k (check_kind kind.Bare ws)
 closed_args kind.Number k ws = simple_by k (check_kind kind.Number ws)
 closed_args kind.Numbers k ws = simple_by k (check_kind kind.Numbers ws)
@@ -171,7 +166,7 @@ opened_args kind.Module ws = as_row (module_content ws)
 opened_args kind.Line ws = as_line (single ws)
 opened_args kind.To ws = no_row
 opened_args kind.Stmts ws = no_row
-opened_args kind.Cond ws = no_row
+opened_args (kind.Cond x) ws = no_row
 opened_args kind.Bare ws = no_row
 opened_args kind.Number ws = no_row
 opened_args kind.Numbers ws = no_row
@@ -190,7 +185,7 @@ closed_bare kind.Module k = no_row
 closed_bare kind.Line k = no_row
 closed_bare kind.To k = misfit reason.NotAForm at.InCond
 closed_bare kind.Stmts k = no_row
-closed_bare kind.Cond k = no_row
+closed_bare (kind.Cond x) k = no_row
 closed_bare kind.Bare k = Ok (row.Simple k 0)
 closed_bare kind.Number k = no_row
 closed_bare kind.Numbers k = Ok (row.Simple k 0)
@@ -203,7 +198,7 @@ opened_bare kind.Module k = no_row
 opened_bare kind.Line k = misfit reason.NotAForm at.InModule
 opened_bare kind.To k = no_row
 opened_bare kind.Stmts k = Ok row.Stmts
-opened_bare kind.Cond k = Ok (row.Cond (cond_by (k - 2)))
+opened_bare (kind.Cond x) k = Ok (row.Cond x)
 opened_bare kind.Bare k = no_row
 opened_bare kind.Number k = no_row
 opened_bare kind.Numbers k = no_row
@@ -223,7 +218,7 @@ closed_others kind.Module k ws h = refl
 closed_others kind.Line k ws h = refl
 closed_others kind.To k ws h = absurd (h refl)
 closed_others kind.Stmts k ws h = refl
-closed_others kind.Cond k ws h = refl
+closed_others (kind.Cond x) k ws h = refl
 closed_others kind.Bare k ws h = refl
 closed_others kind.Number k ws h = refl
 closed_others kind.Numbers k ws h = refl
@@ -237,7 +232,7 @@ opened_others kind.Module ws h q = absurd (h refl)
 opened_others kind.Line ws h q = absurd (q refl)
 opened_others kind.To ws h q = refl
 opened_others kind.Stmts ws h q = refl
-opened_others kind.Cond ws h q = refl
+opened_others (kind.Cond x) ws h q = refl
 opened_others kind.Bare ws h q = refl
 opened_others kind.Number ws h q = refl
 opened_others kind.Numbers ws h q = refl
@@ -251,7 +246,7 @@ closed_bare_others kind.Module k t h p q = refl
 closed_bare_others kind.Line k t h p q = refl
 closed_bare_others kind.To k t h p q = absurd (t refl)
 closed_bare_others kind.Stmts k t h p q = refl
-closed_bare_others kind.Cond k t h p q = refl
+closed_bare_others (kind.Cond x) k t h p q = refl
 closed_bare_others kind.Bare k t h p q = absurd (h refl)
 closed_bare_others kind.Number k t h p q = refl
 closed_bare_others kind.Numbers k t h p q = absurd (p refl)
@@ -259,13 +254,13 @@ closed_bare_others kind.Run k t h p q = absurd (q refl)
 closed_bare_others kind.For k t h p q = refl
 closed_bare_others kind.Next k t h p q = refl
 
-pub opened_bare_others : (g : Kind) (k : ℕ) → (g ≡ kind.Line → ⊥) → (g ≡ kind.Stmts → ⊥) → (g ≡ kind.Cond → ⊥) → no_row ≡ opened_bare g k
+pub opened_bare_others : (g : Kind) (k : ℕ) → (g ≡ kind.Line → ⊥) → (g ≡ kind.Stmts → ⊥) → ((x : Cond) → g ≡ kind.Cond x → ⊥) → no_row ≡ opened_bare g k
 unfolding opened_bare
 opened_bare_others kind.Module k t h q = refl
 opened_bare_others kind.Line k t h q = absurd (t refl)
 opened_bare_others kind.To k t h q = refl
 opened_bare_others kind.Stmts k t h q = absurd (h refl)
-opened_bare_others kind.Cond k t h q = absurd (q refl)
+opened_bare_others (kind.Cond x) k t h q = absurd (q x refl)
 opened_bare_others kind.Bare k t h q = refl
 opened_bare_others kind.Number k t h q = refl
 opened_bare_others kind.Numbers k t h q = refl
@@ -279,7 +274,7 @@ Numbered k module_form = Unit {0}
 Numbered k line_form = Unit {0}
 Numbered k to_form = Unit {0}
 Numbered k stmts_form = Unit {0}
-Numbered k (cond_form w) = as_cond w ≡ cond_by (k - 2)
+Numbered k (cond_form w) = Unit {0}
 Numbered k (bare_form o) = word_number o ≡ k
 Numbered k (number_form w) = word_index (jump_word w) ≡ k
 Numbered k (numbers_form w) = word_index (on_word w) ≡ k
@@ -293,7 +288,7 @@ AllNumbered k (h ∷ hs) = Numbered k h × AllNumbered (suc k) hs
 
 forms-numbered : AllNumbered 0 forms
 unfolding AllNumbered Numbered forms numbered
-forms-numbered = (tt, (tt, (refl, (refl, (refl, (tt, (tt, (refl, (refl, (refl, (refl, (refl, (refl, (refl, (refl, (refl, (refl, (refl, (refl, (refl, (refl, (refl, (refl, (refl, (refl, (refl, (refl, (refl, tt))))))))))))))))))))))))))))
+forms-numbered = (tt, (tt, (tt, (tt, (tt, (tt, (tt, (refl, (refl, (refl, (refl, (refl, (refl, (refl, (refl, (refl, (refl, (refl, (refl, (refl, (refl, (refl, (refl, (refl, (refl, (refl, (refl, (refl, tt))))))))))))))))))))))))))))
 
 numbered_from : (hs : List Form) (j i : ℕ) → AllNumbered j hs → (h : Form) → get_elem? hs i ≡ some h → Numbered (j + i) h
 unfolding AllNumbered
@@ -383,7 +378,7 @@ form_bare to_form k r false = refl
 form_bare stmts_form k r true = refl
 form_bare stmts_form k r false = refl
 form_bare (cond_form x) k r true = refl
-form_bare (cond_form x) k r false = ap {B = Said} (λ (z : Cond). Ok (row.Cond z)) r
+form_bare (cond_form x) k r false = refl
 form_bare (bare_form o) k r true = ap {B = Said} (λ (z : ℕ). Ok (row.Simple z 0)) r
 form_bare (bare_form o) k r false = refl
 form_bare (number_form x) k r true = refl

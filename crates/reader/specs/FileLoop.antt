@@ -33,7 +33,7 @@ use Rattle.reader.specs.FillSteps.{Fills}
 use Rattle.reader.specs.Filling.{Zeroed, filled_start}
 use Rattle.reader.specs.declared.fill.Walk.{Walk}
 use Rattle.reader.specs.declared.listing.Accepted.{Accepted}
-use Rattle.reader.specs.declared.rows.Cond.TheVariants as cond
+use Rattle.tokens.specs.declared.words.Cond.TheVariants as cond
 use Rattle.reader.specs.declared.rows.Row.{Row}
 use Rattle.reader.specs.declared.rows.Row.TheVariants as row
 
@@ -59,9 +59,9 @@ refused_as : (a b c d : ℕ) → a ≡ b → c ≡ d → ◌≡◌ {A = Result A
 refused_as a b c d p q = cc
 
 -- a saved program has no handlers
-pub program-listed : (f : List ℕ) (j : Result Counts Refusal) → told_of j ≡ judged_of (read_program f) → by_number (listed_program_of j) ≡ listed_of (read_program f)
+pub program_listed : (f : List ℕ) (j : Result Counts Refusal) → told_of j ≡ judged_of (read_program f) → by_number (listed_program_of j) ≡ listed_of (read_program f)
 unfolding judged_of listed_of
-program-listed f j e = go j (read_program f) refl e
+program_listed f j e = go j (read_program f) refl e
   where
     go : (j : Result Counts Refusal) (b : Answer) → read_program f ≡ b → told_of j ≡ judged_of b → by_number (listed_program_of j) ≡ listed_of b
     go (Ok c) (listing L) q h =

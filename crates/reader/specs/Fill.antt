@@ -10,7 +10,7 @@ use Rattle.reader.specs.AcceptedRows.{uncounted}
 use Rattle.reader.specs.Machine.{State}
 use Rattle.reader.specs.declared.fill.Branch.{Branch}
 use Rattle.reader.specs.declared.fill.Branch.TheVariants as branch
-use Rattle.reader.specs.declared.rows.Cond.{Cond}
+use Rattle.tokens.specs.declared.words.Cond.{Cond}
 use Rattle.reader.specs.declared.rows.Row.TheVariants as row
 use Rattle.reader.specs.declared.fill.Walk.{Walk}
 use Rattle.reader.specs.declared.tables.Entry.{Entry}

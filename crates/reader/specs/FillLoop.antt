@@ -1,11 +1,11 @@
 -- The text's loop that writes: the loop over what the text's rows say. Assumes nothing.
-use Rattle.std.specs.Prelude.{◌≡◌, refl, ℕ, ◌+◌, ◌-◌, ◌≤◌, ◌<◌, length, take, drop}
+use Rattle.std.specs.Prelude.{◌≡◌, refl, ℕ, ◌<◌, length}
 use Rattle.std.proofs.Common.{sym, ap, ◌∙◌, not-suc-le-zero, arith, length-append}
 use Rattle.std.proofs.Math.Path.{subst}
 use mathlib.Core.List.{List, [], ◌∷◌, ◌++◌, map}
 use Rattle.listings.specs.Listing.{Listing}
 use Rattle.listings.specs.Rows.{split, Content, content_of, row_of}
-use Rattle.listings.specs.Read.{Reading, start, listing, read}
+use Rattle.listings.specs.Read.{Answer, Reading, start, listing, read}
 use Rattle.listings.specs.ListingText.{listing_rows, listing_text}
 use Rattle.listing_laws.specs.RowForms.{split_text}
 use Rattle.listing_laws.specs.Contents.{row_text, content_says, contents, listing_rows_lem}
@@ -13,7 +13,7 @@ use Rattle.listing_laws.specs.RowsTaken.{Steps, rest, row, Leads, listing_steps,
 use Rattle.listing_laws.specs.RoundTrip.{accepted_in_form}
 use Rattle.listings.specs.Cut.{cut_listing, meant}
 use Rattle.listing_laws.specs.CutLaws.{meant-written, meant_within, cut_content, contents_cut}
-use Rattle.listings.specs.Scan.{index_of, split-some, piece_at, next_last, next_more}
+use Rattle.listings.specs.Scan.{split-some}
 use Rattle.listings.specs.Records.{line_recs, line_numbers}
 use Rattle.reader.specs.Machine.{State, as_state}
 use Rattle.reader.specs.Fill.{outside_walk}
@@ -60,19 +60,17 @@ rows_lead text L e =
 -- ---- the loop
 
 pub zeroed_start : (text n t a : List ℕ) (z : Zeroed (meant text) n t a) (s : State) (w : Walk) → s ≡ as_state start → w ≡ outside_walk
-    → Fills z.accepts.tree (length n) (length t) (length a) (rows_in (split 10 (drop 0 text))) s w n t a
+    → Fills z.accepts.tree (length n) (length t) (length a) (rows_in (split 10 text)) s w n t a
 zeroed_start text n t a z s w e k = filled_start z (rows_in (split 10 text)) (rows_lead text z.accepts.tree z.accepts.reads) s w e k
 
-module _ (text : List ℕ) {nl ns na : ℕ} {s : State} {w : Walk} {n t a : List ℕ} (at e : ℕ) (inside : at ≤ length text) (found : e ≡ index_of 10 (take (length text - at) (drop at text))) where
+module _ {nl ns na : ℕ} {s : State} {w : Walk} {n t a : List ℕ} (left : List ℕ) where
   -- the text ends
-  pub text_ends : (g : Accepts (meant text) nl ns na) → Fills g.tree nl ns na (rows_in (split 10 (drop at text))) s w n t a → at + e ≡ length text
-      → (L : Listing) → meant text ≡ listing L → Holds (line_numbers L.lines) (line_recs L.lines) nl ns na n t a
+  pub text_ends : {q : Answer} (g : Accepts q nl ns na) → Fills g.tree nl ns na (rows_in (split 10 left)) s w n t a → split 10 left ≡ left ∷ []
+      → (L : Listing) → q ≡ listing L → Holds (line_numbers L.lines) (line_recs L.lines) nl ns na n t a
   unfolding rows_in
-  text_ends g f h = filled_end g (subst (λ (ws : List (List ℕ)). Fills g.tree nl ns na (rows_in ws) s w n t a) (next_last 10 text at e inside found h) f)
+  text_ends g f h = filled_end g (subst (λ (ws : List (List ℕ)). Fills g.tree nl ns na (rows_in ws) s w n t a) h f)
 
   -- one more row
-  pub text_goes_on : {L : Listing} → (at + e ≡ length text → ⊥) → e ≤ length (take (length text - at) (drop at text)) → Fills L nl ns na (rows_in (split 10 (drop at text))) s w n t a
-      → Fills L nl ns na (cut_content (content_of (row_of (piece_at text at e))) ∷ rows_in (split 10 (drop (at + e + 1) text))) s w n t a
-  text_goes_on {L} more le f =
-      subst (λ (ds : List Content). Fills L nl ns na ds s w n t a)
-      (ap rows_in (next_more 10 text at e inside found more le).1 ∙ rows-first (piece_at text at e) (split 10 (drop (at + e + 1) text)) (split-some 10 (drop (at + e + 1) text))) f
+  pub text_goes_on : {L : Listing} (v more : List ℕ) → split 10 left ≡ v ∷ split 10 more → Fills L nl ns na (rows_in (split 10 left)) s w n t a
+      → Fills L nl ns na (cut_content (content_of (row_of v)) ∷ rows_in (split 10 more)) s w n t a
+  text_goes_on {L} v more h f = subst (λ (ds : List Content). Fills L nl ns na ds s w n t a) (ap rows_in h ∙ rows-first v (split 10 more) (split-some 10 more)) f

@@ -1,8 +1,8 @@
 -- What is answered for a text, and the loop over its rows. Assumes nothing.
-use Rattle.std.specs.Prelude.{ℕ, suc, ◌+◌, ◌-◌, ◌≤◌, ◌<◌, ◌≡◌, refl, List, [], ◌∷◌, eqb, take, drop, Result, Ok, Err}
+use Rattle.std.specs.Prelude.{ℕ, suc, ◌+◌, ◌≤◌, ◌<◌, ◌≡◌, refl, List, [], ◌∷◌, eqb, Result, Ok, Err}
 use Rattle.std.proofs.Math.Path.{sym, ap}
 use Rattle.std.proofs.Common.{◌∙◌, subst, not-suc-le-zero, add-one, arith, le-leb, ne_eqb}
-use Rattle.std.proofs.Math.ListN.{length, length-take, length-drop}
+use Rattle.std.proofs.Math.ListN.{length}
 use Rattle.std.proofs.lemmas.Bool.{lt-leb}
 use Rattle.listings.specs.Bytes.{pick}
 use Rattle.listings.specs.Listing.{total, count}
@@ -11,7 +11,7 @@ use Rattle.listings.specs.Read.{Position, begin, in_module, ended, in_stmts, in_
 use Rattle.listing_laws.specs.RowText.{content_text}
 use Rattle.listing_laws.specs.Shown.{open_lines, position_size, Good, Next}
 use Rattle.listing_laws.specs.ShownLaws.{row_next}
-use Rattle.listings.specs.Scan.{index_of, split-some, piece_at, next_last, next_more}
+use Rattle.listings.specs.Scan.{split-some}
 use Rattle.reader.specs.Answer.{by_number, listed_of}
 use Rattle.reader.specs.CodedRows.{place_number, as_row}
 use Rattle.tokens.specs.Arguments.{Verdict}
@@ -87,54 +87,45 @@ finish_by r i ended [] g =
 -- ---- the loop
 
 -- its invariant: the state stands for a reading, from which the rest of the text is read as the whole is
-pub record Follows (text : List ℕ) (s : State) (i at : ℕ) : Type 0 where
+pub record Follows (text : List ℕ) (s : State) (i : ℕ) (left : List ℕ) : Type 0 where
   pub reading : Reading
   pub state : s ≡ as_state reading
   pub good : Good reading reading.position
-  pub rest : read_rows reading i (split 10 (drop at text)) ≡ read_rows start 0 (split 10 text)
+  pub rest : read_rows reading i (split 10 left) ≡ read_rows start 0 (split 10 text)
 
-pub follows_start : (text : List ℕ) (s : State) → s ≡ as_state start → Follows text s 0 0
+pub follows_start : (text : List ℕ) (s : State) → s ≡ as_state start → Follows text s 0 text
 follows_start text s e = record { reading = start; state = e; good = good_start; rest = refl }
 
-module _ {text : List ℕ} {s : State} {i at e : ℕ} (f : Follows text s i at) (short : length text ≤ 65536) (fits : at ≤ length text)
-    (found : e ≡ index_of 10 (take (length text - at) (drop at text))) where
+module _ {text : List ℕ} {s : State} {i : ℕ} {left : List ℕ} (f : Follows text s i left) (short : length text ≤ 65536) where
   -- the text ends in this row
-  pub follows_last : at + e ≡ length text → by_number (finish_state s i e) ≡ listed_of (read text)
+  pub follows_last : split 10 left ≡ left ∷ [] → by_number (finish_state s i (length left)) ≡ listed_of (read text)
   unfolding as_state
   follows_last h =
       let r = f.reading in
-      let w = piece_at text at e in
-      let n : length w ≡ e = length-take (at + e - at) (drop at text) ∙ omega (arith, length-drop at text) in
-      let p : read_rows r i (split 10 (drop at text)) ≡ finish r i r.position w = ap (read_rows r i) (next_last 10 text at e fits found h) ∙ rows_last r i w in
-      ap (λ (z : State). by_number (finish_state z i e)) f.state ∙ ap (λ (z : ℕ). by_number (finish_state (as_state r) i z)) (sym n) ∙ finish_by r i r.position w f.good
-      ∙ ap listed_of (sym p ∙ f.rest ∙ sym (read_short text short))
+      let p : read_rows r i (split 10 left) ≡ finish r i r.position left = ap (read_rows r i) h ∙ rows_last r i left in
+      ap (λ (z : State). by_number (finish_state z i (length left))) f.state ∙ finish_by r i r.position left f.good ∙ ap listed_of (sym p ∙ f.rest ∙ sym (read_short text short))
 
   -- a row ended by byte 10, what the machine answers to it, and the state that it leaves
-  module _ (more : at + e ≡ length text → ⊥) (le : e ≤ length (take (length text - at) (drop at text))) (v : Verdict) (t : State) (steps : stepped v t ≡ step_row s (as_row (content_of (row_of (piece_at text at e))))) where
-    pieces : split 10 (drop at text) ≡ piece_at text at e ∷ split 10 (drop (at + e + 1) text)
-    pieces = (next_more 10 text at e fits found more le).1
-
-    outcome : numbered_step (stepped v t) ≡ as_step (read_row f.reading f.reading.position (content_of (row_of (piece_at text at e))))
-    outcome = ap numbered_step steps ∙ ap (λ (z : State). numbered_step (step_row z (as_row (content_of (row_of (piece_at text at e)))))) f.state ∙ step_law f.reading (content_of (row_of (piece_at text at e)))
+  module _ (row more : List ℕ) (pieces : split 10 left ≡ row ∷ split 10 more) (v : Verdict) (t : State) (steps : stepped v t ≡ step_row s (as_row (content_of (row_of row)))) where
+    outcome : numbered_step (stepped v t) ≡ as_step (read_row f.reading f.reading.position (content_of (row_of row)))
+    outcome = ap numbered_step steps ∙ ap (λ (z : State). numbered_step (step_row z (as_row (content_of (row_of row))))) f.state ∙ step_law f.reading (content_of (row_of row))
 
     pub follows_refused : {n : Reason} → v ≡ Err n → by_number (Err (refusal_at n i)) ≡ listed_of (read text)
     unfolding listed_of
     follows_refused {n} h =
         let r = f.reading in
-        let vs = split 10 (drop (at + e + 1) text) in
-        let q = step-refused (read_row r r.position (content_of (row_of (piece_at text at e)))) (number_of n) (sym outcome ∙ ap (λ (x : Verdict). numbered_step (stepped x t)) h) in
-        let p = rows-refused r i (piece_at text at e) vs (number_of n) (split-some 10 (drop (at + e + 1) text)) q in
+        let q = step-refused (read_row r r.position (content_of (row_of row))) (number_of n) (sym outcome ∙ ap (λ (x : Verdict). numbered_step (stepped x t)) h) in
+        let p = rows-refused r i row (split 10 more) (number_of n) (split-some 10 more) q in
         ap listed_of (sym (ap (read_rows r i) pieces ∙ p) ∙ f.rest ∙ sym (read_short text short))
 
-    pub follows_taken : v ≡ Ok tt → Follows text t (i + 1) (at + e + 1)
+    pub follows_taken : v ≡ Ok tt → Follows text t (i + 1) more
     follows_taken h =
         let r = f.reading in
-        let vs = split 10 (drop (at + e + 1) text) in
-        let q = step-taken (read_row r r.position (content_of (row_of (piece_at text at e)))) t (sym outcome ∙ ap (λ (x : Verdict). numbered_step (stepped x t)) h) in
-        let p = rows_taken r q.0 i (piece_at text at e) vs (split-some 10 (drop (at + e + 1) text)) q.1 in
+        let q = step-taken (read_row r r.position (content_of (row_of row))) t (sym outcome ∙ ap (λ (x : Verdict). numbered_step (stepped x t)) h) in
+        let p = rows_taken r q.0 i row (split 10 more) (split-some 10 more) q.1 in
         record {
           reading = q.0;
           state = q.2;
-          good = good_row r q.0 (piece_at text at e) f.good q.1;
+          good = good_row r q.0 row f.good q.1;
           rest = rw (add-one i) (sym p ∙ sym (ap (read_rows r i) pieces) ∙ f.rest);
         }

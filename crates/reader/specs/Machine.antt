@@ -4,11 +4,12 @@ use Rattle.std.proofs.Math.Option.{Option, none, some}
 use Rattle.listings.specs.Bytes.{pick}
 use Rattle.listings.specs.Listing.{BranchForm, Stmts}
 use Rattle.listings.specs.Read.{OpenCond, Branches, no_branch, one_branch, two_branches, Position, begin, in_module, ended, in_stmts, in_cond, Reading, Outcome, taken, refused}
-use Rattle.reader.specs.CodedRows.{place_number, as_cond, cond_index, cond_by, cond_number, Said}
+use Rattle.tokens.specs.Kinds.{as_cond}
+use Rattle.reader.specs.CodedRows.{place_number, cond_index, cond_by, cond_number, Said}
 use Rattle.reader.specs.declared.rows.Position.{Position as Place}
 use Rattle.reader.specs.declared.rows.Position.TheVariants as at
-use Rattle.reader.specs.declared.rows.Cond.{Cond}
-use Rattle.reader.specs.declared.rows.Cond.TheVariants as cond
+use Rattle.tokens.specs.declared.words.Cond.{Cond}
+use Rattle.tokens.specs.declared.words.Cond.TheVariants as cond
 use Rattle.reader.specs.declared.rows.Misfit.{Misfit}
 use Rattle.reader.specs.declared.rows.Row.TheVariants as row
 use Rattle.layout.specs.Refusals.{number_of}

@@ -7,7 +7,8 @@ use Rattle.listings.specs.Bytes.{pick}
 use Rattle.listings.specs.Listing.{CondWord, if, ifelse, rcomp, BranchForm, Stmts, ∅, ◌▸◌}
 use Rattle.listings.specs.Rows.{malformed, invalid, parsed, Counted, Content, no_form, end_row, stmts_row, module_row, line_row, to_row, simple_row, cond_row}
 use Rattle.listings.specs.Read.{OpenCond, Branches, no_branch, one_branch, two_branches, Position, begin, in_module, ended, in_stmts, in_cond, Reading, go_to, one_more, Outcome, taken, or_refused, check, at_begin, ascends, read_line, at_module, read_simple, read_cond, branched, end_stmts, at_stmts, NextBranch, no_more, may_follow, next_branch, cond_stmt, end_cond, read_to, read_stmts, at_cond, read_row}
-use Rattle.reader.specs.CodedRows.{place_number, as_cond, cond_number, cond_back, as_row}
+use Rattle.tokens.specs.Kinds.{as_cond}
+use Rattle.reader.specs.CodedRows.{place_number, cond_number, cond_back, as_row}
 use Rattle.tokens.specs.Numbers.{ascends as above}
 use Rattle.reader.specs.Machine.{State, deepest, last_code, first_code, cond_code, packed, branch_count, position_code, open_conds, word_code, branch_code, state_at, as_state, numbered_step, as_step, step_line, step_simple, step_cond, step_stmts, step_to, may_branch, reason_at, end_of_stmts, step_end, step_row}
 use Rattle.reader.specs.declared.rows.Position.{Position as Place}

@@ -1,5 +1,5 @@
 -- The arguments of a statement's row, word by word, as they are written. Assumes nothing.
-use Rattle.std.specs.Prelude.{◌≡◌, refl, Bool, true, false, take, drop, set, Option, Some, None, Result, Ok, Err}
+use Rattle.std.specs.Prelude.{◌≡◌, refl, Bool, true, false, take, drop, set, Option, Some, None, Result}
 use Rattle.std.proofs.Common.{get_or, sym, ◌∙◌, not-suc-le-zero, arith, length-append, length-drop, take_all, take_at}
 use Rattle.std.proofs.Math.Path.{ap, subst}
 use mathlib.Core.List.{List, [], ◌∷◌, ◌++◌, map, append_assoc}
@@ -7,24 +7,33 @@ use Rattle.std.proofs.Math.Option.{none, some}
 use Prim.Native.Nat.{ℕ, suc, ◌+◌, ◌-◌, ◌≤◌, ◌<◌}
 use Rattle.std.proofs.Math.ListN.{length}
 use Rattle.std.proofs.lemmas.List.{length-map, get_or-map, take-map}
+use Rattle.std.specs.Option.{unwrap_or}
+use Rattle.std.specs.Result.{result_unwrap_or}
+use denote.Ref.{Bor}
 use Rattle.layout.specs.Fronts.{front_next}
 use Rattle.listings.specs.Bytes.{bytes, same, pick, decimal}
 use Rattle.listings.specs.Listing.{Name, Tier, static, framed, dispatched, Mark, orphan, Slot, goto, gosub, runto, ongoto, ongosub, Simple, jump, on, for, next, block, bare}
-use Rattle.listings.specs.Rows.{split, Parse, malformed, invalid, parsed, parse_number, parse_name, is_name, is_capital, opening_words, content_of, row_of, simple_row, Counted}
+use Rattle.listings.specs.Rows.{split, Parse, malformed, invalid, parsed, parse_number, parse_name, is_name, is_capital, opening_words, lookup, or_malformed, tiers, parse_tier, marks, parse_mark, content_of, row_of, simple_row, Counted}
 use Rattle.listings.specs.ListingText.{spaced_words, closed_form, block_word, bare_word, simple_word, simple_args, simple_text, tier_word, mark_word, slot_word, SimpleOk, NumbersOk, SlotsOk}
 use Rattle.listings.specs.WordTable.{words, forms, first, word_index}
 use Rattle.listings.specs.Tests.{both_true}
 use Rattle.listing_laws.specs.NumberText.{number_text}
-use Rattle.listing_laws.specs.WordText.{in_word, is_token, are_tokens, token_lacks, tokens_lack, name_text}
+use Rattle.listing_laws.specs.WordText.{same_equal, in_word, is_token, are_tokens, token_lacks, tokens_lack, name_text}
 use Rattle.listing_laws.specs.RowForms.{join, split-join, join-split, join-words}
 use Rattle.listing_laws.specs.RowText.{simple_tokens, row_simple}
 use Rattle.listings.specs.Scan.{split-some}
+use Rattle.tokens.specs.Scan.{FirstWord}
 use Rattle.tokens.specs.Numbers.{as_number}
 use Rattle.tokens.specs.Names.{as_key}
 use Rattle.listings.specs.Cut.{cut_name, cut_slot, cut_simple}
 use Rattle.listings.specs.Records.{name_key, slot_key, args_of, tier_number, mark_number, detail_of}
 use Rattle.reader.specs.declared.operands.Given.{Given}
 use Rattle.tokens.specs.Kinds.{form_kind, opened_kind}
+use Rattle.tokens.specs.Tiers.{tier_found, mark_found}
+use Rattle.tokens.specs.declared.tiers.Tier.{Tier as Found}
+use Rattle.tokens.specs.declared.tiers.Tier.TheVariants as tier
+use Rattle.tokens.specs.declared.tiers.Mark.{Mark as FoundMark}
+use Rattle.tokens.specs.declared.tiers.Mark.TheVariants as mark
 use Rattle.tokens.specs.declared.words.Kind.{Kind}
 use Rattle.tokens.specs.declared.words.Kind.TheVariants as kind
 use Rattle.layout.specs.declared.refusals.Reason.{Reason}
@@ -63,7 +72,7 @@ by_kind f n o (Some kind.Module) = o
 by_kind f n o (Some kind.Line) = o
 by_kind f n o (Some kind.To) = o
 by_kind f n o (Some kind.Stmts) = o
-by_kind f n o (Some kind.Cond) = o
+by_kind f n o (Some (kind.Cond x)) = o
 by_kind f n o (Some kind.Bare) = o
 by_kind f n o (Some kind.Number) = o
 by_kind f n o (Some kind.Numbers) = o
@@ -105,8 +114,7 @@ pub record Put (es : List ℕ) (d : ℕ) (t t' : List ℕ) (r : Given) : Type 0 
 
 -- a value, or 0
 abbrev pub or_zero : Result ℕ Reason → ℕ
-or_zero (Err r) = 0
-or_zero (Ok n) = n
+or_zero r = result_unwrap_or r 0
 
 pub number_or_zero : (p : Parse ℕ) → or_zero (as_number p) ≡ number_entry p
 unfolding number_entry
@@ -119,6 +127,45 @@ unfolding key_entry
 key_or_zero malformed = refl
 key_or_zero invalid = refl
 key_or_zero (parsed v) = refl
+
+-- a tier that was found as it is stored, and a mark; 0 for none
+abbrev pub tier_or_zero : Option Found → ℕ
+tier_or_zero None = 0
+tier_or_zero (Some tier.Static) = 0
+tier_or_zero (Some tier.Framed) = 1
+tier_or_zero (Some tier.Dispatched) = 2
+
+abbrev pub mark_or_zero : Option FoundMark → ℕ
+mark_or_zero None = 0
+mark_or_zero (Some mark.Plain) = 0
+mark_or_zero (Some mark.Orphan) = 1
+
+pub tier_stored : (w : List ℕ) → tier_or_zero (tier_found (parse_tier w)) ≡ tier_entry w
+unfolding tier_entry bytes same lookup or_malformed parse_tier tiers
+tier_stored w = go (same (bytes "static") w) refl
+  where
+    others : (f d : Bool) → tier_or_zero (tier_found (or_malformed (pick f (some framed) (pick d (some dispatched) none)))) ≡ pick f 1 (pick d 2 0)
+    others true d = refl
+    others false true = refl
+    others false false = refl
+
+    go : (t : Bool) → same (bytes "static") w ≡ t
+        → tier_or_zero (tier_found (or_malformed (pick t (some static) (pick (same (bytes "framed") w) (some framed) (pick (same (bytes "dispatched") w) (some dispatched) none)))))
+        ≡ pick (same (bytes "framed") w) 1 (pick (same (bytes "dispatched") w) 2 0)
+    go true e = subst (λ (v : List ℕ). ◌≡◌ {A = ℕ} 0 (pick (same (bytes "framed") v) 1 (pick (same (bytes "dispatched") v) 2 0))) (same_equal (bytes "static") w e) refl
+    go false e = others (same (bytes "framed") w) (same (bytes "dispatched") w)
+
+pub mark_stored : (w : List ℕ) → mark_or_zero (mark_found (parse_mark w)) ≡ mark_entry w
+unfolding mark_entry bytes same lookup or_malformed parse_mark marks
+mark_stored w = go (same (bytes "plain") w) refl
+  where
+    others : (o : Bool) → mark_or_zero (mark_found (or_malformed (pick o (some orphan) none))) ≡ pick o 1 0
+    others true = refl
+    others false = refl
+
+    go : (t : Bool) → same (bytes "plain") w ≡ t → mark_or_zero (mark_found (or_malformed (pick t (some Mark.plain) (pick (same (bytes "orphan") w) (some orphan) none)))) ≡ pick (same (bytes "orphan") w) 1 0
+    go true e = subst (λ (v : List ℕ). ◌≡◌ {A = ℕ} 0 (pick (same (bytes "orphan") v) 1 0)) (same_equal (bytes "plain") w e) refl
+    go false e = others (same (bytes "orphan") w)
 
 -- the entries of the first n words at the front of a part, and of one word more
 pub filled_next : (f : List ℕ → ℕ) (ws : List (List ℕ)) (t : List ℕ) (n : ℕ) (w : List ℕ) → n < length ws → length ws ≤ length t → w ≡ get_or ws n w
@@ -154,7 +201,7 @@ none-entries (Some kind.Module) = refl
 none-entries (Some kind.Line) = refl
 none-entries (Some kind.To) = refl
 none-entries (Some kind.Stmts) = refl
-none-entries (Some kind.Cond) = refl
+none-entries (Some (kind.Cond x)) = refl
 none-entries (Some kind.Bare) = refl
 none-entries (Some kind.Number) = refl
 none-entries (Some kind.Numbers) = refl
@@ -169,7 +216,7 @@ none_detail (Some kind.Module) = refl
 none_detail (Some kind.Line) = refl
 none_detail (Some kind.To) = refl
 none_detail (Some kind.Stmts) = refl
-none_detail (Some kind.Cond) = refl
+none_detail (Some (kind.Cond x)) = refl
 none_detail (Some kind.Bare) = refl
 none_detail (Some kind.Number) = refl
 none_detail (Some kind.Numbers) = refl
@@ -181,12 +228,12 @@ pub put_by : {es fs : List ℕ} {d b : ℕ} (t t' : List ℕ) (r : Given) → es
 put_by t t' r e q g = record { count = g.count ∙ ap length e; detail = g.detail ∙ q; table = g.table ∙ ap (λ (l : List ℕ). l ++ drop (length l) t) e }
 
 module _ (s : List ℕ) (alone : split 32 s ≡ s ∷ []) where
-  pub for_alone : (t : List ℕ) (x : ℕ) → 1 ≤ length t → x ≡ entry_by true s
-      → Put (map (entry_by true) (take 1 (split 32 s))) (tier_entry (join 32 (drop 1 (split 32 s)))) t (set t 0 x) (record { count = 1; detail = 0 })
+  for_alone : (t : List ℕ) (x y : ℕ) → 1 ≤ length t → x ≡ entry_by true s → y ≡ tier_entry []
+      → Put (map (entry_by true) (take 1 (split 32 s))) (tier_entry (join 32 (drop 1 (split 32 s)))) t (set t 0 x) (record { count = 1; detail = y })
   unfolding join
-  for_alone t x h p =
-      subst (λ (ws : List (List ℕ)). Put (map (entry_by true) (take 1 ws)) (tier_entry (join 32 (drop 1 ws))) t (set t 0 x) (record { count = 1; detail = 0 }))
-      (sym alone) (put_one t x _ _ 0 h p (sym nil_tier))
+  for_alone t x y h p r =
+      subst (λ (ws : List (List ℕ)). Put (map (entry_by true) (take 1 ws)) (tier_entry (join 32 (drop 1 ws))) t (set t 0 x) (record { count = 1; detail = y }))
+      (sym alone) (put_one t x _ _ y h p r)
 
   pub next_alone : (t : List ℕ) (m : ℕ) → m ≡ mark_entry s → Put (map (entry_by true) (drop 1 (split 32 s))) (head_mark (split 32 s)) t t (record { count = 0; detail = m })
   unfolding head_mark
@@ -203,7 +250,7 @@ module _ (s : List ℕ) (alone : split 32 s ≡ s ∷ []) where
 
 -- w: the first word, v: the text behind it
 module _ (s w v : List ℕ) (cut : split 32 s ≡ w ∷ split 32 v) where
-  pub for_pair : (t : List ℕ) (x y : ℕ) → 1 ≤ length t → x ≡ entry_by true w → y ≡ tier_entry v
+  for_pair : (t : List ℕ) (x y : ℕ) → 1 ≤ length t → x ≡ entry_by true w → y ≡ tier_entry v
       → Put (map (entry_by true) (take 1 (split 32 s))) (tier_entry (join 32 (drop 1 (split 32 s)))) t (set t 0 x) (record { count = 1; detail = y })
   for_pair t x y h p r =
       subst (λ (ws : List (List ℕ)). Put (map (entry_by true) (take 1 ws)) (tier_entry (join 32 (drop 1 ws))) t (set t 0 x) (record { count = 1; detail = y }))
@@ -237,6 +284,14 @@ module _ (s w v : List ℕ) (cut : split 32 s ≡ w ∷ split 32 v) where
         let q : row_entries (split 32 s) ≡ entries_of k (split 32 v) = ap row_entries cut ∙ ap (λ (g : Option Kind). entries_of g (split 32 v)) (sym kind-first) in
         omega (arith, ap length q)
 
+-- FOR's words: the first and the text behind it, or a single one and no text
+pub for_words : (s e : Bor (List ℕ)) (o : Option (Bor (List ℕ) × Bor (List ℕ))) (d : Bor (List ℕ) × Bor (List ℕ)) → FirstWord s.now o → e.now ≡ [] → d ≡ unwrap_or o (s, e) → (t : List ℕ) (x y : ℕ) → 1 ≤ length t → x ≡ entry_by true d.0.now → y ≡ tier_entry d.1.now
+    → Put (map (entry_by true) (take 1 (split 32 s.now))) (tier_entry (join 32 (drop 1 (split 32 s.now)))) t (set t 0 x) (record { count = 1; detail = y })
+for_words s e None d f n q t x y h p r =
+    for_alone s.now f t x y h (p ∙ ap (λ (z : Bor (List ℕ) × Bor (List ℕ)). entry_by true z.0.now) q) (r ∙ ap (λ (z : Bor (List ℕ) × Bor (List ℕ)). tier_entry z.1.now) q ∙ ap tier_entry n)
+for_words s e (Some w) d f n q t x y h p r =
+    for_pair s.now w.0.now w.1.now f t x y h (p ∙ ap (λ (z : Bor (List ℕ) × Bor (List ℕ)). entry_by true z.0.now) q) (r ∙ ap (λ (z : Bor (List ℕ) × Bor (List ℕ)). tier_entry z.1.now) q)
+
 -- by the kind
 first_one : (f : List ℕ → ℕ) (ws : List (List ℕ)) → 0 < length ws → length (map f (take 1 ws)) ≡ 1
 first_one f [] h = absurd (not-suc-le-zero h)
@@ -250,20 +305,20 @@ pub entries_next : (ws : List (List ℕ)) (k : Option Kind) → k ≡ Some kind.
 unfolding entries_of details_of by_kind
 entries_next ws k e = (rw e, rw e)
 
-pub entries-numbers : (ws : List (List ℕ)) (k : Option Kind) → (k ≡ Some kind.For → ⊥) → (k ≡ Some kind.Next → ⊥) → (map (entry_by false) ws ≡ entries_of k ws) × (0 ≡ details_of k ws)
+pub entries_numbers : (ws : List (List ℕ)) (k : Option Kind) → (k ≡ Some kind.For → ⊥) → (k ≡ Some kind.Next → ⊥) → (map (entry_by false) ws ≡ entries_of k ws) × (0 ≡ details_of k ws)
 unfolding entries_of details_of by_kind
-entries-numbers ws None p q = (refl, refl)
-entries-numbers ws (Some kind.Module) p q = (refl, refl)
-entries-numbers ws (Some kind.Line) p q = (refl, refl)
-entries-numbers ws (Some kind.To) p q = (refl, refl)
-entries-numbers ws (Some kind.Stmts) p q = (refl, refl)
-entries-numbers ws (Some kind.Cond) p q = (refl, refl)
-entries-numbers ws (Some kind.Bare) p q = (refl, refl)
-entries-numbers ws (Some kind.Number) p q = (refl, refl)
-entries-numbers ws (Some kind.Numbers) p q = (refl, refl)
-entries-numbers ws (Some kind.Run) p q = (refl, refl)
-entries-numbers ws (Some kind.For) p q = absurd (p refl)
-entries-numbers ws (Some kind.Next) p q = absurd (q refl)
+entries_numbers ws None p q = (refl, refl)
+entries_numbers ws (Some kind.Module) p q = (refl, refl)
+entries_numbers ws (Some kind.Line) p q = (refl, refl)
+entries_numbers ws (Some kind.To) p q = (refl, refl)
+entries_numbers ws (Some kind.Stmts) p q = (refl, refl)
+entries_numbers ws (Some (kind.Cond x)) p q = (refl, refl)
+entries_numbers ws (Some kind.Bare) p q = (refl, refl)
+entries_numbers ws (Some kind.Number) p q = (refl, refl)
+entries_numbers ws (Some kind.Numbers) p q = (refl, refl)
+entries_numbers ws (Some kind.Run) p q = (refl, refl)
+entries_numbers ws (Some kind.For) p q = absurd (p refl)
+entries_numbers ws (Some kind.Next) p q = absurd (q refl)
 
 -- the room for what is written
 pub for_room : (l : List ℕ) (k : Option Kind) (n : ℕ) → k ≡ Some kind.For → length (entries_of k (split 32 l)) ≤ n → 1 ≤ n
@@ -273,7 +328,7 @@ pub slots_room : (l : List ℕ) (k : Option Kind) (n : ℕ) → k ≡ Some kind.
 slots_room l k n e h = omega (arith, ap length (entries_next (split 32 l) k e).0, length-map (drop 1 (split 32 l)) (entry_by true))
 
 pub numbers_room : (l : List ℕ) (k : Option Kind) (n : ℕ) → (k ≡ Some kind.For → ⊥) → (k ≡ Some kind.Next → ⊥) → length (entries_of k (split 32 l)) ≤ n → length (split 32 l) ≤ n
-numbers_room l k n p q h = omega (arith, ap length (entries-numbers (split 32 l) k p q).0, length-map (split 32 l) (entry_by false))
+numbers_room l k n p q h = omega (arith, ap length (entries_numbers (split 32 l) k p q).0, length-map (split 32 l) (entry_by false))
 
 -- ---- the words of a statement come to its arguments, names cut
 

@@ -9,12 +9,13 @@ ghost use Rattle.reader.specs.FileLoop.{row_by, operands_by, operands_at, RowCou
 
 use super::fill::{Place, Walk, write_row};
 use super::operands::Given;
-use super::rows::{Cond, Row};
+use super::rows::Row;
 use super::tables::Records;
 use basic::actions::put_args;
 use basic::rows::{first_row, row_at};
 use basic::sources::{FileRow, Simple};
 use layout::columns::ARG_ENTRIES;
+use tokens::words::Cond;
 
 // A row of a file, as one of a text; how many arguments it has is not asked again.
 impl From<FileRow> for Row {
@@ -37,6 +38,7 @@ impl From<FileRow> for Row {
 }
 
 // The arguments of statement n into its own 64 entries.
+#[tactic(auto, using(crate::specs::FileLoop::args_put))]
 fn put_file_args(file: &[u8], s: Simple, args: &mut [u64], n: usize)
     requires { HasRoom args.old n (operands_at file.now s) }
     ensures { OperandsPut args.old n (operands_at file.now s) args.new (record { count = length (operands_at file.now s).entries; detail = 0 }) }
@@ -46,6 +48,8 @@ fn put_file_args(file: &[u8], s: Simple, args: &mut [u64], n: usize)
 }
 
 // Writes a row, with its arguments.
+// Kept: beside `fill::write_text_row`: where the arguments stand a row of a text says by its bytes, one of a file by a
+// place.
 fn write_file_row(file: &[u8], r: FileRow, t: &mut Records<'_>, p: &Place, row: Row) -> Walk
     requires known { row ≡ row_by r }
     requires counted { RowCounted file.now r }

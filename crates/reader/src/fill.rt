@@ -11,13 +11,16 @@ ghost use Rattle.reader.specs.RowOperands.{operands_in, row_operands, IsStatemen
 
 use super::machine::State;
 use super::operands::{Given, put_operands};
-use super::rows::{Cond, FIRST_COND, Position, Row, Which, accepted_row};
+use super::rows::{Position, Row, Which, accepted_row};
 use super::tables::{Entry, Records, append, fetch, store};
 use layout::columns::{
-    ARG_ENTRIES, END, FORM1, FORM2, HOLDER, INDEX, NUMBER1, NUMBER2, SECOND, STMTS_BRANCH,
-    TO_BRANCH,
+    ARG_ENTRIES, END, FORM1, FORM2, HOLDER, INDEX, NUMBER1, NUMBER2, SECOND, STMT_ENTRIES,
+    STMTS_BRANCH, TO_BRANCH,
 };
-use tokens::scan::find;
+use layout::limits::{MAX_ARGS, MAX_LINES, MAX_STMTS};
+use layout::words::IF;
+use tokens::scan::first_row;
+use tokens::words::Cond;
 
 // In which IF the next statement stands, and the number it gets there; in none by default.
 #[derive(Clone, Copy, Default)]
@@ -27,6 +30,8 @@ pub(crate) struct Walk {
 }
 
 // Where reading stands, and where the next statement goes.
+// Kept: what a row does at a place stands below as functions of the table that each writes, which comes first; the
+// place is only read there.
 #[derive(Clone, Copy)]
 pub(crate) struct Place {
     pub(crate) state: State,
@@ -46,6 +51,7 @@ impl Place {
 }
 
 // What a branch holds: statements, or the number of a line.
+// Kept: the reader writes it and the wiring reads it back; one type of both would stand in layout, for two functions.
 #[derive(Clone, Copy)]
 enum Branch {
     Stmts,
@@ -64,17 +70,9 @@ impl Branch {
     }
 }
 
-// The index of the next statement of the same holder.
-fn next_index(k: u16) -> u16
-    requires { k ≤ 4096 }
-    ensures { result ≡ k + 1 }
-{
-    k + 1
-}
-
 // That branch of IF i ends before node n, where a second one begins.
 fn end_branch(t: &mut [u16], i: usize, which: Which, branch: Branch, n: usize)
-    requires { (i * 12 + 12 ≤ length t.old) × (i ≤ 4096) × (n ≤ 4096) }
+    requires { (i * STMT_ENTRIES + STMT_ENTRIES ≤ length t.old) × (i ≤ MAX_STMTS) × (n ≤ MAX_STMTS) }
     ensures { t.new ≡ branch_stmts t.old i (is_second which) (branch_columns branch).0 (branch_columns branch).1 n }
 {
     let (form, number) = branch.columns();
@@ -106,7 +104,7 @@ fn end_row(t: &mut [u16], p: &Place) -> Walk
         store(t, i, END, p.state.stmts as u16);
         return Walk {
             holder,
-            index: next_index(k),
+            index: k + 1,
         };
     }
     end_branch(t, i, p.state.branch_open(), Branch::Stmts, p.state.stmts);
@@ -128,7 +126,7 @@ fn to_row(t: &mut [u16], p: &Place, n: u16) -> Walk
 
 // What is known of a statement at its row. A holder is stored as one more than its node, and 0 is none.
 fn record_entry(p: &Place, word: usize, end: usize, g: Given) -> Entry
-    requires { (0 < p.now.state.lines) × (p.now.state.lines ≤ 1024) × (held p.now.walk.holder ≤ 4096) × (word ≤ 28) × (end ≤ 4096) × (g.count ≤ 64) }
+    requires { (0 < p.now.state.lines) × (p.now.state.lines ≤ MAX_LINES) × (held p.now.walk.holder ≤ MAX_STMTS) × (word ≤ 28) × (end ≤ MAX_STMTS) × (g.count ≤ MAX_ARGS) }
     ensures { result ≡ entry_of (state_of p.now.state) p.now.walk word end g }
 {
     Entry {
@@ -144,14 +142,14 @@ fn record_entry(p: &Place, word: usize, end: usize, g: Given) -> Entry
 
 // The record of a statement that holds none; the next one stands beside it.
 fn add_simple(stmts: &mut [u16], p: &Place, word: usize, given: Given) -> Walk
-    requires { AddReady stmts.old (state_of p.now.state) p.now.walk word × (given.count ≤ 64) }
+    requires { AddReady stmts.old (state_of p.now.state) p.now.walk word × (given.count ≤ MAX_ARGS) }
     ensures { (result ≡ added_walk p.now.walk) × (stmts.new ≡ add_simple stmts.old (state_of p.now.state) p.now.walk word given) }
 {
     let n = p.state.stmts;
     append(stmts, n, record_entry(p, word, n + 1, given));
     Walk {
         holder: p.walk.holder,
-        index: next_index(p.walk.index),
+        index: p.walk.index + 1,
     }
 }
 
@@ -160,7 +158,7 @@ fn add_cond(stmts: &mut [u16], p: &Place, word: Cond) -> Walk
     requires { AddReady stmts.old (state_of p.now.state) p.now.walk (cond_index word + 2) }
     ensures { (result ≡ inside_walk (state_of p.now.state)) × (stmts.new ≡ add_cond stmts.old (state_of p.now.state) p.now.walk word) }
 {
-    let k = u64::from(word) as usize + FIRST_COND;
+    let k = usize::from(IF) + word as usize;
     let n = p.state.stmts;
     append(stmts, n, record_entry(p, k, 0, Given::default()));
     Walk {
@@ -223,22 +221,17 @@ fn write_text_row(text: &[u8], t: &mut Records<'_>, p: &Place, row: Row) -> Walk
 }
 
 // The rows again, each of which was taken before.
-// Kept: no `split`, as in `judge`: the last piece is no row. Of all pieces of `split_inclusive` std has no law.
+// Kept: `while let`, as `judge`.
 pub(crate) fn fill(text: &[u8], t: &mut Records<'_>)
     requires { ZeroedIn (meant text.now) t.old }
     ensures { FilledIn (meant text.now) t.old t.new }
 {
     let mut p = Place::start();
-    let mut at: usize = 0;
-    loop {
-        let e = find(&text[at..], b'\n');
-        let to = at + e;
-        if to == text.len() {
-            return;
-        }
-        let row = accepted_row(&text[at..to]);
-        p.walk = write_text_row(&text[at..to], t, &p, row);
-        p.state.step_row(row).unwrap();
-        at = to + 1;
+    let mut left = text;
+    while let Some((row, rest)) = first_row(left) {
+        let taken = accepted_row(row);
+        p.walk = write_text_row(row, t, &p, taken);
+        p.state.step_row(taken).unwrap();
+        left = rest;
     }
 }

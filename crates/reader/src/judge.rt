@@ -13,9 +13,10 @@ use super::machine::State;
 use super::rows::{Position, row_of};
 use layout::limits::MAX_BYTES;
 use layout::refusals::{Reason, Refusal};
-use tokens::scan::find;
+use tokens::scan::first_row;
 
 // The text ends in row i, after e bytes of it.
+// Kept: field by field, and not by `From`: an accepted text is told at this place alone.
 fn finish(s: State, i: usize, e: usize) -> Result<Accepted, Refusal>
     ensures { result ≡ finish_state (state_of s) i e }
 {
@@ -40,8 +41,8 @@ fn step(s: &mut State, row: &[u8]) -> Result<(), Reason>
 }
 
 // "The first bad row decides": the rows one after the other.
-// Kept: the last piece is no row, which `split` does not tell; where a text ends with a row `split_inclusive` has no
-// last piece, so `finish` would stand twice and i be counted all the same.
+// Kept: `while let`, with i counted by hand: an iterator of rows would be a struct whose `next` is this call, and what is
+// left behind the last row is asked for when the loop is over.
 pub(crate) fn judge(text: &[u8]) -> Result<Accepted, Refusal>
     ensures { by_number result ≡ listed_of (read text.now) }
 {
@@ -49,16 +50,12 @@ pub(crate) fn judge(text: &[u8]) -> Result<Accepted, Refusal>
         return Err(Reason::TextTooLong.at(0));
     }
     let mut s = State::start();
-    let mut at: usize = 0;
     let mut i: usize = 0;
-    loop {
-        let e = find(&text[at..], b'\n');
-        let to = at + e;
-        if to == text.len() {
-            return finish(s, i, e);
-        }
-        step(&mut s, &text[at..to]).map_err(|reason| reason.at(i))?;
-        at = to + 1;
+    let mut left = text;
+    while let Some((row, rest)) = first_row(left) {
+        step(&mut s, row).map_err(|reason| reason.at(i))?;
         i += 1;
+        left = rest;
     }
+    finish(s, i, left.len())
 }

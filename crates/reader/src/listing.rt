@@ -16,6 +16,7 @@ use super::judge::judge;
 use super::tables::Records;
 use basic::judge::{Counts, judge_program};
 use layout::columns::{ARG_ENTRIES, STMT_ENTRIES};
+use layout::limits::{MAX_LINES, MAX_STMTS};
 use layout::refusals::{Reason, Refusal};
 
 // A listing's text, or a saved program.
@@ -35,8 +36,9 @@ pub struct Accepted {
 
 impl Accepted {
     // The used counts; those of the edges, return targets and entry rows are not the reader's.
+    #[tactic(auto, unfolding(listings::specs::Records::handler_number))]
     fn counts(self) -> [u32; 6]
-        requires { (self.lines ≤ 1024) × (self.stmts ≤ 4096) }
+        requires { (self.lines ≤ MAX_LINES) × (self.stmts ≤ MAX_STMTS) }
         ensures { result ≡ self.lines ∷ self.stmts ∷ handler_number self.handlers ∷ 0 ∷ 0 ∷ 0 ∷ [] }
     {
         let handlers = u32::from(self.handlers);
@@ -57,24 +59,26 @@ impl From<Counts> for Accepted {
     }
 }
 
-// An input, accepted or refused.
-fn judge_input(input: Input<'_>) -> Result<Accepted, Refusal>
-    ensures { by_number result ≡ listed_of (meaning (is_program input.entry) (bytes_of input.entry)) }
-{
-    match input {
-        Input::Text(text) => judge(text),
-        Input::Program(file) => judge_program(file).map(Accepted::from),
+impl Input<'_> {
+    // Accepted or refused.
+    fn judge(self) -> Result<Accepted, Refusal>
+        ensures { by_number result ≡ listed_of (meaning (is_program self.entry) (bytes_of self.entry)) }
+    {
+        match self {
+            Input::Text(text) => judge(text),
+            Input::Program(file) => judge_program(file).map(Accepted::from),
+        }
     }
-}
 
-// The records of an input that is accepted, into zeroed tables that can hold them.
-fn fill_input(input: Input<'_>, t: &mut Records<'_>)
-    requires { ZeroedIn (meaning (is_program input) (bytes_of input)) t.old }
-    ensures { FilledIn (meaning (is_program input.entry) (bytes_of input.entry)) t.old t.new }
-{
-    match input {
-        Input::Text(text) => fill(text, t),
-        Input::Program(file) => fill_program(file, t),
+    // The records of one that is accepted, into zeroed tables that can hold them.
+    fn fill(self, t: &mut Records<'_>)
+        requires { ZeroedIn (meaning (is_program self) (bytes_of self)) t.old }
+        ensures { FilledIn (meaning (is_program self.entry) (bytes_of self.entry)) t.old t.new }
+    {
+        match self {
+            Input::Text(text) => fill(text, t),
+            Input::Program(file) => fill_program(file, t),
+        }
     }
 }
 
@@ -95,14 +99,14 @@ fn write_listing(
     if t.stmts.len() / STMT_ENTRIES < a.stmts || t.args.len() / ARG_ENTRIES < a.stmts {
         return Err(Reason::NodeTables.at(a.stmts));
     }
-    fill_input(input, t);
+    input.fill(t);
     *counts = a.counts();
     Ok(a)
 }
 
 // counts: lines, statements, handlers. lines: a number each. stmts: 12 entries a statement, args: 64.
 // A refused input leaves every entry zero.
-// Kept: the C interface lends the tables one by one.
+// Kept: the tables one by one, as `build_input` of the wiring has them from the C interface.
 pub fn read_input(
     input: Input<'_>,
     counts: &mut [u32; 6],
@@ -115,12 +119,12 @@ pub fn read_input(
     *counts = [0; 6];
     let mut t = Records { lines, stmts, args };
     t.clear();
-    let a = judge_input(input)?;
+    let a = input.judge()?;
     write_listing(input, counts, &mut t, a)
 }
 
-// The same of a text.
-// Kept: the C interface lends the tables one by one.
+// The same of a text. Nothing here calls it: it is the name by which the reader's promise of a text is known.
+// Kept: the tables one by one, as `read_input` takes them.
 pub fn read_listing(
     text: &[u8],
     counts: &mut [u32; 6],

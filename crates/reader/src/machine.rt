@@ -1,13 +1,14 @@
 // The row machine: where reading stands, and what each row does to it.
-ghost use Rattle.std.specs.Prelude.{◌≡◌, ◌≤◌, ◌<◌, ◌^◌, ◌%◌, eqb, Ok};
+ghost use Rattle.std.specs.Prelude.{◌≡◌, ◌+◌, ◌*◌, ◌≤◌, ◌<◌, ◌^◌, ◌/◌, ◌%◌, ◌&&◌, eqb, Ok};
 ghost use Rattle.listings.specs.Read.{start};
-ghost use Rattle.reader.specs.CodedRows.{place_number, is_second};
+ghost use Rattle.reader.specs.CodedRows.{place_number, cond_index, cond_by, is_second};
 ghost use Rattle.reader.specs.Machine.{deepest, due, room, as_state, outside, moved, one_more, stepped, step_module, step_line, step_simple, step_cond, may_branch, is_complete, step_stmts, step_to, reason_at, end_of_stmts, step_end, step_row};
 
-use super::rows::{Cond, Misfit, Position, Row, Which};
+use super::rows::{Misfit, Position, Row, Which};
 use layout::limits::{MAX_ARGS, MAX_DEPTH, MAX_LINES, MAX_STMTS};
 use layout::refusals::Reason;
 use tokens::numbers::ascends;
+use tokens::words::Cond;
 
 // An IF's word, and how many of its branches were read.
 #[derive(Clone, Copy)]
@@ -45,15 +46,36 @@ impl Branches {
             Cond::Rcomp => self.read == 1 || self.read == 2,
         }
     }
+
+    // While the next branch is read, as one digit to the base 8: twice the word's number, and 1 in a second branch.
+    fn digit(self) -> u64
+        ensures { (result ≡ cond_index self.word * 2 + self.read) × (result ≤ 6) }
+    {
+        self.word as u64 * 2 + self.read
+    }
+
+    // The same when that branch has ended.
+    // Kept: by hand, and no `From<u64>`: it is the way back of `digit`, and of numbers that are no digit nothing is meant.
+    fn behind(digit: u64) -> Branches
+        ensures { (result.word ≡ cond_by (digit / 2)) × (result.read ≡ digit % 2 + 1) }
+    {
+        let word = match digit / 2 {
+            0 => Cond::If,
+            1 => Cond::IfElse,
+            _ => Cond::Rcomp,
+        };
+        let read = digit % 2 + 1;
+        Branches { word, read }
+    }
 }
 
 // last: the last line's number. lines, stmts: how many were begun.
-// depth, open_conds: the IFs in whose branches the next row stands, packed to the base 8, the innermost lowest: twice
-// the word's number, and 1 in a second branch.
-// Kept: one number; of an array what stood above `depth` would say something too, and equal states would differ.
+// depth, open_conds: the IFs in whose branches the next row stands, packed to the base 8, the innermost lowest.
 // branches: of the IF whose branches are due; elsewhere none of an If.
-// Kept: beside the position; one that carried them could not be what a misfit names as due, and a second enum of the
-// same five places without them would be its twin.
+// Kept: the open IFs as one number; of an array what stood above `depth` would say something too, and equal states
+// would differ.
+// Kept: `branches` beside the position; one that carried them could not be what a misfit names as due, and a second
+// enum of the same five places without them would be its twin.
 #[derive(Clone, Copy)]
 pub(crate) struct State {
     pub(crate) position: Position,
@@ -124,6 +146,16 @@ impl State {
         Err(Reason::NotAForm)
     }
 
+    // A branch is a form only where one is due.
+    fn may_branch(&self) -> Result<(), Reason>
+        ensures { result ≡ due (eqb (place_number self.now.position) 4 && may_branch self.now.branches.word self.now.branches.read) }
+    {
+        if self.is_at(Position::InCond) && self.branches.may_follow() {
+            return Ok(());
+        }
+        Err(Reason::NotAForm)
+    }
+
     // Whether there is room for one statement more; the reasons in the order of their numbers.
     fn has_room(&self) -> Result<(), Reason>
         ensures { result ≡ room (state_of self.now) }
@@ -157,7 +189,7 @@ impl State {
 
     // With one statement more.
     fn one_more(&mut self, position: Position, word: Cond)
-        requires { (self.old.stmts < 4096) × (self.old.depth ≤ deepest position) }
+        requires { (self.old.stmts < MAX_STMTS) × (self.old.depth ≤ deepest position) }
         ensures { state_of self.new ≡ one_more (state_of self.old) position word }
     {
         self.stmts += 1;
@@ -215,16 +247,15 @@ impl State {
     }
 
     // A branch opens: the IF goes to the packed shape until it ends.
+    #[tactic(auto, using(crate::specs::MachineLaws::few_open))]
     fn step_stmts(&mut self) -> Result<(), Reason>
         ensures { stepped result (state_of self.new) ≡ step_stmts (state_of self.old) }
     {
-        if !self.is_at(Position::InCond) || !self.branches.may_follow() {
-            return Err(Reason::NotAForm);
-        }
-        let code = u64::from(self.branches.word) * 2 + self.branches.read;
+        self.may_branch()?;
+        let digit = self.branches.digit();
         self.moved(Position::InStmts, Branches::none(Cond::If));
         self.depth += 1;
-        self.open_conds = code + 8 * self.open_conds;
+        self.open_conds = digit + 8 * self.open_conds;
         Ok(())
     }
 
@@ -232,9 +263,7 @@ impl State {
     fn step_to(&mut self) -> Result<(), Reason>
         ensures { stepped result (state_of self.new) ≡ step_to (state_of self.old) }
     {
-        if !self.is_at(Position::InCond) || !self.branches.may_follow() {
-            return Err(Reason::NotAForm);
-        }
+        self.may_branch()?;
         let Branches { word, read } = self.branches;
         let read = read + 1;
         self.branches = Branches { word, read };
@@ -253,6 +282,7 @@ impl State {
     }
 
     // `)` after statements: a line ends, or the innermost IF goes on.
+    #[tactic(auto, using(crate::specs::MachineLaws::one_closed))]
     fn end_of_stmts(&mut self)
         ensures { Ok (state_of self.new) ≡ end_of_stmts (state_of self.old) }
     {
@@ -260,31 +290,25 @@ impl State {
             self.outside(Position::InModule);
             return;
         }
-        let top = self.open_conds % 8;
+        let branches = Branches::behind(self.open_conds % 8);
         self.depth -= 1;
         self.open_conds /= 8;
-        let word = Cond::from(top / 2);
-        let read = top % 2 + 1;
-        self.moved(Position::InCond, Branches { word, read });
+        self.moved(Position::InCond, branches);
     }
 
     // A `)`: of statements, of an IF with all its branches, or of the module.
     fn step_end(&mut self) -> Result<(), Reason>
         ensures { stepped result (state_of self.new) ≡ step_end (state_of self.old) }
     {
-        if self.is_at(Position::InStmts) {
-            self.end_of_stmts();
-            return Ok(());
+        match self.position {
+            Position::InStmts => self.end_of_stmts(),
+            Position::InCond if self.branches.are_all() => {
+                self.moved(Position::InStmts, Branches::none(Cond::If));
+            }
+            Position::InModule => self.outside(Position::Ended),
+            _ => return Err(Reason::NotAForm),
         }
-        if self.is_at(Position::InCond) && self.branches.are_all() {
-            self.moved(Position::InStmts, Branches::none(Cond::If));
-            return Ok(());
-        }
-        if self.is_at(Position::InModule) {
-            self.outside(Position::Ended);
-            return Ok(());
-        }
-        Err(Reason::NotAForm)
+        Ok(())
     }
 
     // What a row does, whatever it says.

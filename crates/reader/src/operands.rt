@@ -5,11 +5,11 @@ ghost use Rattle.listing_laws.specs.RowForms.{join};
 ghost use Rattle.tokens.specs.Arguments.{are_slots};
 ghost use Rattle.reader.specs.Operands.{entry_by, tier_entry, mark_entry, head_mark, entries_of, details_of, opening_word, row_entries, row_detail, Put};
 
-use layout::columns::{DISPATCHED, ORPHAN};
 use tokens::arguments::Arguments;
 use tokens::names::key_of;
 use tokens::numbers::number;
 use tokens::scan::{equal, first_word};
+use tokens::tiers::{mark_of, tier_of};
 use tokens::words::{Kind, kind_of};
 
 // How many arguments a statement has, and FOR's tier or NEXT's mark; none by default.
@@ -19,12 +19,10 @@ pub(crate) struct Given {
     pub(crate) detail: u16,
 }
 
-// The tier `framed` as it is stored. Kept: an entry of the lent tables, which C reads.
-const FRAMED: u16 = 1;
-
-// A slot as it is stored: its name's key, or 0 for `*`, since no name has that key.
+// A slot as it is stored: its name's key, or 0 for `*`, since no name has that key. `*` is tested first: that it is no
+// name takes longer to find.
 // Kept: a number; the lent tables, which C reads, have it so.
-// `*` is tested first: that it is no name takes longer to find.
+#[tactic(auto, unfolding(crate::specs::Operands::entry_by), using(crate::specs::Operands::key_or_zero, crate::specs::Operands::star_entry, listing_laws::specs::WordText::same_equal))]
 fn slot_of(w: &[u8]) -> u64
     ensures { result ≡ entry_by true w.now }
 {
@@ -35,6 +33,7 @@ fn slot_of(w: &[u8]) -> u64
 }
 
 // An argument as it is stored: a slot or a number.
+#[tactic(auto, unfolding(crate::specs::Operands::entry_by), using(crate::specs::Operands::number_or_zero))]
 fn operand_of(arguments: Arguments, w: &[u8]) -> u64
     ensures { result ≡ entry_by (are_slots arguments) w.now }
 {
@@ -44,29 +43,19 @@ fn operand_of(arguments: Arguments, w: &[u8]) -> u64
     }
 }
 
-// A tier as it is stored; `static` is 0.
-#[tactic(auto, unfolding(crate::specs::Operands::tier_entry, listings::specs::Bytes::bytes))]
-fn tier_of(w: &[u8]) -> u16
+// A tier as it is stored.
+// Kept: beside `mark_number`, a line each, as tokens' `tier_refusal`.
+fn tier_number(w: &[u8]) -> u16
     ensures { result ≡ tier_entry w.now }
 {
-    if equal(b"framed", w) {
-        return FRAMED;
-    }
-    if equal(b"dispatched", w) {
-        return DISPATCHED;
-    }
-    0
+    tier_of(w).map_or(0, |t| t as u16)
 }
 
-// A mark as it is stored; `plain` is 0.
-#[tactic(auto, unfolding(crate::specs::Operands::mark_entry, listings::specs::Bytes::bytes))]
-fn mark_of(w: &[u8]) -> u16
+// A mark as it is stored.
+fn mark_number(w: &[u8]) -> u16
     ensures { result ≡ mark_entry w.now }
 {
-    if equal(b"orphan", w) {
-        return ORPHAN;
-    }
-    0
+    mark_of(w).map_or(0, |m| m as u16)
 }
 
 // The words of s, each as one entry.
@@ -88,17 +77,11 @@ fn put_for(s: &[u8], part: &mut [u64]) -> Given
     requires { 1 ≤ length part.old }
     ensures { Put (map (entry_by true) (take 1 (split 32 s.now))) (tier_entry (join 32 (drop 1 (split 32 s.now)))) part.old part.new result }
 {
-    let Some((name, tier)) = first_word(s) else {
-        part[0] = slot_of(s);
-        return Given {
-            count: 1,
-            detail: 0,
-        };
-    };
+    let (name, tier) = first_word(s).unwrap_or((s, b""));
     part[0] = slot_of(name);
     Given {
         count: 1,
-        detail: tier_of(tier),
+        detail: tier_number(tier),
     }
 }
 
@@ -110,17 +93,20 @@ fn put_next(s: &[u8], part: &mut [u64]) -> Given
     let Some((mark, slots)) = first_word(s) else {
         return Given {
             count: 0,
-            detail: mark_of(s),
+            detail: mark_number(s),
         };
     };
     let g = put_words(slots, Arguments::Slots, part);
     Given {
-        count: g.count,
-        detail: mark_of(mark),
+        detail: mark_number(mark),
+        ..g
     }
 }
 
 // The words after an opening word of this kind.
+// Kept: beside `put_operands`; tried as arms of its `match`, where the other words come two ways, by another kind and
+// by none, which each proof would take apart.
+#[tactic(auto, using(crate::specs::Operands::entries_for, crate::specs::Operands::entries_next, crate::specs::Operands::entries_numbers, crate::specs::Operands::put_by))]
 fn put_kind(kind: Kind, s: &[u8], part: &mut [u64]) -> Given
     requires { length (entries_of (Some kind) (split 32 s.now)) ≤ length part.old }
     ensures { Put (entries_of (Some kind) (split 32 s.now)) (details_of (Some kind) (split 32 s.now)) part.old part.new result }

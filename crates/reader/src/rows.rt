@@ -3,15 +3,14 @@ ghost use Rattle.std.specs.Prelude.{◌≡◌, ◌-◌, ◌<◌, ◌≤◌, eqb,
 ghost use Rattle.listings.specs.Rows.{split, single, module_content, form_row, row_of, content_of};
 ghost use Rattle.tokens.specs.Numbers.{as_number};
 ghost use Rattle.tokens.specs.Kinds.{opened_kind};
-ghost use Rattle.reader.specs.CodedRows.{as_row, Inside, cond_by, cond_index, is_closed, simple_by, number_due, closed_args, opened_args, args_row, closed_bare, opened_bare, bare_row};
+ghost use Rattle.reader.specs.CodedRows.{as_row, Inside, is_closed, simple_by, number_due, closed_args, opened_args, args_row, closed_bare, opened_bare, bare_row};
 ghost use Rattle.reader.specs.AcceptedRows.{WellFormed, uncounted};
 
 use layout::refusals::Reason;
-use layout::words::IF;
 use tokens::arguments::{Checked, are_words, check_kind, single_number};
 use tokens::numbers::flag_of;
 use tokens::scan::{equal, first_word};
-use tokens::words::{Kind, candidate, kind_of, word_of};
+use tokens::words::{Cond, Kind, candidate, kind_of, word_of};
 
 // Where a row stands.
 #[derive(Clone, Copy, Debug, PartialEq, Eq)]
@@ -23,16 +22,9 @@ pub(crate) enum Position {
     InCond,
 }
 
-// A word that has branches.
-#[derive(Clone, Copy)]
-pub(crate) enum Cond {
-    If,
-    IfElse,
-    Rcomp,
-}
-
 // What a row says. word: the number of the opening word; count: how many numbers or slots.
 // Kept: `End` is the row `)`, and nothing that is missing.
+// Kept: `word` a `usize`, as `tokens::words` finds it in its table; the record has it as `u16`.
 #[derive(Clone, Copy)]
 pub(crate) enum Row {
     End,
@@ -57,31 +49,6 @@ const NO_FORM: Misfit = Misfit {
     reason: Reason::NotAForm,
     due: Position::InStmts,
 };
-
-// The number of IF among the opening words; IFELSE and RCOMP follow.
-pub(crate) const FIRST_COND: usize = IF as usize;
-
-// The word of this number among those with branches.
-impl From<u64> for Cond {
-    ghost from_gives = { λ n c. c ≡ cond_by n };
-
-    fn from(n: u64) -> Cond {
-        match n {
-            0 => Cond::If,
-            1 => Cond::IfElse,
-            _ => Cond::Rcomp,
-        }
-    }
-}
-
-// Its number among them.
-impl From<Cond> for u64 {
-    ghost from_gives = { λ c n. (n ≡ cond_index c) × (n ≤ 2) };
-
-    fn from(word: Cond) -> u64 {
-        word as u64
-    }
-}
 
 // An IF's first branch, or its second.
 #[derive(Clone, Copy)]
@@ -134,6 +101,7 @@ struct Opening {
 
 impl Opening {
     // By its number.
+    #[tactic(auto, using(crate::specs::CodedRows::opened_below))]
     fn at(number: usize) -> Opening
         requires { number < 28 }
         ensures { (result.number ≡ number) × (Some result.kind ≡ opened_kind number) }
@@ -143,6 +111,7 @@ impl Opening {
     }
 
     // A closed form with words after its opening word.
+    #[tactic(auto, unfolding(crate::specs::CodedRows::closed_args), using(crate::specs::CodedRows::to_by_number, crate::specs::CodedRows::closed_others))]
     fn closed_args(self, s: &[u8]) -> Result<Row, Misfit>
         ensures { result ≡ closed_args self.kind self.number (split 32 s.now) }
     {
@@ -153,7 +122,7 @@ impl Opening {
     }
 
     // One that is not closed on its row.
-    #[tactic(auto, unfolding(crate::specs::CodedRows::opened_args))]
+    #[tactic(auto, unfolding(crate::specs::CodedRows::opened_args), using(crate::specs::CodedRows::opened_others))]
     fn opened_args(self, s: &[u8]) -> Result<Row, Misfit>
         ensures { result ≡ opened_args self.kind (split 32 s.now) }
     {
@@ -177,6 +146,7 @@ impl Opening {
 
     // The same in an accepted text, where it is in form: its words are not judged again, nor counted.
     // Kept: beside `args_row`, for the figures at `accepted_row`.
+    #[tactic(auto, unfolding(crate::specs::CodedRows::args_row, crate::specs::CodedRows::closed_args), using(crate::specs::AcceptedRows::formed_ok, crate::specs::AcceptedRows::to_ok, crate::specs::AcceptedRows::opened_same, crate::specs::AcceptedRows::closed_to, crate::specs::AcceptedRows::closed_simple, crate::specs::CodedRows::to_by_number))]
     fn accepted_args(self, bracket: Bracket, s: &[u8]) -> Row
         requires { WellFormed (args_row (Some self.kind) self.number (is_closed bracket) (split 32 s.now)) }
         ensures { Ok result ≡ uncounted (args_row (Some self.kind) self.number (is_closed bracket) (split 32 s.now)) }
@@ -194,7 +164,7 @@ impl Opening {
     }
 
     // A closed form of its opening word alone, without the number that `to` needs.
-    #[tactic(auto, unfolding(crate::specs::CodedRows::closed_bare))]
+    #[tactic(auto, unfolding(crate::specs::CodedRows::closed_bare), using(crate::specs::CodedRows::closed_bare_others))]
     fn closed_bare(self) -> Result<Row, Misfit>
         ensures { result ≡ closed_bare self.kind self.number }
     {
@@ -212,7 +182,7 @@ impl Opening {
     }
 
     // One that is not closed on its row.
-    #[tactic(auto, unfolding(crate::specs::CodedRows::opened_bare))]
+    #[tactic(auto, unfolding(crate::specs::CodedRows::opened_bare), using(crate::specs::CodedRows::opened_bare_others))]
     fn opened_bare(self) -> Result<Row, Misfit>
         ensures { result ≡ opened_bare self.kind self.number }
     {
@@ -222,7 +192,7 @@ impl Opening {
                 due: Position::InModule,
             }),
             Kind::Stmts => Ok(Row::Stmts),
-            Kind::Cond => Ok(Row::Cond(Cond::from(self.number.saturating_sub(FIRST_COND) as u64))),
+            Kind::Cond(word) => Ok(Row::Cond(word)),
             _ => Err(NO_FORM),
         }
     }
@@ -240,6 +210,7 @@ impl Opening {
 }
 
 // What stands between the brackets. Whether an opening word is a word need not be asked: each of the 28 is one.
+#[tactic(auto, using(crate::specs::CodedRows::found_number, crate::specs::CodedRows::one_none, crate::specs::CodedRows::one_opened, crate::specs::CodedRows::more_none, crate::specs::CodedRows::more_bad, crate::specs::CodedRows::more_opened))]
 fn form_row(s: &[u8], bracket: Bracket) -> Result<Row, Misfit>
     ensures { result ≡ as_row (content_of (form_row (is_closed bracket) (split 32 s.now))) }
 {
@@ -265,6 +236,7 @@ fn brackets_off(s: &[u8]) -> Option<(&[u8], Bracket)>
 }
 
 // What a row says.
+#[tactic(auto, using(crate::specs::CodedRows::row_end, crate::specs::CodedRows::row_bad))]
 pub(crate) fn row_of(s: &[u8]) -> Result<Row, Misfit>
     ensures { result ≡ as_row (content_of (row_of s.now)) }
 {
@@ -278,6 +250,7 @@ pub(crate) fn row_of(s: &[u8]) -> Result<Row, Misfit>
 // What stands between the brackets of an accepted row: its opening word needs no comparing, as it is the one that it
 // can be.
 // Kept: beside `form_row`; one function of both would take two closures, for the word's number and the words behind it.
+#[tactic(auto, using(crate::specs::AcceptedRows::formed_ok, crate::specs::AcceptedRows::one_candidate, crate::specs::AcceptedRows::one_formed, crate::specs::AcceptedRows::formed_one))]
 fn accepted_form(s: &[u8], bracket: Bracket) -> Row
     requires { WellFormed (as_row (content_of (form_row (is_closed bracket) (split 32 s.now)))) }
     ensures { Ok result ≡ uncounted (as_row (content_of (form_row (is_closed bracket) (split 32 s.now)))) }
@@ -291,6 +264,7 @@ fn accepted_form(s: &[u8], bracket: Bracket) -> Row
 // What a row of an accepted text says; nothing is judged again.
 // Kept: tried as `row_of` without the count: reading 4,096 plain statements takes 32 % more instructions (2.66 million,
 // 2.02), 3,900 of goto, ongoto and next 42 % more (4.80 million, 3.38).
+#[tactic(auto, using(crate::specs::AcceptedRows::formed_end))]
 pub(crate) fn accepted_row(s: &[u8]) -> Row
     requires { WellFormed (as_row (content_of (row_of s.now))) }
     ensures { Ok result ≡ uncounted (as_row (content_of (row_of s.now))) }

@@ -1,4 +1,4 @@
-// The lent tables: used counts, and statement records of 12 entries one after the other.
+// The lent tables: a number for each line, statement records of 12 entries one after the other, and their arguments.
 ghost use Rattle.std.specs.Prelude.{◌≡◌, ◌++◌, ◌+◌, ◌*◌, ◌≤◌, ◌<◌, length, drop, set, get_or, replicate};
 ghost use Rattle.reader.specs.Tables.{entry_row, append_row};
 ghost use Rattle.reader.specs.Lent.{Same};
@@ -7,6 +7,7 @@ use layout::columns::{
     COUNT, DETAIL, END, FORM1, FORM2, HOLDER, INDEX, LINE, NUMBER1, NUMBER2, SECOND, STMT_ENTRIES,
     WORD,
 };
+use layout::limits::MAX_STMTS;
 
 // What is lent for the records: a number for each line, and for each statement a record and its arguments.
 #[derive(Drop)]
@@ -44,9 +45,10 @@ pub(crate) struct Entry {
 // All twelve entries, so that nothing older is left among them.
 // Kept: tried as an array: stored by `copy_from_slice`, reading 4,096 plain statements takes 4 % more instructions
 // (2.49 million, 2.40), and of `first_chunk_mut` in a slice a proof learns no last value.
+#[tactic(auto, using(crate::specs::Tables::sets_row))]
 fn put_record(part: &mut [u16], e: Entry)
-    requires { 12 ≤ length part.old }
-    ensures { part.new ≡ entry_row e ++ drop 12 part.old }
+    requires { STMT_ENTRIES ≤ length part.old }
+    ensures { part.new ≡ entry_row e ++ drop STMT_ENTRIES part.old }
 {
     part[WORD] = e.word;
     part[LINE] = e.line;
@@ -63,8 +65,10 @@ fn put_record(part: &mut [u16], e: Entry)
 }
 
 // The record of statement n, which is the next one.
+// Kept: here and below a table with its row's bound in the contract: a struct of both would hold a `&mut`, and each
+// change would have to show its bound again.
 pub(crate) fn append(t: &mut [u16], n: usize, e: Entry)
-    requires { (n * 12 + 12 ≤ length t.old) × (n ≤ 4096) }
+    requires { (n * STMT_ENTRIES + STMT_ENTRIES ≤ length t.old) × (n ≤ MAX_STMTS) }
     ensures { t.new ≡ append_row t.old n e }
 {
     let at = n * STMT_ENTRIES;
@@ -73,16 +77,16 @@ pub(crate) fn append(t: &mut [u16], n: usize, e: Entry)
 
 // Column c of record i.
 pub(crate) fn store(t: &mut [u16], i: usize, c: usize, v: u16)
-    requires { (i * 12 + 12 ≤ length t.old) × (i ≤ 4096) × (c < 12) }
-    ensures { t.new ≡ set t.old (i * 12 + c) v }
+    requires { (i * STMT_ENTRIES + STMT_ENTRIES ≤ length t.old) × (i ≤ MAX_STMTS) × (c < STMT_ENTRIES) }
+    ensures { t.new ≡ set t.old (i * STMT_ENTRIES + c) v }
 {
     t[i * STMT_ENTRIES + c] = v;
 }
 
 // Column c of record i, read.
 pub(crate) fn fetch(t: &[u16], i: usize, c: usize) -> u16
-    requires { (i * 12 + 12 ≤ length t.now) × (i ≤ 4096) × (c < 12) }
-    ensures { result ≡ get_or t.now (i * 12 + c) 0 }
+    requires { (i * STMT_ENTRIES + STMT_ENTRIES ≤ length t.now) × (i ≤ MAX_STMTS) × (c < STMT_ENTRIES) }
+    ensures { result ≡ get_or t.now (i * STMT_ENTRIES + c) 0 }
 {
     t[i * STMT_ENTRIES + c]
 }

@@ -1,5 +1,5 @@
 -- The statement at a path and the statement of a node, read from any tables. Assumes nothing.
-use Rattle.std.specs.Prelude.{ℕ, zero, suc, ◌*◌, List, [], ◌∷◌, Bool, false, Option, Some, None, ◌||◌, eqb, ltb, leb, length, get_or}
+use Rattle.std.specs.Prelude.{ℕ, zero, suc, ◌*◌, List, [], ◌∷◌, Bool, false, ◌||◌, eqb, ltb, leb, length, get_or}
 use Rattle.listings.specs.Bytes.{pick}
 use Rattle.layout.specs.Layout.{if_word, ifelse_word, rcomp_word, stmt_entries}
 use Rattle.tables.specs.Columns.{word_of, holder_of, index_of, line_of}
@@ -36,11 +36,6 @@ first_from t (suc k) i = pick (t i) (suc i) (first_from t k (suc i))
 
 unfoldable pub child_at : (stmts : List ℕ) (n line h p : ℕ) → ℕ
 child_at stmts n line h p = first_from (stands_at stmts line h p) n 0
-
--- a node or none as the search gives it, in these numbers
-abbrev pub one_more : Option ℕ → ℕ
-one_more None = 0
-one_more (Some i) = suc i
 
 -- "26 no statement at the path asked": h is one more than a node, or 0
 unfoldable pub stmt_at : List ℕ → ℕ → Reply (ℕ × ℕ)

@@ -15,7 +15,8 @@ use Rattle.listings.specs.Bytes.{pick}
 use Rattle.tables.specs.Columns.{word_of, holder_of, index_of, line_of}
 use Rattle.graph.specs.Questions.{Reply, answer, refused}
 use Rattle.statements.specs.StatementWords.{no_statement_word}
-use Rattle.statements.specs.StatementAt.{if_rows, record_outside, branching_word, held_in, stands_at, first_from, child_at, if_found, statement_from, stmt_at, path_statement, climb, no_statement, no_statement_in, unless_refused, node_statement, one_more, refused_by}
+use Rattle.tables.specs.OneMore.{one_more}
+use Rattle.statements.specs.StatementAt.{if_rows, record_outside, branching_word, held_in, stands_at, first_from, child_at, if_found, statement_from, stmt_at, path_statement, climb, no_statement, no_statement_in, unless_refused, node_statement, refused_by}
 
 -- ---- where a node stands
 

@@ -1,9 +1,11 @@
 // The statement at a path, and a node's statement. Nothing is assumed of the tables.
 ghost use Rattle.std.specs.Prelude.{◌≡◌, ◌*◌, ◌≤◌, ◌<◌, length};
-ghost use Rattle.tables.specs.Columns.{holder_of, word_of};
+ghost use Rattle.layout.specs.declared.columns.TheConstants.{STMT_ENTRIES};
+ghost use Rattle.tables.specs.Columns.{holder_of, index_of, line_of, word_of};
+ghost use Rattle.tables.specs.OneMore.{one_more};
 ghost use Rattle.tables.specs.Told.{told};
 ghost use Rattle.statements.specs.StatementWords.{no_statement_word};
-ghost use Rattle.statements.specs.StatementAt.{branching_word, record_outside, stands_at, one_more, child_at, statement_from, stmt_at, path_statement, climb as climbed, no_statement, no_statement_in, refused_by, node_statement};
+ghost use Rattle.statements.specs.StatementAt.{branching_word, record_outside, stands_at, child_at, statement_from, stmt_at, path_statement, climb as climbed, no_statement, no_statement_in, refused_by, node_statement};
 
 use layout::columns::{HOLDER, INDEX, LINE, STMT_ENTRIES, WORD};
 use layout::limits::MAX_DEPTH;
@@ -34,11 +36,12 @@ struct Statements<'a> {
     lines: usize,
     stmts: &'a [u16],
     n: usize,
-    ghost rows: { n * 12 ≤ length stmts.now },
+    ghost rows: { n * STMT_ENTRIES ≤ length stmts.now },
 }
 
 impl<'a> Statements<'a> {
     // The number of node i's opening word.
+    #[tactic(auto, unfolding(tables::specs::Columns::word_of))]
     fn word(&self, i: usize) -> u16
         requires { i < self.now.n }
         ensures { result ≡ word_of self.now.stmts.now i }
@@ -46,38 +49,59 @@ impl<'a> Statements<'a> {
         self.stmts[i * STMT_ENTRIES + WORD]
     }
 
-    // Whether the record of node i points outside: its word opens no statement, or its line index is none of the lines.
-    fn record_outside(&self, i: usize) -> bool
+    // The index of the line that it stands in.
+    fn line(&self, i: usize) -> usize
         requires { i < self.now.n }
-        ensures { result ≡ record_outside self.now.lines self.now.stmts.now i }
+        ensures { result ≡ line_of self.now.stmts.now i }
     {
-        no_statement_word(self.word(i))
-            || self.lines <= usize::from(self.stmts[i * STMT_ENTRIES + LINE])
+        usize::from(self.stmts[i * STMT_ENTRIES + LINE])
     }
 
-    // The IF that holds node i, or none.
+    // One more than the IF that holds it, or 0.
+    fn held_by(&self, i: usize) -> usize
+        requires { i < self.now.n }
+        ensures { result ≡ holder_of self.now.stmts.now i }
+    {
+        usize::from(self.stmts[i * STMT_ENTRIES + HOLDER])
+    }
+
+    // The IF itself, or none.
     fn holder(&self, i: usize) -> Option<usize>
         requires { i < self.now.n }
         ensures { one_more result ≡ holder_of self.now.stmts.now i }
     {
-        usize::from(self.stmts[i * STMT_ENTRIES + HOLDER]).checked_sub(1)
+        self.held_by(i).checked_sub(1)
+    }
+
+    // The last number of its path.
+    fn index(&self, i: usize) -> u16
+        requires { i < self.now.n }
+        ensures { result ≡ index_of self.now.stmts.now i }
+    {
+        self.stmts[i * STMT_ENTRIES + INDEX]
+    }
+
+    // Whether the record of node i points outside: its word opens no statement, or its line index is none of the lines.
+    #[tactic(auto, unfolding(crate::specs::StatementAt::record_outside))]
+    fn record_outside(&self, i: usize) -> bool
+        requires { i < self.now.n }
+        ensures { result ≡ record_outside self.now.lines self.now.stmts.now i }
+    {
+        no_statement_word(self.word(i)) || self.lines <= self.line(i)
     }
 
     // Whether node i has that number under its holder, as a record says it: one more than an IF, or 0 for the line.
     // Kept: that number and no `Option`, by which path questions take 1.8 times as many instructions.
+    #[tactic(auto, unfolding(crate::specs::StatementAt::stands_at, crate::specs::StatementAt::held_in))]
     fn stands_at(&self, i: usize, line: usize, holder: usize, index: u16) -> bool
         requires { (i < self.now.n) × (holder ≤ self.now.n) }
         ensures { result ≡ stands_at self.now.stmts.now line holder index i }
     {
-        let row = i * STMT_ENTRIES;
-        if usize::from(self.stmts[row + HOLDER]) != holder {
-            return false;
-        }
-        if self.stmts[row + INDEX] != index {
+        if self.held_by(i) != holder || self.index(i) != index {
             return false;
         }
         match holder.checked_sub(1) {
-            None => usize::from(self.stmts[row + LINE]) == line,
+            None => self.line(i) == line,
             Some(held) => is_branching(self.word(held)),
         }
     }
@@ -106,8 +130,7 @@ impl<'a> Statements<'a> {
     {
         let mut at = None;
         for &index in path {
-            let found = self.find(line, at, index);
-            let node = found.ok_or(Reason::NoStatement.at(0))?;
+            let node = self.find(line, at, index).ok_or(Reason::NoStatement.at(0))?;
             if self.record_outside(node) {
                 return Err(Reason::Outside.at(0));
             }
@@ -116,12 +139,12 @@ impl<'a> Statements<'a> {
         self.state(at)
     }
 
-    // Whether a record with that holder gives a path, or the refusal.
-    // Up from holder to holder, `MAX_DEPTH` of them at most.
+    // Whether a record with that holder gives a path, or the refusal. Up from holder to holder, `MAX_DEPTH` of them at
+    // most.
     // Kept: a `while`: `iter::successors` asks for the next holder before the loop sees whether this one is a node,
     // and has a record.
     fn climb(&self, holder: Option<usize>) -> Result<(), Refusal>
-        ensures { told result ≡ refused_by (climbed self.now.lines self.now.stmts.now self.now.n 16 (one_more holder)) }
+        ensures { told result ≡ refused_by (climbed self.now.lines self.now.stmts.now self.now.n MAX_DEPTH (one_more holder)) }
     {
         let mut at = holder;
         let mut left: usize = MAX_DEPTH;
@@ -171,9 +194,8 @@ pub fn ask_path(
     Statements { lines, stmts, n }.follow(line, path)
 }
 
-// Whether the record of any node of any table is a statement's and has a path:
-// refused 25 where n statements have no record of it there.
-// By division, so that no product can wrap.
+// Whether the record of any node of any table is a statement's and has a path: refused 25 where n statements have no
+// record of it there. By division, so that no product can wrap.
 pub fn no_statement(lines: usize, stmts: &[u16], n: usize, node: usize) -> Result<(), Refusal>
     ensures { told result ≡ refused_by (no_statement_in lines stmts.now n node) }
 {
@@ -184,6 +206,8 @@ pub fn no_statement(lines: usize, stmts: &[u16], n: usize, node: usize) -> Resul
 }
 
 // A node's statement, if its record has a path: the node itself, and the number of its opening word.
+// Kept: the length is tested here and in `ask_path`: one function that answers the `Statements` or the refusal would be
+// longer than these lines.
 pub fn ask_statement(
     counts: &[u32; 6],
     stmts: &[u16],

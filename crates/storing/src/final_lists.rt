@@ -6,15 +6,17 @@ ghost use Rattle.storing.specs.FromSource.{returns_from, WriteReadyFrom, WriteDo
 use crate::growing::put_jump;
 use crate::source::Source;
 use crate::store::{move_list, put_list, store_list};
+use layout::columns::ARG_ENTRIES;
 use layout::limits::MAX_STMTS;
 use layout::words::RETURN;
 use tables::calls::is_call;
 use walks::sets::{members, set_at};
 
 // Where RETURN i leads goes into the buffer: with handlers all return targets, without them the members of its set.
+// Kept: a buffer and how many, as `put_jump`.
 #[tactic(auto, unfolding(crate::specs::FinalLists::return_list))]
 fn return_list(source: &Source<'_>, args: &[u64], i: usize, buffer: &mut [u16; MAX_STMTS]) -> usize
-    requires { (i < source.now.nodes.records.n) × (i * 64 + 64 ≤ length args.now) × (length (returns_from source.now args.now i) ≤ 4096) }
+    requires { (i < source.now.nodes.records.n) × (i * ARG_ENTRIES + ARG_ENTRIES ≤ length args.now) × (length (returns_from source.now args.now i) ≤ MAX_STMTS) }
     ensures { ListIs (returns_from source.now args.now i) buffer.old buffer.new result }
 {
     if source.handlers {
@@ -28,6 +30,7 @@ fn return_list(source: &Source<'_>, args: &[u64], i: usize, buffer: &mut [u16; M
 // other's from scratch, where its row says.
 // Kept: `put_list` twice: a RETURN's list and a call's have room for reasons of their own, which a proof of one call
 // for both would take apart again.
+// Kept: tables that are written go one by one, here and below, as in write_graph.rt.
 fn write_list(
     source: &Source<'_>,
     args: &[u64],

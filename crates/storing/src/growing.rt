@@ -39,7 +39,8 @@ impl<'a> NodeList<'a> {
         NodeList { part, n: 0 }
     }
 
-    // The first n entries of a part.
+    // The first n entries of a part. Public though nothing here calls it: a list can go on behind what stands in its
+    // part already.
     pub fn with(part: &'a mut [u16], n: usize) -> NodeList<'a>
         ensures same_reference { result.part.ghost_name ≡ part.entry.ghost_name }
         ensures begun { (result.part.now ≡ part.old) × (result.n ≡ n) }
@@ -48,6 +49,7 @@ impl<'a> NodeList<'a> {
     }
 
     // How many nodes it has.
+    // Kept: by a pattern, since the wrong program of this routine is an edit of a line that stands once (must-fail).
     pub fn len(&self) -> usize
         ensures { result ≡ self.now.n }
     {
@@ -110,7 +112,7 @@ impl<'a> NodeList<'a> {
     // Kept: tables one by one, since `add_jump` answers for any number of nodes, and `Nodes` has at most 4,096.
     // Kept: `< ONGOTO` and no match of kinds: `add_jump` promises `jump_edges` of any record, and that compares.
     fn add_written(&mut self, stmts: &[u16], falls: &[u16], links: &[u16], i: usize)
-        requires { (i * 12 + 12 ≤ length stmts.now) × (i * 3 + 3 ≤ length falls.now) × (i * 64 + 64 ≤ length links.now) × (get_or stmts.now (i * 12 + 10) 0 ≤ 64) }
+        requires { (i * STMT_ENTRIES + STMT_ENTRIES ≤ length stmts.now) × (i * FALL_ENTRIES + FALL_ENTRIES ≤ length falls.now) × (i * ARG_ENTRIES + ARG_ENTRIES ≤ length links.now) × (get_or stmts.now (i * STMT_ENTRIES + COUNT) 0 ≤ MAX_ARGS) }
         ensures { AddedTo self.old self.new (jump_edges stmts.now falls.now links.now i) }
     {
         let at = i * ARG_ENTRIES;
@@ -134,10 +136,9 @@ impl<'a> NodeList<'a> {
 }
 
 // The list of a jump alone, in a lent part; answers how many nodes it has.
-// Kept: a part and how many: `list_size` asks for the number alone, and where `write_list` has a RETURN, the same
-// buffer gets a set's members.
+// Kept: a part and how many: `list_size` asks for the number alone, and `write_list` copies from the part.
 pub(crate) fn put_jump(g: &Nodes<'_>, i: usize, part: &mut [u16]) -> usize
-    requires { (i < g.now.records.n) × (get_or g.now.records.stmts.now (i * 12 + 10) 0 ≤ 64) }
+    requires { (i < g.now.records.n) × (get_or g.now.records.stmts.now (i * STMT_ENTRIES + COUNT) 0 ≤ MAX_ARGS) }
     ensures { AddedIn part.old 0 part.new result (jump_edges g.now.records.stmts.now g.now.falls.now g.now.links.now i) }
 {
     let mut list = NodeList::new(part);

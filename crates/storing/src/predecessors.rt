@@ -1,4 +1,7 @@
 // The predecessor lists, by counting: how many each node has, where its list begins, then the lists in node order.
+// Kept: rows by their places: of what a slice holds behind `as_chunks_mut` std says its length alone.
+// Kept: `lists` and `nodes` one by one: a struct of both would hold a `&mut`, and each change would have to show its
+// bound again.
 ghost use Rattle.std.specs.Prelude.{◌*◌, ◌<◌, ◌≤◌, length};
 ghost use Rattle.tables.specs.Columns.{pred_count};
 ghost use Rattle.passes.specs.Counting.{sum_to};
@@ -6,11 +9,12 @@ ghost use Rattle.storing.specs.Predecessors.{Emptied, Countable, Counted, Starte
 ghost use Rattle.storing.specs.PredecessorLists.{FillReady, FilledTo, Ready, Written};
 
 use layout::columns::{LIST_ENTRIES, PRED_COUNT, PRED_START};
+use layout::limits::MAX_STMTS;
 use tables::lists::list_ends;
 
 // No edge counts yet.
 fn clear_counts(lists: &mut [u16], nodes: usize)
-    requires { (nodes ≤ 4096) × (nodes * 4 ≤ length lists.old) }
+    requires { (nodes ≤ MAX_STMTS) × (nodes * LIST_ENTRIES ≤ length lists.old) }
     ensures { Emptied nodes nodes lists.old lists.new }
 {
     for m in 0..nodes {
@@ -19,6 +23,8 @@ fn clear_counts(lists: &mut [u16], nodes: usize)
 }
 
 // Each edge counts for the node that it leads to.
+// Kept: `nodes` is for the contract alone, here and in `fill_list`: it says below what the ids are; as a quantifier it
+// would stand in each clause.
 fn count_edges(succ: &[u16], lists: &mut [u16], nodes: usize)
     requires { Countable nodes (length succ.now) succ.now lists.old }
     ensures { Counted nodes (length succ.now) succ.now lists.old lists.new }
@@ -30,7 +36,7 @@ fn count_edges(succ: &[u16], lists: &mut [u16], nodes: usize)
 
 // A node's list begins where those of the nodes before it end; its count begins again at 0, as a cursor.
 fn set_starts(lists: &mut [u16], nodes: usize)
-    requires { (nodes * 4 ≤ length lists.old) × (sum_to (pred_count lists.old) nodes < 65536) }
+    requires { (nodes * LIST_ENTRIES ≤ length lists.old) × (sum_to (pred_count lists.old) nodes < 65536) }
     ensures { Started nodes lists.old lists.new }
 {
     let mut start: u16 = 0;
@@ -63,8 +69,8 @@ fn fill_lists(succ: &[u16], lists: &mut [u16], nodes: usize, pred: &mut [u16])
     ensures { FilledTo nodes nodes succ.now lists.old lists.new pred.old pred.new }
 {
     for j in 0..nodes {
-        let (start, end) = list_ends(lists, j);
-        fill_list(&succ[start..end], lists, nodes, pred, j as u16);
+        let list = &succ[list_ends(lists, j)];
+        fill_list(list, lists, nodes, pred, j as u16);
     }
 }
 

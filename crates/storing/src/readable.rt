@@ -11,11 +11,11 @@ use layout::refusals::{Reason, Refusal};
 use layout::words::RETURN;
 use tables::readable::{ids_below, lists_readable};
 use walks::readable::nodes_of;
-use walks::sets::{Sets, join_set, members, no_words};
+use walks::sets::{Sets, WORDS, join_set, members, no_words};
 
 // The set of node i is joined, where that is a RETURN.
 #[tactic(auto, unfolding(crate::specs::JoinedReturns::joined_return, tables::specs::Columns::word_of, passes::specs::ReturnSets::set_of))]
-fn join_return(sets: &Sets<'_>, i: usize, all: &mut [u64; 64])
+fn join_return(sets: &Sets<'_>, i: usize, all: &mut [u64; WORDS])
     requires { i < sets.now.records.n }
     ensures { all.new ≡ joined_return sets.now.records.stmts.now sets.now.words.now i all.old }
 {
@@ -26,7 +26,7 @@ fn join_return(sets: &Sets<'_>, i: usize, all: &mut [u64; 64])
 
 // The sets of all RETURNs in one.
 #[tactic(auto, using(crate::specs::JoinedReturns::join_next), unfolding(crate::specs::JoinedReturns::joined_returns))]
-fn join_returns(sets: &Sets<'_>) -> [u64; 64]
+fn join_returns(sets: &Sets<'_>) -> [u64; WORDS]
     ensures { result ≡ joined_returns sets.now.records.stmts.now sets.now.words.now sets.now.records.n }
 {
     let mut all = no_words();
@@ -67,6 +67,7 @@ fn returns_readable(
 // What a graph is written from, where the tables can be read: records, calls, lists in scratch, sets.
 // Kept: `returns, targets` and no slice: that there are so many is part of what is asked, with handlers alone.
 // Kept: tables one by one, as `write_graph` has them, its one caller.
+// Kept: `handlers`, as `returns_readable`.
 pub(crate) fn source_of<'a>(
     handlers: bool,
     stmts: &'a [u16],

@@ -1,5 +1,6 @@
 // What a graph is written from, and is only read while it is written.
 ghost use Rattle.std.specs.Prelude.{◌≡◌, true, ◌≤◌, length};
+ghost use Rattle.layout.specs.declared.limits.TheConstants.{MAX_LINES, MAX_STMTS};
 
 use tables::nodes::Nodes;
 
@@ -9,6 +10,8 @@ use tables::nodes::Nodes;
 // hold it twice.
 // Kept: without `args`, though what reads a source reads them too: at last they are cleared, while the source is lent.
 // Kept: `returns, targets` and no slice: without handlers `returns` may be shorter, and nothing of it is read.
+// Kept: what goes over it stands as functions in modules of their own, by what they write: methods would be one `impl`
+// a module.
 #[derive(Clone, Copy)]
 pub(crate) struct Source<'a> {
     pub handlers: bool,
@@ -17,7 +20,7 @@ pub(crate) struct Source<'a> {
     pub scratch: &'a [u16],
     pub returns: &'a [u16],
     pub targets: usize,
-    pub ghost few_rows: { rows ≤ 1024 },
-    pub ghost few_targets: { targets ≤ 4096 },
+    pub ghost few_rows: { rows ≤ MAX_LINES },
+    pub ghost few_targets: { targets ≤ MAX_STMTS },
     pub ghost in_returns: { handlers ≡ true → targets ≤ length returns.now },
 }

@@ -1,4 +1,5 @@
 // A node's list goes into its own part of the edge table.
+// Kept: rows by their places, as in `predecessors.rt`.
 ghost use Rattle.std.specs.Prelude.{◌≡◌, ◌++◌, ◌+◌, ◌*◌, ◌<◌, ◌≤◌, length, take, drop};
 ghost use Rattle.passes.specs.EdgeTable.{Appended};
 ghost use Rattle.tables.specs.Columns.{succ_start, succ_count};
@@ -18,6 +19,7 @@ pub(crate) fn store_list(part: &mut [u16], list: &[u16])
 
 // A node's list goes behind those stored before it, from entry `at` on, and its row says where; the answer is where the
 // next list begins.
+// Kept: `lists` and `succ` one by one, here and below: both are written.
 pub(crate) fn put_list(
     lists: &mut [u16],
     succ: &mut [u16],
@@ -25,7 +27,7 @@ pub(crate) fn put_list(
     at: usize,
     list: &[u16],
 ) -> usize
-    requires { (at + length list.now ≤ length succ.old) × (at + length list.now < 65536) × (node * 4 + 4 ≤ length lists.old) }
+    requires { (at + length list.now ≤ length succ.old) × (at + length list.now < 65536) × (node * LIST_ENTRIES + LIST_ENTRIES ≤ length lists.old) }
     ensures { Appended node at (length list.now) list.now lists.old lists.new succ.old succ.new result }
 {
     store_list(&mut succ[at..], list);
@@ -47,7 +49,7 @@ fn append_fits(node: usize, at: usize, count: usize, lists: &[u16], succ: &[u16]
 }
 
 // The same on any tables: where the list does not fit, nothing changes, and the answer is `at`.
-// Kept: `at` and no `Option`: that is what its promise says of such tables; the next list goes there in either case.
+// Kept: `at` and no `Option`: a public promise, which may not change; and the next list goes there in either case.
 #[tactic(auto, unfolding(crate::specs::Appending::append_fits))]
 pub fn append_list(
     lists: &mut [u16],
@@ -73,10 +75,10 @@ pub(crate) fn move_list(
     node: usize,
     at: usize,
 ) -> usize
-    requires node_in_bounds { (node * 4 + 4 ≤ length lists.old) × (succ_start lists.old node + succ_count lists.old node ≤ length from.now) }
+    requires node_in_bounds { (node * LIST_ENTRIES + LIST_ENTRIES ≤ length lists.old) × (succ_start lists.old node + succ_count lists.old node ≤ length from.now) }
     requires node_in_bounds_2 { (at + succ_count lists.old node ≤ length succ.old) × (at + succ_count lists.old node < 65536) }
     ensures { Appended node at (succ_count lists.old node) (take (succ_count lists.old node) (drop (succ_start lists.old node) from.now)) lists.old lists.new succ.old succ.new result }
 {
-    let (start, end) = list_ends(lists, node);
-    put_list(lists, succ, node, at, &from[start..end])
+    let list = &from[list_ends(lists, node)];
+    put_list(lists, succ, node, at, list)
 }

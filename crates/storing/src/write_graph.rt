@@ -8,6 +8,7 @@ use crate::final_lists::write_lists;
 use crate::predecessors::write_predecessors;
 use crate::readable::source_of;
 use crate::source::Source;
+use layout::columns::{EDGE_COUNT, ROW_COUNT, TARGET_COUNT};
 use layout::limits::MAX_STMTS;
 use layout::refusals::{Reason, Refusal};
 use layout::zeroing::all_of;
@@ -32,15 +33,12 @@ fn write_edges(
     total
 }
 
-// The counts that are not the reader's.
-// Kept: by place; tried with a pattern of six, and the borrow checker does not cover several places of one lent array.
+// The counts that are not the reader's, which stand behind its own.
 fn put_edge_counts(counts: &mut [u32; 6], edges: usize, targets: usize, rows: usize)
     requires { (edges < 65536) × (targets < 65536) × (rows < 65536) }
-    ensures { counts.new ≡ set (set (set counts.old 3 edges) 4 targets) 5 rows }
+    ensures { counts.new ≡ set (set (set counts.old EDGE_COUNT edges) TARGET_COUNT targets) ROW_COUNT rows }
 {
-    counts[3] = edges as u32;
-    counts[4] = targets as u32;
-    counts[5] = rows as u32;
+    counts[EDGE_COUNT..].copy_from_slice(&[edges as u32, targets as u32, rows as u32]);
 }
 
 // The lists, both ways, and the counts; the RETURNs' sets are cleared.
@@ -90,6 +88,7 @@ fn write_fitting(
 // where the tables cannot be read, 23 where the edges do not fit; then nothing is written.
 // Kept: tables one by one: `Nodes` and `Source` have as their invariant what is tested here, and a plain struct would
 // be filled from a `Nodes` by the caller, one by one too.
+// Kept: `handlers`, as `readable::returns_readable`.
 pub fn write_graph<'a>(
     handlers: bool,
     stmts: &'a [u16],

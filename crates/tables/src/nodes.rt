@@ -1,11 +1,15 @@
 // What n nodes are and where they lead: tables that are read together, with what is known of their lengths. What is
 // read of them is 0 where a table ends before it.
 ghost use Rattle.std.specs.Prelude.{◌≡◌, ◌+◌, ◌*◌, ◌≤◌, ◌<◌, length, get_or, take, drop};
+ghost use Rattle.layout.specs.declared.columns.TheConstants.{STMT_ENTRIES, FALL_ENTRIES, LINK_ENTRIES};
+ghost use Rattle.layout.specs.declared.limits.TheConstants.{MAX_STMTS};
 ghost use Rattle.tables.specs.OneMore.{one_more};
 
 use layout::columns::{
-    ARG_ENTRIES, COUNT, DETAIL, END, FALL_ENTRIES, HOLDER, INDEX, LINE, SECOND, STMT_ENTRIES, WORD,
+    ARG_ENTRIES, COUNT, DETAIL, END, FALL_ENTRIES, HOLDER, INDEX, LINE, LINK_ENTRIES, SECOND,
+    STMT_ENTRIES, WORD,
 };
+use layout::limits::MAX_STMTS;
 use std::ops::Range;
 
 // Entry k of a table, or 0 where the table ends before it.
@@ -17,26 +21,28 @@ pub fn entry(table: &[u16], k: usize) -> u16
 
 // Where the words of node i stand in a table with 64 for each node: its links, its arguments or its set.
 pub fn words_of(i: usize) -> Range<usize>
-    ensures { i < 4096 → (result.start ≡ i * 64) × (result.end ≡ i * 64 + 64) }
+    ensures { i < MAX_STMTS → (result.start ≡ i * ARG_ENTRIES) × (result.end ≡ i * ARG_ENTRIES + ARG_ENTRIES) }
 {
     let start = i.saturating_mul(ARG_ENTRIES);
     start..start.saturating_add(ARG_ENTRIES)
 }
 
 // The records of n statements.
+// Kept: that i is one of the n nodes stands in contracts: a type of nodes would hold the records that it is one of, and
+// loops over `0..n` would make each anew.
 #[derive(Clone, Copy)]
 pub struct Records<'a> {
     pub stmts: &'a [u16],
     pub n: usize,
-    pub ghost few: { n ≤ 4096 },
-    pub ghost rows: { n * 12 ≤ length stmts.now },
+    pub ghost few: { n ≤ MAX_STMTS },
+    pub ghost rows: { n * STMT_ENTRIES ≤ length stmts.now },
 }
 
 impl<'a> Records<'a> {
     // Entry k of node i's record. Where i is a node, no end is tested: loops over nodes read as fast as by hand.
     fn entry(&self, i: usize, k: usize) -> u16
-        requires { k < 12 }
-        ensures { result ≡ get_or self.now.stmts.now (i * 12 + k) 0 }
+        requires { k < STMT_ENTRIES }
+        ensures { result ≡ get_or self.now.stmts.now (i * STMT_ENTRIES + k) 0 }
     {
         if i < self.n {
             return self.stmts[i * STMT_ENTRIES + k];
@@ -45,64 +51,65 @@ impl<'a> Records<'a> {
     }
 
     // The number of node i's opening word.
+    // Kept: this and those below are of one shape: each reads one column, by its name.
     pub fn word(&self, i: usize) -> u16
-        ensures { result ≡ get_or self.now.stmts.now (i * 12) 0 }
+        ensures { result ≡ get_or self.now.stmts.now (i * STMT_ENTRIES) 0 }
     {
         self.entry(i, WORD)
     }
 
     // The index of the line that it stands in.
     pub fn line(&self, i: usize) -> usize
-        ensures { result ≡ get_or self.now.stmts.now (i * 12 + 1) 0 }
+        ensures { result ≡ get_or self.now.stmts.now (i * STMT_ENTRIES + LINE) 0 }
     {
         usize::from(self.entry(i, LINE))
     }
 
     // The IF that holds it, or none.
     pub fn holder(&self, i: usize) -> Option<usize>
-        ensures { one_more result ≡ get_or self.now.stmts.now (i * 12 + 2) 0 }
+        ensures { one_more result ≡ get_or self.now.stmts.now (i * STMT_ENTRIES + HOLDER) 0 }
     {
         usize::from(self.entry(i, HOLDER)).checked_sub(1)
     }
 
     // The last number of its path.
     pub fn index(&self, i: usize) -> u16
-        ensures { result ≡ get_or self.now.stmts.now (i * 12 + 3) 0 }
+        ensures { result ≡ get_or self.now.stmts.now (i * STMT_ENTRIES + INDEX) 0 }
     {
         self.entry(i, INDEX)
     }
 
     // The node behind all that it holds.
     pub fn end(&self, i: usize) -> usize
-        ensures { result ≡ get_or self.now.stmts.now (i * 12 + 4) 0 }
+        ensures { result ≡ get_or self.now.stmts.now (i * STMT_ENTRIES + END) 0 }
     {
         usize::from(self.entry(i, END))
     }
 
     // The node where its second branch begins; 0 where it has none.
     pub fn second(&self, i: usize) -> usize
-        ensures { result ≡ get_or self.now.stmts.now (i * 12 + 5) 0 }
+        ensures { result ≡ get_or self.now.stmts.now (i * STMT_ENTRIES + SECOND) 0 }
     {
         usize::from(self.entry(i, SECOND))
     }
 
     // How many arguments it has.
     pub fn count(&self, i: usize) -> usize
-        ensures { result ≡ get_or self.now.stmts.now (i * 12 + 10) 0 }
+        ensures { result ≡ get_or self.now.stmts.now (i * STMT_ENTRIES + COUNT) 0 }
     {
         usize::from(self.entry(i, COUNT))
     }
 
     // Its tier or its mark, by its number.
     pub fn detail(&self, i: usize) -> u16
-        ensures { result ≡ get_or self.now.stmts.now (i * 12 + 11) 0 }
+        ensures { result ≡ get_or self.now.stmts.now (i * STMT_ENTRIES + DETAIL) 0 }
     {
         self.entry(i, DETAIL)
     }
 
     // Where its arguments stand in a table with 64 entries for each node: as many as it has.
     pub fn args_of(&self, i: usize) -> Range<usize>
-        ensures { i < self.now.n → (result.start ≡ i * 64) × (result.end ≡ i * 64 + get_or self.now.stmts.now (i * 12 + 10) 0) }
+        ensures { i < self.now.n → (result.start ≡ i * ARG_ENTRIES) × (result.end ≡ i * ARG_ENTRIES + get_or self.now.stmts.now (i * STMT_ENTRIES + COUNT) 0) }
     {
         let start = i.saturating_mul(ARG_ENTRIES);
         start..start.saturating_add(usize::from(self.entry(i, COUNT)))
@@ -115,16 +122,16 @@ pub struct Nodes<'a> {
     pub records: Records<'a>,
     pub falls: &'a [u16],
     pub links: &'a [u16],
-    pub ghost fall_rows: { records.n * 3 ≤ length falls.now },
-    pub ghost link_rows: { records.n * 64 ≤ length links.now },
+    pub ghost fall_rows: { records.n * FALL_ENTRIES ≤ length falls.now },
+    pub ghost link_rows: { records.n * LINK_ENTRIES ≤ length links.now },
 }
 
 impl<'a> Nodes<'a> {
     // Where node i falls: one more than the node, or 0.
-    // Kept: the number: callers hand it on to `add_edge` or compare it as the tables have it; two of eight take it
-    // apart.
+    // Kept: the number: most callers hand it on to `add_edge` or compare it as the tables have it; those few that take
+    // it apart do so by `checked_sub(1)`.
     pub fn fall(&self, i: usize) -> u16
-        ensures { result ≡ get_or self.now.falls.now (i * 3) 0 }
+        ensures { result ≡ get_or self.now.falls.now (i * FALL_ENTRIES) 0 }
     {
         if i < self.records.n {
             return self.falls[i * FALL_ENTRIES];
@@ -135,9 +142,9 @@ impl<'a> Nodes<'a> {
     // Where the numbers of node i's arguments lead, for as many as it has; what there is of them where the table ends
     // before.
     pub fn targets(&self, i: usize) -> &'a [u16]
-        ensures { result.now ≡ take (get_or self.now.records.stmts.now (i * 12 + 10) 0) (drop (i * 64) self.now.links.now) }
+        ensures { result.now ≡ take (get_or self.now.records.stmts.now (i * STMT_ENTRIES + COUNT) 0) (drop (i * LINK_ENTRIES) self.now.links.now) }
     {
-        let start = i.saturating_mul(ARG_ENTRIES).min(self.links.len());
+        let start = i.saturating_mul(LINK_ENTRIES).min(self.links.len());
         let end = start
             .saturating_add(self.records.count(i))
             .min(self.links.len());

@@ -22,8 +22,8 @@ pub fn ids_below(l: &[u16], n: usize) -> bool
 fn list_readable(lists: &[u16], edges: &[u16], n: usize, v: usize) -> bool
     ensures { result ≡ list_readable lists.now edges.now n v }
 {
-    let (start, end) = list_ends(lists, v);
-    end <= edges.len() && ids_below(&edges[start..end], n)
+    let ends = list_ends(lists, v);
+    ends.end <= edges.len() && ids_below(&edges[ends], n)
 }
 
 // Whether the lists of all n nodes do, and n is no more than a graph may have.

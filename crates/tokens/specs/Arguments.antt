@@ -9,11 +9,12 @@ use Rattle.std.proofs.Math.Option as M
 use Rattle.std.proofs.Math.Option.{none, some}
 use Rattle.std.proofs.Math.Seq.{drop-cons}
 use borrow.Author.Tests.{ne_eqb, eqb-true, ltb-true, ltb-false, lt-ltb, le-ltb}
-use Rattle.listings.specs.Bytes.{same, pick}
+use Rattle.listings.specs.Bytes.{bytes, same, pick}
 use Rattle.listings.specs.Listing as listing
 use Rattle.listings.specs.Listing.{for}
 use Rattle.listings.specs.Rows.{split, on_first, all, is_word, are_words, Parse, malformed, invalid, parsed, refusal_of, map_parse, with_parse, parse_number, parse_numbers, parse_name, parse_slot, parse_slots, lookup, or_malformed, tiers, parse_tier, marks, parse_mark, single, for_stmt}
-use Rattle.listings.specs.Scan.{index_of, same_sym, split_last, split_more, split-some}
+use Rattle.listing_laws.specs.WordText.{same_equal}
+use Rattle.listings.specs.Scan.{index_of, index_le, same_sym, split_last, split_more, split-some}
 use Rattle.layout.specs.Refusals.{number_of}
 use Rattle.layout.specs.declared.refusals.Reason.{Reason}
 use Rattle.layout.specs.declared.refusals.Reason.TheVariants as reason
@@ -240,9 +241,9 @@ pub slot_star : (w : List ℕ) → same (42 ∷ []) w ≡ true → parse_slot w 
 unfolding parse_slot
 slot_star w h = rw (same_sym w (42 ∷ []) ∙ h)
 
-pub slot-name : (w : List ℕ) → same (42 ∷ []) w ≡ false → verdict (parse_slot w) ≡ verdict (parse_name w)
+pub slot_name : (w : List ℕ) → same (42 ∷ []) w ≡ false → verdict (parse_slot w) ≡ verdict (parse_name w)
 unfolding parse_slot map_parse
-slot-name w h = rw (same_sym w (42 ∷ []) ∙ h) (go (parse_name w))
+slot_name w h = rw (same_sym w (42 ∷ []) ∙ h) (go (parse_name w))
   where
     go : (g : Parse (List ℕ)) → verdict (map_parse some g) ≡ verdict g
     go malformed = refl
@@ -269,7 +270,7 @@ check_kind kind.Module ws = no_form
 check_kind kind.Line ws = no_form
 check_kind kind.To ws = no_form
 check_kind kind.Stmts ws = no_form
-check_kind kind.Cond ws = no_form
+check_kind (kind.Cond x) ws = no_form
 check_kind kind.Bare ws = no_form
 
 -- ---- a name and a tier
@@ -290,14 +291,39 @@ for_two w v = ap (checked 0) (refusal_with (λ n t. (for n t, 0)) (parse_name w)
 pub for_alone : (s : List ℕ) → split 32 s ≡ s ∷ [] → check_for (split 32 s) ≡ no_form
 for_alone s p = ap check_for p ∙ for_one s
 
+spaced_other : (p v : List ℕ) → index_of 32 p ≡ length p → index_of 32 v < length v → same p v ≡ false
+spaced_other p v e h = go (same p v) refl
+  where
+    go : (t : Bool) → same p v ≡ t → t ≡ false
+    go true q = let z = same_equal p v q in absurd (omega (arith, e, h, ap (index_of 32) z, ap length z))
+    go false q = refl
+
+-- no tier has a space in it
+tier_spaced : (v : List ℕ) → index_of 32 v < length v → parse_tier v ≡ malformed
+unfolding bytes index_of lookup or_malformed parse_tier tiers
+tier_spaced v h = rw (spaced_other (bytes "static") v refl h, spaced_other (bytes "framed") v refl h, spaced_other (bytes "dispatched") v refl h) refl
+
+lowest_malformed : (g : Parse (List ℕ)) → lowest (verdict g) (verdict {A = listing.Tier} malformed) ≡ Err reason.NotAForm
+unfolding lowest
+lowest_malformed malformed = refl
+lowest_malformed invalid = refl
+lowest_malformed (parsed a) = refl
+
 module _ (s w v : List ℕ) (cut : split 32 s ≡ w ∷ split 32 v) where
-  pub for_longer : index_of 32 v < length v → check_for (split 32 s) ≡ no_form
+  for_longer : index_of 32 v < length v → check_for (split 32 s) ≡ no_form
   for_longer h =
       let d = index_of 32 v in
       ap check_for (cut ∙ ap (λ (z : List (List ℕ)). w ∷ z) (split_more 32 v h)) ∙ for_many w (take d v) (split 32 (drop (suc d) v)) (split-some 32 (drop (suc d) v))
 
-  pub for_right : index_of 32 v ≡ length v → check_for (split 32 s) ≡ checked 0 (lowest (verdict (parse_name w)) (verdict (parse_tier v)))
+  for_right : index_of 32 v ≡ length v → check_for (split 32 s) ≡ checked 0 (lowest (verdict (parse_name w)) (verdict (parse_tier v)))
   for_right h = ap check_for (cut ∙ ap (λ (z : List (List ℕ)). w ∷ z) (split_last 32 v h)) ∙ for_two w v
+
+  pub for_more : check_for (split 32 s) ≡ checked 0 (lowest (verdict (parse_name w)) (verdict (parse_tier v)))
+  for_more = go (ltb (index_of 32 v) (length v)) refl
+    where
+      go : (t : Bool) → ltb (index_of 32 v) (length v) ≡ t → check_for (split 32 s) ≡ checked 0 (lowest (verdict (parse_name w)) (verdict (parse_tier v)))
+      go true e = let h = ltb-true (index_of 32 v) (length v) e in for_longer h ∙ ap (checked 0) (sym (rw (tier_spaced v h) (lowest_malformed (parse_name w))))
+      go false e = for_right (omega (arith, ltb-false (index_of 32 v) (length v) e, index_le 32 v))
 
 -- ---- a mark and slots
 

@@ -9,8 +9,11 @@ use Rattle.std.proofs.Math.Option.{none, some}
 use Rattle.std.proofs.Math.ListN.{get_elem?}
 use borrow.Author.Tests.{lt-ltb, ltb-false}
 use Rattle.listings.specs.Bytes.{pick}
+use Rattle.listings.specs.Listing.{CondWord, if, ifelse, rcomp}
 use Rattle.listings.specs.Rows.{Form, module_form, line_form, to_form, stmts_form, run_form, for_form, next_form, cond_form, bare_form, number_form, numbers_form, opening_words}
 use Rattle.listings.specs.WordTable.{forms, word_index}
+use Rattle.tokens.specs.declared.words.Cond.{Cond}
+use Rattle.tokens.specs.declared.words.Cond.TheVariants as cond
 use Rattle.tokens.specs.declared.words.Kind.{Kind}
 use Rattle.tokens.specs.declared.words.Kind.TheVariants as kind
 
@@ -18,12 +21,18 @@ use Rattle.tokens.specs.declared.words.Kind.TheVariants as kind
 unfoldable pub word_found : List ℕ → Option ℕ
 word_found w = pick (ltb (word_index w) 28) (Some (word_index w)) None
 
+-- a word with branches, as the code has it
+abbrev pub as_cond : CondWord → Cond
+as_cond if = cond.If
+as_cond ifelse = cond.IfElse
+as_cond rcomp = cond.Rcomp
+
 unfoldable pub form_kind : Form → Kind
 form_kind module_form = kind.Module
 form_kind line_form = kind.Line
 form_kind to_form = kind.To
 form_kind stmts_form = kind.Stmts
-form_kind (cond_form x) = kind.Cond
+form_kind (cond_form x) = kind.Cond (as_cond x)
 form_kind (bare_form o) = kind.Bare
 form_kind (number_form x) = kind.Number
 form_kind (numbers_form x) = kind.Numbers

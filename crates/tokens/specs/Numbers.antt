@@ -74,11 +74,11 @@ small_some l h = rw (le-leb (value 0 l) 65535 h)
 
 -- ---- no leading zero
 
-pub no_zero-short : (l : List ℕ) → length l < 2 → no_leading_zero l ≡ true
+pub no_zero_short : (l : List ℕ) → length l < 2 → no_leading_zero l ≡ true
 unfolding no_leading_zero
-no_zero-short [] h = refl
-no_zero-short (a ∷ []) h = refl
-no_zero-short (a ∷ b ∷ l) h = absurd (omega arith)
+no_zero_short [] h = refl
+no_zero_short (a ∷ []) h = refl
+no_zero_short (a ∷ b ∷ l) h = absurd (omega arith)
 
 pub no_zero_long : (l : List ℕ) → 2 ≤ length l → no_leading_zero l ≡ not (eqb (get_or l 0 0) 48)
 unfolding no_leading_zero

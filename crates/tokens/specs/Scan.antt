@@ -1,45 +1,53 @@
--- The first word of a text, as the code finds it, and whether there are more. Assumes nothing.
-use Rattle.std.specs.Prelude.{ℕ, suc, ◌+◌, ◌-◌, ◌<◌, ◌≡◌, refl, List, [], ◌∷◌, Bool, true, false, ◌||◌, cond, eqb, ltb, length, take, drop, Option, Some, None}
-use Rattle.std.specs.List.{list_any, position, position_or_len}
-use Rattle.std.specs.Option.{unwrap_or}
-use Rattle.std.proofs.Common.{sym, ap, ◌∙◌, arith, add-one}
-use borrow.Author.Tests.{ltb-true}
+-- The first word or row of a text, as the code finds it, and whether there are more. Assumes nothing.
+use Rattle.std.specs.Prelude.{ℕ, suc, ◌+◌, ◌-◌, ◌<◌, ◌≡◌, refl, List, [], ◌∷◌, ◌++◌, Bool, true, false, ◌||◌, eqb, length, take, drop, Option, Some, None}
+use Rattle.std.specs.List.{list_any}
+use Rattle.std.proofs.Common.{sym, ap, ◌∙◌, arith, add-one, eqb-true, length-append, not-suc-le-zero}
 use denote.Ref.{Bor}
 use Rattle.listings.specs.Bytes.{pick}
 use Rattle.listings.specs.Rows.{split}
 use Rattle.listings.specs.Scan.{index_of, split_last, split_more, rest_all}
-use Rattle.tokens.specs.ListWords.{find_is}
+
+-- what stands before the first b and what stands behind it, of a text that has one
+abbrev pub FirstPiece : ℕ → List ℕ → Option (Bor (List ℕ) × Bor (List ℕ)) → Type 0
+FirstPiece b s None = split b s ≡ s ∷ []
+FirstPiece b s (Some d) = (split b s ≡ d.0.now ∷ split b d.1.now) × (s ≡ d.0.now ++ (b ∷ d.1.now))
 
 abbrev pub FirstWord : List ℕ → Option (Bor (List ℕ) × Bor (List ℕ)) → Type 0
 FirstWord s None = split 32 s ≡ s ∷ []
 FirstWord s (Some d) = split 32 s ≡ d.0.now ∷ split 32 d.1.now
 
-position_below : (p : ℕ → Bool) (l : List ℕ) (e : ℕ) → position p l ≡ Some e → e < length l
-position_below p l e h = go (ltb n (length l)) refl h
+abbrev pub FirstRow : List ℕ → Option (Bor (List ℕ) × Bor (List ℕ)) → Type 0
+FirstRow = FirstPiece 10
+
+pub word_first : (s : List ℕ) (o : Option (Bor (List ℕ) × Bor (List ℕ))) → FirstPiece 32 s o → FirstWord s o
+word_first s None h = h
+word_first s (Some d) h = h.0
+
+-- what is left is shorter
+pub row_shorter : (s row left : List ℕ) → s ≡ row ++ (10 ∷ left) → length row + length left < length s
+row_shorter s row left h = rw (h, length-append row (10 ∷ left)) (omega arith)
+
+-- a text is what stands before its first b, that b, and the rest
+index_parts : (b : ℕ) (l : List ℕ) → index_of b l < length l → l ≡ take (index_of b l) l ++ (b ∷ drop (suc (index_of b l)) l)
+unfolding index_of
+index_parts b [] h = absurd (not-suc-le-zero h)
+index_parts b (x ∷ l) h = go (eqb x b) refl (λ q. index_parts b l q) h
   where
-    n : ℕ
-    n = position_or_len p l
+    go : (t : Bool) → eqb x b ≡ t → (index_of b l < length l → l ≡ take (index_of b l) l ++ (b ∷ drop (suc (index_of b l)) l)) → pick t 0 (suc (index_of b l)) < suc (length l)
+        → x ∷ l ≡ take (pick t 0 (suc (index_of b l))) (x ∷ l) ++ (b ∷ drop (suc (pick t 0 (suc (index_of b l)))) (x ∷ l))
+    go true e f q = ap (λ (z : ℕ). z ∷ l) (eqb-true x b e)
+    go false e f q = ap (λ (z : List ℕ). x ∷ z) (f (omega arith))
 
-    go : (t : Bool) → ltb n (length l) ≡ t → cond t (Some n) None ≡ Some e → e < length l
-    go true q r = let z : n ≡ e = cc in omega (arith, z, ltb-true n (length l) q)
-    go false q r = cc
+-- e: where the first b stands
+module _ (b : ℕ) (s : List ℕ) (e : ℕ) (found : e ≡ index_of b s) where
+  pub first_alone : e ≡ length s → split b s ≡ s ∷ []
+  first_alone h = split_last b s (sym found ∙ h)
 
--- o: where the first space stands
-module _ (s : List ℕ) (o : Option ℕ) (found : o ≡ position (λ x. eqb x 32) s) where
-  index_at : unwrap_or o (length s) ≡ index_of 32 s
-  index_at = ap (λ (x : Option ℕ). unwrap_or x (length s)) found ∙ find_is 32 s
+  pub first_more : e < length s → split b s ≡ take e s ∷ split b (take (length s - (e + 1)) (drop (e + 1) s))
+  first_more h = rw (rest_all s (e + 1), add-one, found) (split_more b s (omega (arith, found)))
 
-  pub first_alone : o ≡ None → split 32 s ≡ s ∷ []
-  first_alone h = split_last 32 s (sym index_at ∙ ap (λ (x : Option ℕ). unwrap_or x (length s)) h)
-
-  module _ (e : ℕ) (at : o ≡ Some e) where
-    pub first_below : e < length s
-    first_below = position_below (λ x. eqb x 32) s e (sym found ∙ at)
-
-    pub first_more : split 32 s ≡ take e s ∷ split 32 (take (length s - (e + 1)) (drop (e + 1) s))
-    first_more =
-        let i : e ≡ index_of 32 s = sym (ap (λ (x : Option ℕ). unwrap_or x (length s)) at) ∙ index_at in
-        rw (rest_all s (e + 1), add-one, i) (split_more 32 s (omega (arith, i, first_below)))
+  pub first_parts : e < length s → s ≡ take e s ++ (b ∷ take (length s - (e + 1)) (drop (e + 1) s))
+  first_parts h = rw (rest_all s (e + 1), add-one, found) (index_parts b s (omega (arith, found)))
 
 -- ---- whether there is a space
 

@@ -56,6 +56,8 @@ pub fn are_words(s: &[u8]) -> bool
 }
 
 // Any word but the three tiers is no form.
+// Kept: beside `mark_refusal`, a line each: one function of both would be told what was found, a tier or a mark.
+#[tactic(auto, using(crate::specs::Arguments::tier_verdict))]
 fn tier_refusal(w: &[u8]) -> Result<(), Reason>
     ensures { result ≡ verdict (parse_tier w.now) }
 {
@@ -63,6 +65,7 @@ fn tier_refusal(w: &[u8]) -> Result<(), Reason>
 }
 
 // Any word but the two marks is no form.
+#[tactic(auto, using(crate::specs::Arguments::mark_verdict))]
 fn mark_refusal(w: &[u8]) -> Result<(), Reason>
     ensures { result ≡ verdict (parse_mark w.now) }
 {
@@ -70,6 +73,7 @@ fn mark_refusal(w: &[u8]) -> Result<(), Reason>
 }
 
 // A name is due.
+#[tactic(auto, using(listing_laws::specs::WordText::name_text, crate::specs::Names::name_invalid))]
 fn name_refusal(w: &[u8]) -> Result<(), Reason>
     ensures { result ≡ verdict (parse_name w.now) }
 {
@@ -80,6 +84,7 @@ fn name_refusal(w: &[u8]) -> Result<(), Reason>
 }
 
 // A name is due, or `*`.
+#[tactic(auto, unfolding(listings::specs::Rows::parse_slot), using(crate::specs::Arguments::slot_star, crate::specs::Arguments::slot_name))]
 fn slot_refusal(w: &[u8]) -> Result<(), Reason>
     ensures { result ≡ verdict (parse_slot w.now) }
 {
@@ -90,6 +95,8 @@ fn slot_refusal(w: &[u8]) -> Result<(), Reason>
 }
 
 // Of a word of such a list.
+// Kept: a function, and no method of `Arguments`: it is one of those above, each of a word.
+#[tactic(auto, unfolding(crate::specs::Arguments::refusal_by), using(crate::specs::Arguments::number_verdict))]
 fn argument_refusal(arguments: Arguments, w: &[u8]) -> Result<(), Reason>
     ensures { result ≡ refusal_by (are_slots arguments) w.now }
 {
@@ -101,6 +108,7 @@ fn argument_refusal(arguments: Arguments, w: &[u8]) -> Result<(), Reason>
 
 // "within it, the lowest number": of two refusals; b where none is refused.
 // Kept: by the numbers; that a derived order is theirs would be a table of 441 cases.
+#[tactic(auto, unfolding(crate::specs::Arguments::lowest), using(crate::specs::Arguments::lowest_second))]
 pub fn lower<A: Drop, B: Drop>(a: Result<A, Reason>, b: Result<B, Reason>) -> Result<B, Reason>
     ensures { result ≡ lowest a b }
 {
@@ -131,6 +139,7 @@ pub fn check_all(s: &[u8], arguments: Arguments) -> Checked
 }
 
 // The one word of s as a number.
+#[tactic(auto, using(crate::specs::Arguments::single_is, crate::specs::Arguments::single_many, crate::specs::Scan::has_space, crate::specs::Scan::lacks_space))]
 pub fn single_number(s: &[u8]) -> Result<u16, Reason>
     ensures { result ≡ as_number (single (split 32 s.now)) }
 {
@@ -140,16 +149,14 @@ pub fn single_number(s: &[u8]) -> Result<u16, Reason>
     number(s)
 }
 
-// A name and a tier.
+// A name and a tier; what has a space in it is no tier.
+#[tactic(auto, using(crate::specs::Arguments::for_alone, crate::specs::Arguments::for_more))]
 fn check_for(s: &[u8]) -> Checked
     ensures { result ≡ check_for (split 32 s.now) }
 {
     let Some((name, tier)) = first_word(s) else {
         return NO_FORM;
     };
-    if tier.contains(&b' ') {
-        return NO_FORM;
-    }
     Checked {
         count: 0,
         verdict: lower(name_refusal(name), tier_refusal(tier)),
@@ -157,6 +164,7 @@ fn check_for(s: &[u8]) -> Checked
 }
 
 // A mark and slots.
+#[tactic(auto, using(crate::specs::Arguments::next_alone, crate::specs::Arguments::next_slots))]
 fn check_next(s: &[u8]) -> Checked
     ensures { result ≡ check_next (split 32 s.now) }
 {
@@ -185,6 +193,7 @@ fn check_single(s: &[u8]) -> Checked
 }
 
 // The words of s, one or more, after an opening word of this kind.
+#[tactic(auto, unfolding(crate::specs::Arguments::check_kind))]
 pub fn check_kind(kind: Kind, s: &[u8]) -> Checked
     ensures { result ≡ check_kind kind (split 32 s.now) }
 {

@@ -15,6 +15,10 @@ pub fn is_capital(b: u8) -> bool
     matches!(b, b'A'..=b'Z')
 }
 
+// A name's key is a number to this base, with a digit for each byte, the first byte lowest. Each byte is 32 more than
+// its digit.
+pub const KEY_BASE: u64 = 64;
+
 // What may follow a name's first letter.
 pub fn is_letter(b: u8) -> bool
     ensures { result ≡ (is_capital b || is_digit b) }
@@ -64,13 +68,13 @@ fn with_byte(a: u64, i: usize, b: u8) -> u64
     if !is_kept(i, b) {
         return a;
     }
-    a * 64 + (u64::from(b) - 32)
+    a * KEY_BASE + u64::from(b - b' ')
 }
 
 // The key of a name that is judged whole and then cut to two characters and its kind: the bytes less 32 as digits to
 // the base 64, the first byte lowest. No two cut names have the same key.
-// Kept: by the place; tried as `iter().enumerate().rev()`: a proof then knows what was yielded and not the place, from
-// which on the key so far is that of what the cut leaves.
+// Kept: by the place; tried as `iter().enumerate().rev()`: its laws tell a proof which bytes were
+// yielded, and not at which place the loop stands, and of that place the key so far is told.
 pub fn key_of(w: &[u8]) -> Result<u64, Reason>
     ensures { result ≡ as_key (parse_name w.now) }
 {

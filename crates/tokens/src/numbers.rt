@@ -23,6 +23,7 @@ fn all_digits(w: &[u8]) -> bool
 }
 
 // A single 0 is no leading zero.
+#[tactic(auto, using(crate::specs::Numbers::no_zero_short, crate::specs::Numbers::no_zero_long))]
 fn no_leading_zero(w: &[u8]) -> bool
     ensures { result ≡ no_leading_zero w.now }
 {
@@ -47,13 +48,14 @@ fn value_of(w: &[u8]) -> Option<u16>
 {
     let mut v: u32 = 0;
     for b in w {
-        v = with_digit(v, u32::from(*b) - 48, MAX_NUMBER as u32)?;
+        v = with_digit(v, u32::from(*b - b'0'), MAX_NUMBER as u32)?;
     }
     Some(v as u16)
 }
 
 // What a word is where a number is due: no number at all where it is not all digits, a bad one with a leading zero or
 // above 65535.
+#[tactic(auto, using(crate::specs::ListWords::all_is, crate::specs::Numbers::number_malformed, crate::specs::Numbers::number_zero, crate::specs::Numbers::number_value))]
 pub fn number(w: &[u8]) -> Result<u16, Reason>
     ensures { result ≡ as_number (parse_number w.now) }
 {

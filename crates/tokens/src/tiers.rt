@@ -3,17 +3,19 @@ ghost use Rattle.std.specs.Prelude.{◌≡◌};
 ghost use Rattle.listings.specs.Rows.{parse_tier, parse_mark};
 ghost use Rattle.tokens.specs.Tiers.{tier_found, mark_found};
 
+use layout::columns::{DISPATCHED, ORPHAN};
+
 #[derive(Clone, Copy, Debug, PartialEq, Eq)]
 pub enum Tier {
     Static = 0,
     Framed = 1,
-    Dispatched = 2,
+    Dispatched = DISPATCHED as isize,
 }
 
 #[derive(Clone, Copy, Debug, PartialEq, Eq)]
 pub enum Mark {
     Plain = 0,
-    Orphan = 1,
+    Orphan = ORPHAN as isize,
 }
 
 // The tier that a word is.

@@ -13,14 +13,22 @@ const SLOTS: [u8; 64] = [
     0, 0, 15, 0, 0, 0,
 ];
 
-// What a form's opening word says of the words after it.
+// A word that has branches.
+#[derive(Clone, Copy, Debug, PartialEq, Eq)]
+pub enum Cond {
+    If,
+    IfElse,
+    Rcomp,
+}
+
+// What a form's opening word says of the words after it, and which word with branches it is.
 #[derive(Clone, Copy, Debug, PartialEq, Eq)]
 pub enum Kind {
     Module,
     Line,
     To,
     Stmts,
-    Cond,
+    Cond(Cond),
     Bare,
     Number,
     Numbers,
@@ -33,9 +41,9 @@ pub enum Kind {
 static FORMS: [(&[u8], Kind); 28] = [
     (b"module", Kind::Module),
     (b"line", Kind::Line),
-    (b"if", Kind::Cond),
-    (b"ifelse", Kind::Cond),
-    (b"rcomp", Kind::Cond),
+    (b"if", Kind::Cond(Cond::If)),
+    (b"ifelse", Kind::Cond(Cond::IfElse)),
+    (b"rcomp", Kind::Cond(Cond::Rcomp)),
     (b"to", Kind::To),
     (b"stmts", Kind::Stmts),
     (b"goto", Kind::Number),
@@ -76,6 +84,7 @@ pub fn word(k: usize) -> &'static [u8]
 }
 
 // The only opening word that w can be, by its first and last letters and its length.
+// Kept: 0 where there is none, and no `Option`: `word_of` compares what is found, and an accepted row has one.
 pub fn candidate(w: &[u8]) -> usize
     ensures { (result ≡ candidate_of w.now) × (result < 28) }
 {
@@ -88,6 +97,7 @@ pub fn candidate(w: &[u8]) -> usize
 
 // The number of the opening word that w is.
 // Kept: the number alone; tried with the kind beside it, by one look-up: reading a row takes a tenth more instructions.
+#[tactic(auto, using(crate::specs::Kinds::found_word, crate::specs::Kinds::found_none, listing_laws::specs::WordSlots::found, listing_laws::specs::WordSlots::not_found))]
 pub fn word_of(w: &[u8]) -> Option<usize>
     ensures { result ≡ word_found w.now }
 {

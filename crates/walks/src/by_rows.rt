@@ -1,13 +1,14 @@
 // Where each RETURN goes back to, by rows of bits: regions by closed rows in place of walks.
 ghost use Rattle.std.specs.Prelude.{◌≡◌, ◌*◌, ◌≤◌, ◌<◌, length, take};
-ghost use Rattle.passes.specs.WalkTables.{CallsRead};
-ghost use Rattle.passes.specs.ByRows.{EntryByRows, EntriesByRows, ByRowsReady, ByRowsAnswered};
+ghost use Rattle.passes.specs.ByRows.{ByRowsAnswered};
+ghost use Rattle.walks.specs.FromListed.{ByRowsReadyFrom};
+ghost use Rattle.walks.specs.FromNodes.{CallsReadFrom, EntryByRowsFrom, EntriesByRowsFrom};
 
 use crate::clearing::clear_returns;
 use crate::closure::{close_rows, list_row};
 use crate::readable::nodes_of;
 use crate::regions::join_region;
-use crate::sets::Sets;
+use crate::sets::{Sets, WORDS};
 use crate::spans::{Calls, no_spans};
 use layout::limits::MAX_STMTS;
 use layout::zeroing::all_of;
@@ -23,8 +24,8 @@ fn join_by_rows(
     work: &mut [u16; MAX_STMTS],
     rows: &mut [u64],
 )
-    requires { ByRowsReady g.now.records.stmts.now g.now.falls.now g.now.links.now g.now.records.n calls.now.list.now calls.now.spans.now rows.old × (e < g.now.records.n) }
-    ensures { EntryByRows g.now.records.stmts.now g.now.falls.now g.now.links.now g.now.records.n e rows.old rows.new }
+    requires { ByRowsReadyFrom g.now calls.now rows.old × (e < g.now.records.n) }
+    ensures { EntryByRowsFrom g.now e rows.old rows.new }
 {
     let Some(called) = calls.of_entry(e) else {
         return;
@@ -50,8 +51,8 @@ fn join_entries_by_rows(
     work: &mut [u16; MAX_STMTS],
     rows: &mut [u64],
 )
-    requires { ByRowsReady g.now.records.stmts.now g.now.falls.now g.now.links.now g.now.records.n calls.now.list.now calls.now.spans.now rows.old }
-    ensures { EntriesByRows g.now.records.stmts.now g.now.falls.now g.now.links.now g.now.records.n g.now.records.n rows.old rows.new }
+    requires { ByRowsReadyFrom g.now calls.now rows.old }
+    ensures { EntriesByRowsFrom g.now g.now.records.n rows.old rows.new }
 {
     for e in 0..g.records.n {
         join_by_rows(g, calls, e, work, rows);
@@ -61,8 +62,8 @@ fn join_entries_by_rows(
 // All entries of all calls: where the rows of nodes that are no RETURN are closed, the sets of RETURNs grow.
 // Kept: alike with regions::join_regions are the arrays alone, as there.
 fn join_regions_by_rows(g: &Nodes<'_>, rows: &mut [u64])
-    requires { CallsRead g.now.records.stmts.now g.now.falls.now g.now.links.now g.now.records.n × (g.now.records.n * 64 ≤ length rows.old) }
-    ensures { EntriesByRows g.now.records.stmts.now g.now.falls.now g.now.links.now g.now.records.n g.now.records.n rows.old rows.new }
+    requires { CallsReadFrom g.now × (g.now.records.n * WORDS ≤ length rows.old) }
+    ensures { EntriesByRowsFrom g.now g.now.records.n rows.old rows.new }
 {
     let mut list = all_of::<u16, MAX_STMTS>(0);
     let mut spans = no_spans();

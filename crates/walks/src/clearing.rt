@@ -3,15 +3,15 @@ ghost use Rattle.std.specs.Prelude.{◌+◌, ◌*◌, ◌≤◌, ◌<◌, length
 ghost use Rattle.passes.specs.Clearing.{SetCleared, SetsCleared, ClearAnswered};
 
 use crate::readable::sets_fit;
-use crate::sets::words_of;
+use crate::sets::{WORDS, words_of};
 use layout::words::RETURN;
 use tables::nodes::Records;
 
 // Clears the set of node i, where that is a RETURN.
-// Kept: here and below sets with their bound in the contract: they are written, so a struct of them would hold a
-// `&mut`.
+// Kept: here and below sets with their bound in the contract: a struct of them would hold a `&mut`, and each
+// change would have to show its bound again.
 fn clear_set(records: &Records<'_>, i: usize, sets: &mut [u64])
-    requires { (i < records.now.n) × (i * 64 + 64 ≤ length sets.old) }
+    requires { (i < records.now.n) × (i * WORDS + WORDS ≤ length sets.old) }
     ensures { SetCleared records.now.stmts.now i sets.old sets.new }
 {
     if records.word(i) == RETURN {
@@ -20,8 +20,9 @@ fn clear_set(records: &Records<'_>, i: usize, sets: &mut [u64])
 }
 
 // Clears the set of each RETURN; all other rows stay.
+// Kept: rows by their places, as in storing's predecessors.rt.
 pub(crate) fn clear_returns(records: &Records<'_>, sets: &mut [u64])
-    requires { records.now.n * 64 ≤ length sets.old }
+    requires { records.now.n * WORDS ≤ length sets.old }
     ensures { SetsCleared records.now.stmts.now records.now.n sets.old sets.new }
 {
     for i in 0..records.n {

@@ -1,18 +1,20 @@
-// Rows of bits, 64 words a node, as sets have them: where each node leads, and, once they are closed, all that it can
-// reach (Warshall).
+// Rows of bits, `WORDS` words a node, as sets have them: where each node leads, and, once they are closed, all that it
+// can reach (Warshall).
 ghost use Rattle.std.specs.Prelude.{◌≡◌, ◌+◌, ◌*◌, ◌≤◌, ◌<◌, eqb, length, take};
 ghost use Rattle.passes.specs.Sets.{bit};
 ghost use Rattle.passes.specs.ReturnSets.{set_of};
-ghost use Rattle.passes.specs.Closure.{Closed, RowJoined, RowsJoined, RowReached, RowListed};
+ghost use Rattle.passes.specs.Closure.{Closed, RowJoined, RowsJoined};
+ghost use Rattle.walks.specs.FromListed.{RowReachedFrom, RowListedFrom};
 
-use crate::sets::{Sets, has_bit, insert, join, no_words, put_members, set_at, words_of};
+use crate::sets::{Sets, WORDS, has_bit, insert, join, no_words, put_members, set_at, words_of};
 use layout::limits::MAX_STMTS;
 use layout::words::RETURN;
 
 // Row i as a set of its own, so that the rows can change meanwhile.
+// Kept: by `copy_from_slice`: `as_array` would answer an `Option` to take apart, for no plainer code.
 #[tactic(auto, unfolding(passes::specs::ReturnSets::set_of))]
-fn row_copy(rows: &[u64], i: usize) -> [u64; 64]
-    requires { (i < 4096) × (i * 64 + 64 ≤ length rows.now) }
+fn row_copy(rows: &[u64], i: usize) -> [u64; WORDS]
+    requires { (i < MAX_STMTS) × (i * WORDS + WORDS ≤ length rows.now) }
     ensures { result ≡ set_of rows.now i }
 {
     let mut row = no_words();
@@ -23,8 +25,8 @@ fn row_copy(rows: &[u64], i: usize) -> [u64; 64]
 // Joins `row`, which is row k, into row i, where that has node k.
 // Kept: here and below rows with their bound in the contract: a struct of them would hold a `&mut`, and each change
 // would have to show its bound again.
-fn close_row(rows: &mut [u64], i: usize, k: usize, row: &[u64; 64])
-    requires { (i < 4096) × (i * 64 + 64 ≤ length rows.old) × (k < 4096) }
+fn close_row(rows: &mut [u64], i: usize, k: usize, row: &[u64; WORDS])
+    requires { (i < MAX_STMTS) × (i * WORDS + WORDS ≤ length rows.old) × (k < MAX_STMTS) }
     ensures { RowJoined k row.now i rows.old rows.new }
 {
     if has_bit(&rows[words_of(i)], k) {
@@ -33,8 +35,9 @@ fn close_row(rows: &mut [u64], i: usize, k: usize, row: &[u64; 64])
 }
 
 // Ways by way of node k.
+// Kept: rows by their places, as in storing's predecessors.rt.
 fn close_round(rows: &mut [u64], n: usize, k: usize)
-    requires { (n ≤ 4096) × (n * 64 ≤ length rows.old) × (k < n) }
+    requires { (n ≤ MAX_STMTS) × (n * WORDS ≤ length rows.old) × (k < n) }
     ensures { RowsJoined k (set_of rows.old k) n rows.old rows.new }
 {
     let row = row_copy(rows, k);
@@ -45,7 +48,7 @@ fn close_round(rows: &mut [u64], n: usize, k: usize)
 
 // Row i says where node i leads; then it has all that can be reached from it in one step or more.
 pub(crate) fn close_rows(rows: &mut [u64], n: usize)
-    requires { (n ≤ 4096) × (n * 64 ≤ length rows.old) }
+    requires { (n ≤ MAX_STMTS) × (n * WORDS ≤ length rows.old) }
     ensures { Closed n rows.old rows.new }
 {
     for k in 0..n {
@@ -55,9 +58,9 @@ pub(crate) fn close_rows(rows: &mut [u64], n: usize)
 
 // All that a walk from `from` would list: that node alone where it is a RETURN, which takes no step and whose row may
 // hold where it returns to; else with its row.
-fn row_region(rows: &Sets<'_>, from: usize) -> [u64; 64]
+fn row_region(rows: &Sets<'_>, from: usize) -> [u64; WORDS]
     requires { from < rows.now.records.n }
-    ensures { RowReached rows.now.records.stmts.now rows.now.words.now rows.now.records.n from result }
+    ensures { RowReachedFrom rows.now from result }
 {
     let mut set = no_words();
     insert(&mut set, from);
@@ -72,7 +75,7 @@ fn row_region(rows: &Sets<'_>, from: usize) -> [u64; 64]
 // Kept: a list and how many, as `region` does, so that one worklist serves all entries.
 pub(crate) fn list_row(rows: &Sets<'_>, from: usize, work: &mut [u16; MAX_STMTS]) -> usize
     requires { from < rows.now.records.n }
-    ensures { (result ≤ length work.new) × RowListed rows.now.records.stmts.now rows.now.words.now rows.now.records.n from (take result work.new) }
+    ensures { (result ≤ length work.new) × RowListedFrom rows.now from (take result work.new) }
 {
     let set = row_region(rows, from);
     put_members(&set, work)

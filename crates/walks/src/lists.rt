@@ -9,6 +9,8 @@ use tables::nodes::Records;
 // Lists those nodes that pass, ascending, and answers how many.
 // Kept: an array and how many of it are in use, here and for all that walks list: it is lent, so that one serves entry
 // after entry; an `ArrayVec` would be the same two values, of one crate more.
+// Kept: a closure, and the `requires` that one needs, that it can be called. Tried: a trait with a ghost member, which
+// needs none; but each of the two tests, a line as a closure, becomes a struct and an `impl`, eleven lines.
 // Kept: a counter, which is the answer: `.filter(..).enumerate()` counts too, but its count ends with the loop.
 pub fn list_where<F: Fn(usize) -> bool>(
     records: &Records<'_>,

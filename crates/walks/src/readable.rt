@@ -1,10 +1,12 @@
-// Whether the tables of a walk can be read, whoever wrote them; where they cannot, it is refused 25.
+// Whether the tables of a walk can be read, whoever wrote them; where they cannot, the caller is told.
 ghost use Rattle.std.specs.Prelude.{◌≡◌, ◌<◌};
 ghost use Rattle.tables.specs.Readable.{every_below};
 ghost use Rattle.passes.specs.Tested.{Tested, NodesAre};
-ghost use Rattle.passes.specs.WalkTables.{sets_fit, call_readable, node_readable, calls_readable, walks_readable};
+ghost use Rattle.passes.specs.WalkTables.{sets_fit, calls_readable, walks_readable};
+ghost use Rattle.walks.specs.FromNodes.{call_readable_from, node_readable_from};
 
-use layout::columns::{ARG_ENTRIES, FALL_ENTRIES, STMT_ENTRIES};
+use crate::sets::WORDS;
+use layout::columns::{FALL_ENTRIES, LINK_ENTRIES, STMT_ENTRIES};
 use layout::limits::{MAX_ARGS, MAX_STMTS};
 use tables::calls::is_call;
 use tables::nodes::{Nodes, Records};
@@ -15,14 +17,14 @@ use tables::readable::{ids_below, lists_readable};
 pub fn sets_fit(stmts: &[u16], sets: &[u64], n: usize) -> bool
     ensures { result ≡ sets_fit stmts.now n sets.now }
 {
-    n <= MAX_STMTS && n * STMT_ENTRIES <= stmts.len() && n * ARG_ENTRIES <= sets.len()
+    n <= MAX_STMTS && n * STMT_ENTRIES <= stmts.len() && n * WORDS <= sets.len()
 }
 
 // Whether the targets of call c are few, and these and where it falls are among the nodes.
 #[tactic(auto, using(passes::specs::RegionLaws::targets_row), unfolding(passes::specs::WalkTables::call_readable))]
 fn call_readable(g: &Nodes<'_>, c: usize) -> bool
     requires { c < g.now.records.n }
-    ensures { result ≡ call_readable g.now.records.stmts.now g.now.falls.now g.now.links.now g.now.records.n c }
+    ensures { result ≡ call_readable_from g.now c }
 {
     let n = g.records.n;
     let count = g.records.count(c);
@@ -34,14 +36,14 @@ fn call_readable(g: &Nodes<'_>, c: usize) -> bool
 #[tactic(auto, unfolding(passes::specs::WalkTables::node_readable, tables::specs::Columns::word_of))]
 fn node_readable(g: &Nodes<'_>, c: usize) -> bool
     requires { c < g.now.records.n }
-    ensures { result ≡ node_readable g.now.records.stmts.now g.now.falls.now g.now.links.now g.now.records.n c }
+    ensures { result ≡ node_readable_from g.now c }
 {
     !is_call(g.records.word(c)) || call_readable(g, c)
 }
 
 // Whether the calls among all these nodes can be read.
 fn nodes_readable(g: &Nodes<'_>) -> bool
-    ensures { result ≡ every_below (node_readable g.now.records.stmts.now g.now.falls.now g.now.links.now g.now.records.n) g.now.records.n }
+    ensures { result ≡ every_below (node_readable_from g.now) g.now.records.n }
 {
     (0..g.records.n).all(|c| node_readable(g, c))
 }
@@ -60,7 +62,7 @@ pub fn nodes_of<'a>(
     if !sets_fit(stmts, sets, n) {
         return None;
     }
-    if falls.len() < n * FALL_ENTRIES || links.len() < n * ARG_ENTRIES {
+    if falls.len() < n * FALL_ENTRIES || links.len() < n * LINK_ENTRIES {
         return None;
     }
     let records = Records { stmts, n };
@@ -69,13 +71,11 @@ pub fn nodes_of<'a>(
         falls,
         links,
     };
-    if !nodes_readable(&nodes) {
-        return None;
-    }
-    Some(nodes)
+    nodes_readable(&nodes).then_some(nodes)
 }
 
-// Whether the calls among n nodes can be read, and each node has a set.
+// Whether the calls among n nodes can be read, and each node has a set. Public, as the next: any routine over such
+// tables can ask; here `nodes_of` serves.
 pub fn calls_readable<'a>(
     stmts: &'a [u16],
     falls: &'a [u16],

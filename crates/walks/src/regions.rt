@@ -4,13 +4,14 @@ ghost use Rattle.std.specs.Prelude.{◌≡◌, ◌+◌, ◌*◌, ◌≤◌, ◌<
 ghost use Rattle.listings.specs.Every.{All};
 ghost use Rattle.graph.specs.Lists.{each};
 ghost use Rattle.graph_laws.specs.Adding.{decode};
-ghost use Rattle.passes.specs.Regions.{back_from, CallFits, EntryCalls, SetAdded, ListedJoined, RegionJoined, RegionsJoined, SetsFound, EntriesReady};
-ghost use Rattle.passes.specs.Walk.{stored_list};
-ghost use Rattle.passes.specs.WalkTables.{CallsRead, RegionsAnswered};
+ghost use Rattle.passes.specs.Regions.{SetAdded};
+ghost use Rattle.passes.specs.WalkTables.{RegionsAnswered};
+ghost use Rattle.walks.specs.FromListed.{EntriesReadyFrom, RegionJoinedFrom, RegionsJoinedFrom, SetsFoundFrom};
+ghost use Rattle.walks.specs.FromNodes.{CallsReadFrom, CallFitsFrom, continues_from, EntryCallsFrom, ListedJoinedFrom};
 
 use crate::readable::nodes_of;
 use crate::return_sets::join_returns;
-use crate::sets::{insert, no_words};
+use crate::sets::{WORDS, insert, no_words};
 use crate::spans::{Calls, no_spans};
 use crate::walk::Listed;
 use layout::limits::MAX_STMTS;
@@ -21,8 +22,8 @@ use tables::readable::lists_readable;
 
 // Inserts the node t - 1, where t is not 0.
 // Kept: the number, as `Nodes::fall` answers it: its one caller would take it apart by this same line.
-fn insert_some(set: &mut [u64; 64], t: u16)
-    requires { t ≤ 4096 }
+fn insert_some(set: &mut [u64; WORDS], t: u16)
+    requires { t ≤ MAX_STMTS }
     ensures { SetAdded set.old set.new (decode t) }
 {
     if let Some(a) = t.checked_sub(1) {
@@ -31,9 +32,9 @@ fn insert_some(set: &mut [u64; 64], t: u16)
 }
 
 // Inserts where call c goes on, if the entry e is one of its targets.
-fn add_back(g: &Nodes<'_>, c: usize, e: usize, backs: &mut [u64; 64])
-    requires { CallFits g.now.records.stmts.now g.now.falls.now g.now.links.now c × (e < 4096) }
-    ensures { SetAdded backs.old backs.new (back_from g.now.records.stmts.now g.now.falls.now g.now.links.now e c) }
+fn add_back(g: &Nodes<'_>, c: usize, e: usize, backs: &mut [u64; WORDS])
+    requires { CallFitsFrom g.now c × (e < MAX_STMTS) }
+    ensures { SetAdded backs.old backs.new (continues_from g.now e c) }
 {
     if holds(g.targets(c), (e + 1) as u16) {
         insert_some(backs, g.fall(c));
@@ -41,9 +42,9 @@ fn add_back(g: &Nodes<'_>, c: usize, e: usize, backs: &mut [u64; 64])
 }
 
 // Inserts where the calls go on that have the entry e among their targets.
-fn add_backs(g: &Nodes<'_>, calls: &[u16], e: usize, backs: &mut [u64; 64])
-    requires { All (CallFits g.now.records.stmts.now g.now.falls.now g.now.links.now) calls.now × (e < 4096) }
-    ensures { SetAdded backs.old backs.new (each (back_from g.now.records.stmts.now g.now.falls.now g.now.links.now e) calls.now) }
+fn add_backs(g: &Nodes<'_>, calls: &[u16], e: usize, backs: &mut [u64; WORDS])
+    requires { All (CallFitsFrom g.now) calls.now × (e < MAX_STMTS) }
+    ensures { SetAdded backs.old backs.new (each (continues_from g.now e) calls.now) }
 {
     for &c in calls {
         add_back(g, usize::from(c), e, backs);
@@ -54,8 +55,8 @@ fn add_backs(g: &Nodes<'_>, calls: &[u16], e: usize, backs: &mut [u64; 64])
 // each RETURN there.
 // Kept: here and below sets with their bound in the contract, as in clearing.rt.
 pub(crate) fn join_region(g: &Nodes<'_>, calls: &[u16], e: usize, list: &[u16], sets: &mut [u64])
-    requires { EntryCalls g.now.records.stmts.now g.now.falls.now g.now.links.now g.now.records.n e calls.now × (e < g.now.records.n) × (g.now.records.n * 64 ≤ length sets.old) }
-    ensures { ListedJoined g.now.records.stmts.now g.now.falls.now g.now.links.now g.now.records.n e list.now sets.old sets.new }
+    requires { EntryCallsFrom g.now e calls.now × (e < g.now.records.n) × (g.now.records.n * WORDS ≤ length sets.old) }
+    ensures { ListedJoinedFrom g.now e list.now sets.old sets.new }
 {
     let mut backs = no_words();
     add_backs(g, calls, e, &mut backs);
@@ -70,8 +71,8 @@ fn join_called(
     work: &mut [u16; MAX_STMTS],
     sets: &mut [u64],
 )
-    requires { let g = w.now.nodes in EntriesReady g.records.stmts.now g.falls.now g.links.now w.now.lists.now w.now.edges.now g.records.n calls.now.list.now calls.now.spans.now sets.old × (e < g.records.n) }
-    ensures { let g = w.now.nodes in RegionJoined g.records.stmts.now g.falls.now g.links.now (stored_list w.now.lists.now w.now.edges.now) g.records.n e sets.old sets.new }
+    requires { EntriesReadyFrom w.now calls.now sets.old × (e < w.now.nodes.records.n) }
+    ensures { RegionJoinedFrom w.now e sets.old sets.new }
 {
     let Some(called) = calls.of_entry(e) else {
         return;
@@ -83,8 +84,8 @@ fn join_called(
 // All called entries.
 // Kept: alike with by_rows::join_entries_by_rows is the `for` alone; the reason stands there.
 fn join_entries(w: &Listed<'_>, calls: &Calls<'_>, work: &mut [u16; MAX_STMTS], sets: &mut [u64])
-    requires { let g = w.now.nodes in EntriesReady g.records.stmts.now g.falls.now g.links.now w.now.lists.now w.now.edges.now g.records.n calls.now.list.now calls.now.spans.now sets.old }
-    ensures { let g = w.now.nodes in RegionsJoined g.records.stmts.now g.falls.now g.links.now (stored_list w.now.lists.now w.now.edges.now) g.records.n g.records.n sets.old sets.new }
+    requires { EntriesReadyFrom w.now calls.now sets.old }
+    ensures { RegionsJoinedFrom w.now w.now.nodes.records.n sets.old sets.new }
 {
     for e in 0..w.nodes.records.n {
         join_called(w, calls, e, work, sets);
@@ -95,8 +96,8 @@ fn join_entries(w: &Listed<'_>, calls: &Calls<'_>, work: &mut [u16; MAX_STMTS], 
 // Kept: two arrays, and what stands in them, are made as in by_rows::join_regions_by_rows; a `Calls` that holds them
 // had them copied where it was handed back (25 KB more of stack), and the walks that follow differ.
 fn join_regions(w: &Listed<'_>, sets: &mut [u64])
-    requires { let g = w.now.nodes in CallsRead g.records.stmts.now g.falls.now g.links.now g.records.n × (g.records.n * 64 ≤ length sets.old) }
-    ensures { let g = w.now.nodes in SetsFound g.records.stmts.now g.falls.now g.links.now (stored_list w.now.lists.now w.now.edges.now) g.records.n sets.old sets.new }
+    requires { CallsReadFrom w.now.nodes × (w.now.nodes.records.n * WORDS ≤ length sets.old) }
+    ensures { SetsFoundFrom w.now sets.old sets.new }
 {
     let mut list = all_of::<u16, MAX_STMTS>(0);
     let mut spans = no_spans();
@@ -105,11 +106,12 @@ fn join_regions(w: &Listed<'_>, sets: &mut [u64])
     join_entries(w, &calls, &mut work, sets);
 }
 
-// Where each RETURN goes back to comes into its set, 64 words in its own row of `sets`, by walks over the stored lists.
-// Answers whether the tables can be read; where they cannot, nothing is written.
+// Where each RETURN goes back to comes into its set, `WORDS` words in its own row of `sets`, by walks over the stored
+// lists. Answers whether the tables can be read; where they cannot, nothing is written.
 // Kept: tables one by one: `Nodes` has as its invariant what is tested here, and a plain struct would be filled from a
 // `Nodes` by the caller, one by one too.
-// Kept: a `bool`: it can be refused for one reason at one place, so that there is nothing to carry.
+// Kept: a `bool`: it can be refused for one reason at one place, so that there is nothing to carry; its caller has the
+// tables proved, and drops it.
 pub fn region_return_edges<'a>(
     stmts: &'a [u16],
     falls: &'a [u16],

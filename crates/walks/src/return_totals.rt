@@ -33,7 +33,7 @@ fn return_size(handlers: bool, sets: &Sets<'_>, i: usize, targets: usize) -> usi
 // chain; a loop's invariant says it of the turn at hand.
 // Kept: `handlers`, as above.
 fn sum_returns(handlers: bool, sets: &Sets<'_>, targets: usize) -> usize
-    requires { targets ≤ 4096 }
+    requires { targets ≤ MAX_STMTS }
     ensures { result ≡ sum_where (λ i. eqb (word_of sets.now.records.stmts.now i) return_word) (λ i. return_size handlers targets sets.now.words.now i) sets.now.records.n }
 {
     let mut sum: usize = 0;
@@ -43,9 +43,10 @@ fn sum_returns(handlers: bool, sets: &Sets<'_>, targets: usize) -> usize
     sum
 }
 
-// How many edges the RETURNs among n nodes have, of which there are at most 4,096, with at most so many targets; 0
-// where the tables are too short.
-// Kept: 0 and no `Option`: that is what its promise says of such tables, and its caller made them long enough.
+// How many edges the RETURNs among n nodes have, of which there are at most `MAX_STMTS`, with at most so many
+// targets; 0 where the tables are too short.
+// Kept: 0 and no `Option`: it is public, that is what its promise says of such tables, and its caller made them long
+// enough.
 // Kept: `handlers`, as above.
 #[tactic(auto, unfolding(passes::specs::ReturnTotals::return_total, passes::specs::WalkTables::sets_fit))]
 pub fn count_returns<'a>(

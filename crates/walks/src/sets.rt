@@ -1,38 +1,42 @@
-// Sets of nodes, 64 words each: id i is bit i % 64 of word i / 64.
+// Sets of nodes, `WORDS` words each: id i is bit i % WORD_BITS of word i / WORD_BITS.
 ghost use Rattle.std.specs.Prelude.{◌≡◌, ◌+◌, ◌*◌, ◌%◌, ◌≤◌, ◌<◌, ◌^◌, eqb, length, replicate};
 ghost use Rattle.listings.specs.Bytes.{pick};
 ghost use Rattle.passes.specs.Sets.{bit, inserted, joined, one_if, word_members, members_of, size_of, members_within, Put};
 ghost use Rattle.passes.specs.ReturnSets.{set_of};
+ghost use Rattle.walks.specs.declared.sets.TheConstants.{WORDS};
 
-use layout::columns::ARG_ENTRIES;
+use layout::limits::MAX_STMTS;
 use layout::zeroing::all_of;
 use std::ops::Range;
 use tables::nodes::Records;
 
-// The words of a set.
-// Kept: sets are slices of so many words, as contracts say, and no `[u64; 64]` or struct of one: they stand in rows of
-// lent tables, and `as_array` would test the length of each row once more.
-const WORDS: usize = 64;
+// The bits of a word.
+pub const WORD_BITS: usize = u64::BITS as usize;
 
-// The set of node i, of a table with one for each node; where the table ends before it has 64 words, what there is of
-// it.
+// The words of a set: a bit for each statement that there may be. A row of arguments has as many entries.
+// Kept: a set that is lent is a slice of so many words, as contracts say, and no array: it stands in a row of a lent
+// table, of which `as_array` would test at each use what the contract says already.
+pub const WORDS: usize = MAX_STMTS / WORD_BITS;
+
+// The set of node i, of a table with one for each node; where the table ends before it has them all, what there is
+// of it.
 pub fn set_at(sets: &[u64], i: usize) -> &[u64]
     ensures is_set { result.now ≡ set_of sets.now i }
-    ensures whole { i * 64 + 64 ≤ length sets.now → length result.now ≡ 64 }
+    ensures whole { i * WORDS + WORDS ≤ length sets.now → length result.now ≡ WORDS }
 {
-    let start = i.saturating_mul(ARG_ENTRIES).min(sets.len());
+    let start = i.saturating_mul(WORDS).min(sets.len());
     let end = start.saturating_add(WORDS).min(sets.len());
     &sets[start..end]
 }
 
 // Where the words of node i's set stand in a table with one for each node.
 // Kept: beside `tables::nodes::words_of`, which answers for any number and so multiplies with care: here i is a node,
-// and the closure asks n * n times (by `set_at`, which multiplies so too, 4,096 ANYs took 1.95 of the instructions).
+// and the closure asks n * n times (by `set_at`, which multiplies so too, 4,096 ANYs took 1.95 times the instructions).
 pub(crate) fn words_of(i: usize) -> Range<usize>
-    requires { i < 4096 }
-    ensures { (result.start ≡ i * 64) × (result.end ≡ i * 64 + 64) }
+    requires { i < MAX_STMTS }
+    ensures { (result.start ≡ i * WORDS) × (result.end ≡ i * WORDS + WORDS) }
 {
-    let start = i * ARG_ENTRIES;
+    let start = i * WORDS;
     start..start + WORDS
 }
 
@@ -41,40 +45,42 @@ pub(crate) fn words_of(i: usize) -> Range<usize>
 pub struct Sets<'a> {
     pub records: Records<'a>,
     pub words: &'a [u64],
-    pub ghost rows: { records.n * 64 ≤ length words.now },
+    pub ghost rows: { records.n * WORDS ≤ length words.now },
 }
 
 impl<'a> Sets<'a> {
     // The set of node i, as `set_at`.
     pub fn of(&self, i: usize) -> &'a [u64]
         ensures is_set { result.now ≡ set_of self.now.words.now i }
-        ensures whole { i < self.now.records.n → length result.now ≡ 64 }
+        ensures whole { i < self.now.records.n → length result.now ≡ WORDS }
     {
         set_at(self.words, i)
     }
 }
 
 // The empty set.
-pub fn no_words() -> [u64; 64]
-    ensures { result ≡ replicate 64 0 }
+pub fn no_words() -> [u64; WORDS]
+    ensures { result ≡ replicate WORDS 0 }
 {
     all_of(0)
 }
 
 // The bit of an id in its word.
 pub fn bit(id: usize) -> u64
-    ensures { result ≡ 2 ^ (id % 64) }
+    ensures { result ≡ 2 ^ (id % WORD_BITS) }
 {
-    1u64 << (id % 64)
+    1u64 << (id % WORD_BITS)
 }
 
 // Whether the set has an id; it has none where its words end before it.
+// Kept: its word by `get`: `tables::nodes::entry` is of `u16` tables; a generic one would be told its zero, for two
+// places.
 #[tactic(auto, unfolding(passes::specs::Sets::bit))]
 pub fn has_bit(words: &[u64], id: usize) -> bool
     ensures { result ≡ eqb (bit words.now id) 1 }
 {
-    let word = words.get(id / 64).copied().unwrap_or(0);
-    (word >> (id % 64)) % 2 == 1
+    let word = words.get(id / WORD_BITS).copied().unwrap_or(0);
+    (word >> (id % WORD_BITS)) % 2 == 1
 }
 
 // The id comes into the set, where that has a word for it.
@@ -82,7 +88,7 @@ pub fn has_bit(words: &[u64], id: usize) -> bool
 pub fn insert(set: &mut [u64], id: usize)
     ensures { set.new ≡ inserted set.old id }
 {
-    let q = id / 64;
+    let q = id / WORD_BITS;
     if q < set.len() {
         set[q] |= bit(id);
     }
@@ -110,18 +116,14 @@ pub fn join_set(set: &mut [u64], more: &[u64])
 
 // How many members the set has.
 pub(crate) fn count_members(set: &[u64]) -> usize
-    requires { length set.now ≡ 64 }
+    requires { length set.now ≤ WORDS }
     ensures { result ≡ length (members_of set.now) }
 {
-    let mut n: u32 = 0;
-    for &word in set {
-        n += word.count_ones();
-    }
-    n as usize
+    set.iter().map(|word| word.count_ones()).sum::<u32>() as usize
 }
 
-// How many members a set of 64 words has; 0 where it has not so many words.
-// Kept: 0 and no `Option`, here and in `members`: that is what their promises say of such a set.
+// How many members a set of `WORDS` words has; 0 where it has not so many.
+// Kept: 0 and no `Option`, here and in `members`: they are public, and that is what their promises say of such a set.
 #[tactic(auto, unfolding(passes::specs::Sets::size_of))]
 pub fn size_of(set: &[u64]) -> usize
     ensures { result ≡ size_of set.now }
@@ -134,10 +136,10 @@ pub fn size_of(set: &[u64]) -> usize
 
 // Puts the members of a word, whose lowest bit is the id `base`, behind n.
 // Kept: a part and how many: a word's members go behind those of the words before, and the part may be any caller's.
-// Kept: a `while`, which goes from one to one: a range would ask all 64 bits of each word.
+// Kept: a `while`, which goes from one to one: a range would ask each bit of a word.
 fn put_word(part: &mut [u16], n: usize, base: usize, word: u64) -> usize
-    requires { (base ≤ 4096) × (n + length (word_members base word 64) ≤ length part.old) }
-    ensures { Put part.old n part.new result (word_members base word 64) }
+    requires { (base ≤ MAX_STMTS) × (n + length (word_members base word WORD_BITS) ≤ length part.old) }
+    ensures { Put part.old n part.new result (word_members base word WORD_BITS) }
 {
     let mut w = word;
     let mut j: usize = 0;
@@ -155,18 +157,18 @@ fn put_word(part: &mut [u16], n: usize, base: usize, word: u64) -> usize
 
 // Writes the members, ascending, and answers how many; the rest of the part stays.
 pub(crate) fn put_members(set: &[u64], part: &mut [u16]) -> usize
-    requires { (length set.now ≡ 64) × (length (members_of set.now) ≤ length part.old) }
+    requires { (length set.now ≡ WORDS) × (length (members_of set.now) ≤ length part.old) }
     ensures { Put part.old 0 part.new result (members_of set.now) }
 {
     let mut n: usize = 0;
     for (q, &word) in set.iter().enumerate() {
-        n = put_word(part, n, q * 64, word);
+        n = put_word(part, n, q * WORD_BITS, word);
     }
     n
 }
 
-// The same for any set and any part: nothing is written where the set has not 64 words, or the part no room for all of
-// them.
+// The same for any set and any part: nothing is written where the set has not `WORDS` words, or the part no room for
+// all of them.
 #[tactic(auto, unfolding(passes::specs::Sets::members_within))]
 pub fn members(set: &[u64], part: &mut [u16]) -> usize
     ensures { Put part.old 0 part.new result (members_within set.now (length part.old)) }

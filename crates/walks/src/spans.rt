@@ -4,12 +4,11 @@ ghost use Rattle.std.specs.Prelude.{◌≡◌, ℕ, ◌+◌, ◌-◌, ◌*◌, �
 ghost use Rattle.listings.specs.Every.{All};
 ghost use Rattle.graph.specs.Lists.{each};
 ghost use Rattle.graph_laws.specs.Adding.{decode};
-ghost use Rattle.passes.specs.Prepared.{link_entries};
-ghost use Rattle.passes.specs.Regions.{calls_below, TargetsFit, CallsReady};
+ghost use Rattle.passes.specs.Regions.{calls_below};
 ghost use Rattle.passes.specs.Sets.{Put};
-ghost use Rattle.passes.specs.Spans.{SpansTo, SpansGrow, Spanned};
-ghost use Rattle.passes.specs.WalkTables.{CallsRead};
+ghost use Rattle.passes.specs.Spans.{SpansTo, SpansGrow};
 ghost use Rattle.passes.specs.declared.spans.Span.{Span};
+ghost use Rattle.walks.specs.FromNodes.{CallsReadFrom, TargetsFitFrom, entries_from, CallsReadyFrom, SpannedFrom};
 
 use crate::lists::list_where;
 use layout::limits::MAX_STMTS;
@@ -21,7 +20,7 @@ use tables::nodes::{Nodes, Records};
 // Place k, the last so far, comes into the span of the entry t - 1, where t is not 0.
 // Kept: the number, as the links have it: its one caller would take each apart by this same line.
 fn span_some(t: u16, k: u16, spans: &mut [Option<Span>; MAX_STMTS])
-    requires { (t ≤ 4096) × (k < 4096) }
+    requires { (t ≤ MAX_STMTS) × (k < MAX_STMTS) }
     ensures { SpansGrow k (decode t) spans.old spans.new }
 {
     if let Some(a) = t.checked_sub(1) {
@@ -33,7 +32,7 @@ fn span_some(t: u16, k: u16, spans: &mut [Option<Span>; MAX_STMTS])
 
 // It comes into those of the entries that a row of links names.
 fn span_row(row: &[u16], k: u16, spans: &mut [Option<Span>; MAX_STMTS])
-    requires { All (λ (t : ℕ). t ≤ 4096) row.now × (k < 4096) }
+    requires { All (λ (t : ℕ). t ≤ MAX_STMTS) row.now × (k < MAX_STMTS) }
     ensures { SpansGrow k (each decode row.now) spans.old spans.new }
 {
     for &t in row {
@@ -43,16 +42,16 @@ fn span_row(row: &[u16], k: u16, spans: &mut [Option<Span>; MAX_STMTS])
 
 // Call c stands at place k.
 fn span_call(g: &Nodes<'_>, c: usize, k: u16, spans: &mut [Option<Span>; MAX_STMTS])
-    requires { TargetsFit g.now.records.stmts.now g.now.links.now c × (k < 4096) }
-    ensures { SpansGrow k (link_entries g.now.records.stmts.now g.now.links.now c) spans.old spans.new }
+    requires { TargetsFitFrom g.now c × (k < MAX_STMTS) }
+    ensures { SpansGrow k (entries_from g.now c) spans.old spans.new }
 {
     span_row(g.targets(c), k, spans);
 }
 
 // The spans of all calls of a list.
 fn span_calls(g: &Nodes<'_>, calls: &[u16], spans: &mut [Option<Span>; MAX_STMTS])
-    requires { All (TargetsFit g.now.records.stmts.now g.now.links.now) calls.now × (length calls.now ≤ 4096) × (spans.old ≡ replicate 4096 None) }
-    ensures { Spanned g.now.records.stmts.now g.now.links.now calls.now (length calls.now) spans.new }
+    requires { All (TargetsFitFrom g.now) calls.now × (length calls.now ≤ MAX_STMTS) × (spans.old ≡ replicate MAX_STMTS None) }
+    ensures { SpannedFrom g.now calls.now spans.new }
 {
     for (k, &c) in calls.iter().enumerate() {
         span_call(g, usize::from(c), k as u16, spans);
@@ -68,7 +67,7 @@ fn list_calls(records: &Records<'_>, calls: &mut [u16; MAX_STMTS]) -> usize
 
 // No span yet.
 pub(crate) fn no_spans() -> [Option<Span>; MAX_STMTS]
-    ensures { result ≡ replicate 4096 None }
+    ensures { result ≡ replicate MAX_STMTS None }
 {
     all_of(None)
 }
@@ -88,9 +87,9 @@ impl<'a> Calls<'a> {
         list: &'a mut [u16; MAX_STMTS],
         spans: &'a mut [Option<Span>; MAX_STMTS],
     ) -> Calls<'a>
-        requires { CallsRead g.now.records.stmts.now g.now.falls.now g.now.links.now g.now.records.n × (spans.old ≡ replicate 4096 None) }
-        ensures ready { CallsReady g.now.records.stmts.now g.now.falls.now g.now.links.now g.now.records.n result.list.now }
-        ensures spanned { let l = result.list.now in Spanned g.now.records.stmts.now g.now.links.now l (length l) result.spans.now }
+        requires { CallsReadFrom g.now × (spans.old ≡ replicate MAX_STMTS None) }
+        ensures ready { CallsReadyFrom g.now result.list.now }
+        ensures spanned { SpannedFrom g.now result.list.now result.spans.now }
     {
         let count = list_calls(&g.records, list);
         let list = &list[..count];
@@ -100,7 +99,7 @@ impl<'a> Calls<'a> {
 
     // The part of the list with all calls that have the entry e among their targets, if there is one.
     pub(crate) fn of_entry(&self, e: usize) -> Option<&'a [u16]>
-        requires { e < 4096 }
+        requires { e < MAX_STMTS }
         ensures uncalled { IfNone result (get_or self.now.spans.now e None ≡ None) }
         ensures called { IfSome result (λ l. (s : Span) × (get_or self.now.spans.now e None ≡ Some s) × (l.now ≡ take (s.end - s.first) (drop s.first self.now.list.now))) }
     {

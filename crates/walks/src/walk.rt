@@ -1,5 +1,5 @@
-// The walk through a region, by lists of nodes: a mark for each of 4,096 statements, and a list of the marked nodes,
-// whose end is the worklist.
+// The walk through a region, by lists of nodes: a mark for each statement that there may be, and a list of the marked
+// nodes, whose end is the worklist.
 ghost use Rattle.std.specs.Prelude.{◌≡◌, true, false, ◌<◌, ◌≤◌, length, replicate};
 ghost use Rattle.tables.specs.Readable.{lists_readable};
 ghost use Rattle.passes.specs.Walk.{stored_list, RegionListed, Markable, ListMarked};
@@ -19,7 +19,7 @@ pub(crate) fn mark_all(
     work: &mut [u16],
     count: usize,
 ) -> usize
-    requires { Markable 4096 list.now marks.old work.old count }
+    requires { Markable MAX_STMTS list.now marks.old work.old count }
     ensures { ListMarked list.now marks.old work.old count marks.new work.new result }
 {
     let mut n = count;
@@ -36,12 +36,14 @@ pub(crate) fn mark_all(
 
 // No node is marked.
 pub fn no_marks() -> [bool; MAX_STMTS]
-    ensures { result ≡ replicate 4096 false }
+    ensures { result ≡ replicate MAX_STMTS false }
 {
     all_of(false)
 }
 
 // n nodes, each with a list of nodes: where in `edges` it stands says the node's row of `lists`.
+// Kept: what goes over it (regions.rt) and over `Sets` (closure.rt, return_totals.rt) stands as functions in modules of
+// their own, by what they write: methods would be one `impl` a module.
 #[derive(Clone, Copy)]
 pub(crate) struct Listed<'a> {
     pub nodes: Nodes<'a>,
@@ -51,7 +53,9 @@ pub(crate) struct Listed<'a> {
 }
 
 impl<'a> Listed<'a> {
-    // Node v's list. By its row and no test, which `tables::lists::list_ends` has: a walk reads it at each step.
+    // Node v's list.
+    // Kept: by its row; tried by `tables::lists::list_ends`, which asks whether the table has it: two instructions more
+    // at each step of a walk, and 512 walks took 5 % more.
     fn list(&self, v: usize) -> &'a [u16]
         requires { v < self.now.nodes.records.n }
         ensures { result.now ≡ stored_list self.now.lists.now self.now.edges.now v }

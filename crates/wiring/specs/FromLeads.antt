@@ -1,6 +1,10 @@
 -- What is said of tables one by one, of the leads that hold them. Assumes nothing.
 use Rattle.std.specs.Prelude.{ℕ, List, Bool}
+use Rattle.wiring.specs.declared.entries.Entries.{Entries}
 use Rattle.wiring.specs.declared.leads.Leads.{Leads}
+use Rattle.storing.specs.declared.growing.NodeList.{NodeList}
+use Rattle.tables.specs.EntryRows.{entry_column}
+use Rattle.passes.specs.NextBodies.{SelectRoom, slot_bodies}
 use Rattle.passes.specs.NodeList.{ListReady, ListMade}
 use Rattle.passes.specs.SkipLists as skips
 use Rattle.passes.specs.SkipLists.{SkipsReady, SkipsDone}
@@ -8,6 +12,19 @@ use Rattle.passes.specs.FillRows.{SkipMade, RowReady, RowFilled, PassReady, Pass
 use Rattle.passes.specs.ByRows.{ReturnsByRows}
 use Rattle.passes.specs.Preparing.{FramesMade}
 use Rattle.wiring.specs.CountGraph.{ReturnsReady, ReturnsFound, CountReady, CountedTo}
+
+-- ---- what is added to a node's list
+
+-- the nodes of the line entries: one more each, or 0
+abbrev pub nodes_from : Entries → List ℕ
+nodes_from w = entry_column 1 w.count w.rows.now
+
+-- the bodies that one slot selects, and that there is room for those of each slot
+abbrev pub slot_from : Leads → (args : List ℕ) (key : ℕ) → List ℕ
+slot_from g args = slot_bodies args g.nodes.falls.now g.dispatched.now
+
+abbrev pub SelectRoomFrom : Leads → (args : List ℕ) → NodeList → Type 0
+SelectRoomFrom g args l = SelectRoom args g.nodes.falls.now g.dispatched.now l.part.now l.n
 
 -- ---- a node's list, for a list that has room for m entries
 

@@ -2,6 +2,7 @@
 -- Assumes nothing.
 -- Nothing outside opens these definitions: the laws at the end say what each is.
 use Rattle.std.specs.Prelude.{ℕ, ◌≡◌, refl, ◌&&◌, List, leb, length, replicate}
+use Rattle.std.proofs.Common.{rules}
 use Rattle.listings.specs.Bytes.{pick}
 use Rattle.listings.specs.Listing.{Listing}
 use Rattle.listings.specs.Read.{Answer}
@@ -66,75 +67,17 @@ answer_refused n p = refl
 -- an answer with a graph, and the tables written
 pub graph_writes : (L : Listing) (s : Sizes) (T : Tables) → Written L s T → Writes (graph L) s T answer.Graph
 unfolding answer_of table_of
-graph_writes L s T w =
-    record {
-      answer = refl;
-      counts = w.counts;
-      lines = w.lines;
-      stmts = w.stmts;
-      args = w.args;
-      entries = w.entries;
-      falls = w.falls;
-      links = w.links;
-      lists = w.lists;
-      returns = w.returns;
-      succ = w.succ;
-      pred = w.pred;
-    }
+graph_writes L s T w = search rules
 
 pub writes_graph : (L : Listing) (s : Sizes) (T : Tables) (x : BuiltAnswer) → Writes (graph L) s T x → (x ≡ answer.Graph) × Written L s T
 unfolding answer_of table_of
-writes_graph L s T x w = (
-  w.answer,
-  record {
-    counts = w.counts;
-    lines = w.lines;
-    stmts = w.stmts;
-    args = w.args;
-    entries = w.entries;
-    falls = w.falls;
-    links = w.links;
-    lists = w.lists;
-    returns = w.returns;
-    succ = w.succ;
-    pred = w.pred;
-  },
-)
+writes_graph L s T x w = (w.answer, search rules)
 
 -- a refusal, and the tables zero
 pub refusal_writes : (n p : ℕ) (s : Sizes) (T : Tables) → AllZero s T → Writes (refused n p) s T (answer.Refused n p)
 unfolding answer_of table_of
-refusal_writes n p s T z =
-    record {
-      answer = refl;
-      counts = z.counts;
-      lines = z.lines;
-      stmts = z.stmts;
-      args = z.args;
-      entries = z.entries;
-      falls = z.falls;
-      links = z.links;
-      lists = z.lists;
-      returns = z.returns;
-      succ = z.succ;
-      pred = z.pred;
-    }
+refusal_writes n p s T z = search rules
 
 pub writes_refusal : (n p : ℕ) (s : Sizes) (T : Tables) (x : BuiltAnswer) → Writes (refused n p) s T x → (x ≡ answer.Refused n p) × AllZero s T
 unfolding answer_of table_of
-writes_refusal n p s T x w = (
-  w.answer,
-  record {
-    counts = w.counts;
-    lines = w.lines;
-    stmts = w.stmts;
-    args = w.args;
-    entries = w.entries;
-    falls = w.falls;
-    links = w.links;
-    lists = w.lists;
-    returns = w.returns;
-    succ = w.succ;
-    pred = w.pred;
-  },
-)
+writes_refusal n p s T x w = (w.answer, search rules)

@@ -2,7 +2,7 @@
 use Rattle.std.specs.Prelude.{ℕ, zero, suc, ◌+◌, ◌-◌, ◌*◌, ◌≤◌, ◌<◌, ◌≡◌, refl, Bool, true, false, not, List, [], ◌∷◌, get_or, length, cond, Option, None, Some}
 use Rattle.std.specs.List.{find}
 use Rattle.std.specs.Option.{option_map}
-use Rattle.std.proofs.Common.{sym, subst, ap, ◌∙◌, arith, ⊎_elim}
+use Rattle.std.proofs.Common.{sym, subst, ap, ◌∙◌, sub-one, arith, ⊎_elim}
 use Rattle.std.proofs.lemmas.Iterator.{YieldsList}
 use Rattle.std.proofs.lemmas.Iterator.Consumers.{YieldsList-from_shown}
 use Rattle.std.specs.declared.ops.Range.{Range}
@@ -13,7 +13,7 @@ use Rattle.std.proofs.Math.Dec.{eqb}
 use borrow.Author.Tests.{eqb-true, eq-eqb}
 use Rattle.passes.specs.Compare.{lt-or}
 use Rattle.passes.specs.Connecting.{Begins, no}
-use Rattle.wiring.specs.Places.{one_more}
+use Rattle.tables.specs.OneMore.{one_more}
 
 -- ---- the numbers below a place, from the last down
 
@@ -60,11 +60,10 @@ module _ (rows : List ℕ) (l : ℕ) where
     where
       go : (j : ℕ) → j ≡ k → (x : Bool) → foreign j ≡ x → Begins rows l k (one_more (find foreign (down 0 k))) → Begins rows l (suc k) (one_more (cond x (Some j) (find foreign (down 0 k))))
       go j q true e r =
-          let z : j + 1 - 1 ≡ j = omega arith in
           record {
             within = omega arith;
             own = λ i a b. absurd (omega arith);
-            other = λ h f. one_foreign _ e (eq-eqb _ _ (rw z at f));
+            other = λ h f. one_foreign _ e (eq-eqb _ _ (rw sub-one at f));
           }
       go j q false e r =
           record {

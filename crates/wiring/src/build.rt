@@ -39,7 +39,7 @@ fn clear_lists(lists: &mut [u16], returns: &mut [u16], succ: &mut [u16], pred: &
 }
 
 // The reader's records become zero.
-// Kept: table by table; tried over an array of `&mut`, which the borrow checker does not cover.
+// Kept: table by table; no array holds tables of several types.
 fn clear_records(counts: &mut [u32; 6], lines: &mut [u16], stmts: &mut [u16], args: &mut [u64])
     ensures { (counts.new ≡ replicate 6 0) × Zeroed lines.old lines.new × Zeroed stmts.old stmts.new × Zeroed args.old args.new }
 {

@@ -8,13 +8,13 @@ use layout::limits::MAX_STMTS;
 use walks::by_rows::return_edges_by_rows;
 
 // The rows of arguments become rows of bits, closed, and then the RETURNs' rows their sets. What stood in the arguments
-// is lost.
+// is lost. That the tables can be read is proved, so what `return_edges_by_rows` answers is not looked at.
 pub(crate) fn return_edges_by_filled_rows(
     g: &Leads<'_, '_>,
     args: &mut [u64],
     buffer: &mut [u16; MAX_STMTS],
 )
-    requires { FillReadyFrom g.now args.old 4096 }
+    requires { FillReadyFrom g.now args.old MAX_STMTS }
     ensures { ReturnsByRowsFrom g.now args.old args.new }
 {
     fill_rows(g, args, buffer);

@@ -1,10 +1,11 @@
 // What later nodes add to a node's list: where the closer of its frame falls, and where the ELSEs of a DOIF fall.
 // Kept: contracts ask for room (`Fits`), though `NodeList` needs none: that the ELSEs are linked in order, without
-// which `add_elses` would not end, has to be asked for all the same, and the record that says it says too what fits.
+// which `add_elses` would not end, has to be asked for all the same, and the fact that says it (`ClosingReady`) says
+// what fits too.
 ghost use Rattle.std.specs.Prelude.{◌≡◌, length, ◌<◌};
 ghost use Rattle.passes.specs.Closing.{ElsesFit, DoifFits, joins_word, CloserFits, ClosingReady};
 ghost use Rattle.wiring.specs.OnLists.{Fits, ElsesMade, DoifMade, CloserMade, ClosingMade};
-ghost use Rattle.wiring.specs.Places.{one_more};
+ghost use Rattle.tables.specs.OneMore.{one_more};
 
 use crate::leads::Leads;
 use layout::words::{DOIF, ELSE, EXIT, EXITIF};
@@ -29,12 +30,10 @@ fn add_doif(list: &mut NodeList<'_>, g: &Leads<'_, '_>, i: usize)
     requires { Fits list.old × DoifFits g.now.nodes.falls.now g.now.frames.now (length list.old.part.now) i }
     ensures { DoifMade g.now.nodes.falls.now g.now.frames.now i list.old list.new }
 {
-    let first = g.next_else(i);
-    if first.is_some() {
-        add_elses(list, g, first);
-        return;
+    match g.next_else(i) {
+        None => list.add_edge(g.fall_of(g.closer(i))),
+        first => add_elses(list, g, first),
     }
-    list.add_edge(g.fall_of(g.closer(i)));
 }
 
 // Where the closer of the frame of that opener falls, if there is one.
@@ -42,13 +41,14 @@ fn add_closer(list: &mut NodeList<'_>, g: &Leads<'_, '_>, opener: Option<usize>)
     requires { Fits list.old × CloserFits g.now.nodes.falls.now g.now.frames.now (length list.old.part.now) (one_more opener) }
     ensures { CloserMade g.now.nodes.falls.now g.now.frames.now (one_more opener) list.old list.new }
 {
-    let Some(o) = opener else {
-        return;
-    };
-    list.add_edge(g.fall_of(g.closer(o)));
+    if let Some(o) = opener {
+        list.add_edge(g.fall_of(g.closer(o)));
+    }
 }
 
 // The words that go to where the closer of their frame falls.
+// Kept: a test of its own, since `ClosingMade` goes by `joins_word`; tried as arms of the match, which its proof has to
+// take apart into ranges of words again, in four goals.
 #[tactic(auto, using(std::proofs::lemmas::Bool::Decides::nat_tests), unfolding(passes::specs::Closing::joins_word))]
 fn joins_frame(word: u16) -> bool
     ensures { result ≡ joins_word word }

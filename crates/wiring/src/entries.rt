@@ -1,21 +1,22 @@
 // Line entries: rows of a line's number and one more than the node where it enters, or 0, ascending by number;
 // and the search in them.
-ghost use Rattle.std.specs.Prelude.{◌≡◌, ◌+◌, ◌*◌, ◌≤◌, ◌<◌, length, set};
+ghost use Rattle.std.specs.Prelude.{◌≡◌, ◌+◌, ◌*◌, ◌≤◌, ◌<◌, get_or, length, set};
 ghost use Rattle.std.specs.Option.{IfSome};
+ghost use Rattle.layout.specs.declared.columns.TheConstants.{ENTRY_ENTRIES};
 ghost use Rattle.tables.specs.EntryRows.{entry_column};
 ghost use Rattle.passes.specs.LineEntries.{entry_or, FirstStored, EntriesFilled, EntriesComputed};
 ghost use Rattle.passes.specs.LineSearch.{LineFound, EntryFound};
-ghost use Rattle.wiring.specs.Places.{one_more};
+ghost use Rattle.tables.specs.OneMore.{one_more};
 
-use layout::columns::{ENTRY_ENTRIES, ENTRY_NODE, ENTRY_NUMBER, LINE, STMT_ENTRIES};
+use layout::columns::{ENTRY_ENTRIES, ENTRY_NODE, ENTRY_NUMBER};
 use tables::nodes::Records;
 
-// Stores x as the node of row l; a line index that no line has stores nothing.
+// Stores x as the node of row l; where the table has no such row, nothing is stored.
 // Kept: by index; tried by `get_mut`, of which std says nothing of what the slice then holds.
-fn store(entries: &mut [u16], l: u16, x: u16)
-    ensures { entries.new ≡ set entries.old (l * 2 + 1) x }
+fn store(entries: &mut [u16], l: usize, x: u16)
+    ensures { entries.new ≡ set entries.old (l * ENTRY_ENTRIES + ENTRY_NODE) x }
 {
-    let at = usize::from(l) * ENTRY_ENTRIES + ENTRY_NODE;
+    let at = l.saturating_mul(ENTRY_ENTRIES).saturating_add(ENTRY_NODE);
     if at < entries.len() {
         entries[at] = x;
     }
@@ -26,8 +27,7 @@ fn store_first_nodes(r: &Records<'_>, entries: &mut [u16])
     ensures { FirstStored r.now.stmts.now r.now.n entries.old entries.new }
 {
     for i in (0..r.n).rev() {
-        let l = r.stmts[i * STMT_ENTRIES + LINE];
-        store(entries, l, (i + 1) as u16);
+        store(entries, r.line(i), (i + 1) as u16);
     }
 }
 
@@ -43,7 +43,7 @@ fn entry_or(e: u16, next: u16) -> u16
 // Kept: by index; std says nothing of what a slice ends as behind `as_chunks_mut`.
 #[tactic(auto, using(passes::specs::LineEntries::filled_start))]
 fn fill_empty_lines(lines: &[u16], entries: &mut [u16], count: usize)
-    requires { (count ≤ length lines.now) × (count * 2 ≤ length entries.old) }
+    requires { (count ≤ length lines.now) × (count * ENTRY_ENTRIES ≤ length entries.old) }
     ensures { EntriesFilled lines.now count entries.old entries.new }
 {
     let mut next: u16 = 0;
@@ -55,8 +55,9 @@ fn fill_empty_lines(lines: &[u16], entries: &mut [u16], count: usize)
 }
 
 // The rows of `count` lines with these statements.
+// Kept: the whole table and how many lines it has: what is promised of it (`PreparedTo`) is about the whole.
 pub(crate) fn compute_line_after(r: &Records<'_>, lines: &[u16], entries: &mut [u16], count: usize)
-    requires { (count ≤ length lines.now) × (count * 2 ≤ length entries.old) }
+    requires { (count ≤ length lines.now) × (count * ENTRY_ENTRIES ≤ length entries.old) }
     ensures { EntriesComputed lines.now r.now.stmts.now count r.now.n entries.old entries.new }
 {
     store_first_nodes(r, entries);
@@ -64,16 +65,19 @@ pub(crate) fn compute_line_after(r: &Records<'_>, lines: &[u16], entries: &mut [
 }
 
 // The entries of `count` lines, once they are computed.
+// Kept: rows and how many, not `&[[u16; 2]]`: definitions read the flat table (`entry_column`), and each clause would
+// flatten the rows again.
 #[derive(Clone, Copy)]
 pub(crate) struct Entries<'a> {
     pub rows: &'a [u16],
     pub count: usize,
-    pub ghost fit: { count * 2 ≤ length rows.now },
+    pub ghost fit: { count * ENTRY_ENTRIES ≤ length rows.now },
 }
 
 impl<'a> Entries<'a> {
     // The index of the row with that number. The numbers ascend.
-    // Kept: a `while`; `as_chunks` and `binary_search_by_key` never stop early: ONs of 64 numbers took 1.42 the time.
+    // Kept: a `while`; `binary_search_by_key` over `as_chunks` does not stop where it has found: ONs of 64 numbers took
+    // 1.42 times as long.
     // Kept: two tests; tried by `match at.cmp(&number)`, `flowlist` took 4.6 % more instructions on ONs of 64 numbers.
     fn find_line(&self, number: u16) -> Option<usize>
         ensures within { IfSome result (λ k. k < self.now.count) }
@@ -96,13 +100,22 @@ impl<'a> Entries<'a> {
         None
     }
 
+    // The node where the line of row k enters: one more than it, or 0.
+    // Kept: the number, as `entry_of`.
+    pub(crate) fn node(&self, k: usize) -> u16
+        requires { k < self.now.count }
+        ensures { result ≡ get_or self.now.rows.now (k * ENTRY_ENTRIES + ENTRY_NODE) 0 }
+    {
+        self.rows[k * ENTRY_ENTRIES + ENTRY_NODE]
+    }
+
     // The entry of the line with that number: one more than the node, or 0 if there is no such line or entry.
-    // Kept: the number: both callers put it into a table as it is.
+    // Kept: the number: both callers put it into a table as it is. A `match`, as `Leads::fall_of`.
     pub fn entry_of(&self, number: u16) -> u16
         ensures { EntryFound self.now.rows.now self.now.count number result }
     {
         match self.find_line(number) {
-            Some(k) => self.rows[k * ENTRY_ENTRIES + ENTRY_NODE],
+            Some(k) => self.node(k),
             None => 0,
         }
     }

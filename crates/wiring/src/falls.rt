@@ -10,10 +10,9 @@ ghost use Rattle.wiring.specs.Branches.{branch_of, Led};
 
 use crate::entries::Entries;
 use layout::columns::{
-    ENTRY_ENTRIES, ENTRY_NODE, FALL_ENTRIES, FORM1, FORM2, NO_BRANCH, NUMBER1, NUMBER2,
-    STMT_ENTRIES, TO_BRANCH,
+    FALL_ENTRIES, FORM1, FORM2, NO_BRANCH, NUMBER1, NUMBER2, STMT_ENTRIES, TO_BRANCH,
 };
-use layout::limits::MAX_DEPTH;
+use layout::limits::{MAX_DEPTH, MAX_STMTS};
 use layout::refusals::{Reason, Refusal};
 use tables::nodes::Records;
 
@@ -33,6 +32,7 @@ impl From<NotFound> for Refusal {
 }
 
 // What a branch of an IF holds: statements, or the number of a line.
+// Kept: the reader writes it and the wiring reads it back; one type of both would stand in `layout`, for two functions.
 #[derive(Clone, Copy)]
 enum Branch {
     Stmts,
@@ -51,6 +51,8 @@ fn branch_of(form: u16, number: u16) -> Option<Branch>
 }
 
 // Where a statement falls that ends at e, in a list that ends at `end` and then comes to `next`.
+// Kept: `next`, here and below, is the number that a row of falls holds: all that hands it on ends in `put_falls`.
+// Kept: `end` and `next` one by one: each call pairs them anew, so a struct would be made at each.
 fn target_of(e: usize, end: usize, next: u16) -> u16
     requires { e < 65535 }
     ensures { result ≡ target_of e end next }
@@ -60,8 +62,8 @@ fn target_of(e: usize, end: usize, next: u16) -> u16
 
 // Where statement i falls, and where its branches lead.
 fn put_falls(falls: &mut [u16], i: usize, fall: u16, first: u16, second: u16)
-    requires { i * 3 + 3 ≤ length falls.old }
-    ensures { falls.new ≡ sets falls.old (i * 3) (fall ∷ first ∷ second ∷ []) }
+    requires { i * FALL_ENTRIES + FALL_ENTRIES ≤ length falls.old }
+    ensures { falls.new ≡ sets falls.old (i * FALL_ENTRIES) (fall ∷ first ∷ second ∷ []) }
 {
     let at = i * FALL_ENTRIES;
     falls[at..at + FALL_ENTRIES].copy_from_slice(&[fall, first, second]);
@@ -99,8 +101,9 @@ impl<'a, 'b> Rows<'a, 'b> {
     }
 
     // The row of an IF whose second branch begins at m and that ends at `end`.
+    // Kept: by place; the four columns of branches are read here alone, and the first once more below.
     fn connect_row(&self, falls: &mut [u16], i: usize, m: usize, end: usize, next: u16)
-        requires { (i < self.now.records.n) × (m ≤ 4096) × (i * 3 + 3 ≤ length falls.old) }
+        requires { (i < self.now.records.n) × (m ≤ MAX_STMTS) × (i * FALL_ENTRIES + FALL_ENTRIES ≤ length falls.old) }
         ensures { RowConnected self.now.entries.rows.now self.now.entries.count self.now.records.stmts.now i m end next falls.old falls.new }
     {
         let stmts = self.records.stmts;
@@ -122,7 +125,7 @@ impl<'a, 'b> Rows<'a, 'b> {
         end: usize,
         next: u16,
     ) -> Result<(), NotFound>
-        requires { (i < end) × (end ≤ self.now.records.n) × (end * 3 ≤ length falls.old) }
+        requires { (i < end) × (end ≤ self.now.records.n) × (end * FALL_ENTRIES ≤ length falls.old) }
         ensures { StmtConnected self.now.entries.rows.now self.now.entries.count self.now.records.stmts.now depth i end next falls.old falls.new (all_found result) }
     {
         let row = i * STMT_ENTRIES;
@@ -151,7 +154,7 @@ impl<'a, 'b> Rows<'a, 'b> {
         end: usize,
         next: u16,
     ) -> Result<(), NotFound>
-        requires { (from ≤ end) × (end ≤ self.now.records.n) × (end * 3 ≤ length falls.old) }
+        requires { (from ≤ end) × (end ≤ self.now.records.n) × (end * FALL_ENTRIES ≤ length falls.old) }
         ensures { BranchConnected self.now.entries.rows.now self.now.entries.count self.now.records.stmts.now depth from end next falls.old falls.new (all_found result) }
     {
         let mut i = from;
@@ -170,7 +173,7 @@ impl<'a, 'b> Rows<'a, 'b> {
     // Where the statements of all lines fall, and where their branches lead.
     // Each line's statements fall to the next line's entry. From the last line up, where that entry is at hand.
     pub(crate) fn connect_lines(&self, falls: &mut [u16]) -> Result<(), NotFound>
-        requires { self.now.records.n * 3 ≤ length falls.old }
+        requires { self.now.records.n * FALL_ENTRIES ≤ length falls.old }
         ensures { LinesConnected self.now.entries.rows.now self.now.records.stmts.now self.now.entries.count self.now.records.n falls.old falls.new (all_found result) }
     {
         let mut next: u16 = 0;
@@ -178,7 +181,7 @@ impl<'a, 'b> Rows<'a, 'b> {
         for l in (0..self.entries.count).rev() {
             let from = start_of(&self.records, l, end);
             self.connect_then_branch(falls, DEPTHS, from, end, next)?;
-            next = self.entries.rows[l * ENTRY_ENTRIES + ENTRY_NODE];
+            next = self.entries.node(l);
             end = from;
         }
         Ok(())

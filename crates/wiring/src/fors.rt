@@ -7,58 +7,29 @@ ghost use Rattle.passes.specs.Sets.{bit};
 ghost use Rattle.passes.specs.NotedKeys.{note_of};
 ghost use Rattle.passes.specs.ForLinks.{ForsLinked};
 ghost use Rattle.passes.specs.Dispatched.{is_dispatched, DispatchedTo};
-ghost use Rattle.wiring.specs.Places.{one_more};
+ghost use Rattle.tables.specs.OneMore.{one_more};
 ghost use Rattle.wiring.specs.NotedFors.{Noted};
 
 use crate::stacks::{FrameStack, number_of};
-use layout::columns::{ARG_ENTRIES, DISPATCHED};
+use layout::columns::{ARG_ENTRIES, DISPATCHED, STMT_ENTRIES};
 use layout::limits::MAX_STMTS;
 use layout::words::{FOR, NEXT};
 use layout::zeroing::{all_of, fill_behind};
 use tables::nodes::{Nodes, Records};
 use walks::lists::list_where;
-use walks::sets::insert;
+use walks::sets::{WORD_BITS, has_bit, insert};
 
 // The keys of FORs are noted by their remainders: by a prime, so that names that are alike seldom share one.
 const REMAINDERS: u64 = 32719;
 
-// A bit for each remainder.
-const NOTES: usize = 512;
+// Words with a bit for each remainder.
+const NOTES: usize = REMAINDERS as usize / WORD_BITS + 1;
 
 // The remainder under which a key is noted.
 fn note_of(key: u64) -> usize
     ensures { result ≡ note_of key }
 {
     (key % REMAINDERS) as usize
-}
-
-// The newest open FOR whose name has the key v; top is the newest of all.
-// Kept: a `while let`: `find` asks that what it walks ends, and by std's laws `std::iter::successors` never does.
-fn seek(args: &[u64], s: &FrameStack, top: Option<usize>, v: u64) -> Option<usize>
-    requires holds_below { HoldsBelow s.now.words (length args.now / 64) }
-    requires top_value { one_more top ≡ top_mark s.now.words }
-    ensures { Sought args.now v s.now.words (one_more result) }
-{
-    let mut t = top;
-    while let Some(k) = t {
-        if args[k * ARG_ENTRIES] == v {
-            return t;
-        }
-        t = s.below(k);
-    }
-    None
-}
-
-// FOR i: its own older frame and all above are dropped first.
-fn push_for(args: &[u64], s: FrameStack, i: usize) -> FrameStack
-    requires i_bound { (i < 4096) × (i * 64 < length args.now) }
-    requires holds_below { HoldsBelow s.words i }
-    ensures { ForPushed args.now i s.words result.words }
-{
-    match seek(args, &s, s.newest(i), args[i * ARG_ENTRIES]) {
-        Some(older) => s.pop_to(older).push(i),
-        None => s.push(i),
-    }
 }
 
 // Whether a statement with that word pushes or pops FORs.
@@ -81,24 +52,51 @@ struct Fors<'a> {
 
 impl<'a> Fors<'a> {
     // Whether a FOR of the name with that key may be open.
-    #[tactic(auto, unfolding(passes::specs::Sets::bit))]
     fn is_noted(&self, key: u64) -> bool
         ensures { result ≡ eqb (bit self.now.notes (note_of key)) 1 }
     {
-        let n = note_of(key);
-        (self.notes[n / 64] >> (n % 64)) % 2 == 1
+        has_bit(&self.notes, note_of(key))
+    }
+
+    // The newest open FOR whose name has the key v; top is the newest of all.
+    // Kept: a `while let`: `find` asks that what it walks ends, and by std's laws `std::iter::successors` never does.
+    fn seek(&self, top: Option<usize>, v: u64) -> Option<usize>
+        requires holds_below { HoldsBelow self.now.stack.words (length self.now.args.now / ARG_ENTRIES) }
+        requires top_value { one_more top ≡ top_mark self.now.stack.words }
+        ensures { Sought self.now.args.now v self.now.stack.words (one_more result) }
+    {
+        let mut t = top;
+        while let Some(k) = t {
+            if self.args[k * ARG_ENTRIES] == v {
+                return t;
+            }
+            t = self.stack.below(k);
+        }
+        None
+    }
+
+    // The stack with FOR i: its own older frame and all above are dropped first.
+    fn push_for(&self, i: usize) -> FrameStack
+        requires i_bound { (i < MAX_STMTS) × (i * ARG_ENTRIES < length self.now.args.now) }
+        requires holds_below { HoldsBelow self.now.stack.words i }
+        ensures { ForPushed self.now.args.now i self.now.stack.words result.words }
+    {
+        match self.seek(self.stack.newest(i), self.args[i * ARG_ENTRIES]) {
+            Some(older) => self.stack.pop_to(older).push(i),
+            None => self.stack.push(i),
+        }
     }
 
     // FOR i. If its key is not noted, none of its name is open, and nothing is looked for.
     fn open_for(&mut self, i: usize)
-        requires i_bound { (i < 4096) × (i * 64 < length self.old.args.now) }
+        requires i_bound { (i < MAX_STMTS) × (i * ARG_ENTRIES < length self.old.args.now) }
         requires holds_below { HoldsBelow self.old.stack.words i }
         ensures same_args { self.new.args.now ≡ self.old.args.now }
         ensures for_pushed { ForPushed self.old.args.now i self.old.stack.words self.new.stack.words }
     {
         let key = self.args[i * ARG_ENTRIES];
         if self.is_noted(key) {
-            self.stack = push_for(self.args, self.stack, i);
+            self.stack = self.push_for(i);
             return;
         }
         insert(&mut self.notes, note_of(key));
@@ -106,14 +104,15 @@ impl<'a> Fors<'a> {
     }
 
     // The FOR that a slot of a NEXT pops: key 0 asks for the newest, the key of a name for the newest of that name.
+    // Kept: the number, 0 for `*`: the lent table holds the keys so.
     fn slot_frame(&self, top: Option<usize>, key: u64) -> Option<usize>
-        requires holds_below { HoldsBelow self.now.stack.words (length self.now.args.now / 64) }
+        requires holds_below { HoldsBelow self.now.stack.words (length self.now.args.now / ARG_ENTRIES) }
         requires top_value { one_more top ≡ top_mark self.now.stack.words }
         ensures { SlotFound self.now.args.now key self.now.stack.words (one_more result) }
     {
         match key {
             0 => top,
-            _ if self.is_noted(key) => seek(self.args, &self.stack, top, key),
+            _ if self.is_noted(key) => self.seek(top, key),
             _ => None,
         }
     }
@@ -122,7 +121,7 @@ impl<'a> Fors<'a> {
     // that are left pop nothing.
     // Kept: the row by places: where no FOR is open, the rest of it is filled from a place on.
     fn pop_slots(&mut self, keys: &[u64], i: usize, row: &mut [u16])
-        requires i_bound { (i < 4096) × (i * 64 ≤ length self.old.args.now) × (length keys.now ≡ length row.old) }
+        requires i_bound { (i < MAX_STMTS) × (i * ARG_ENTRIES ≤ length self.old.args.now) × (length keys.now ≡ length row.old) }
         requires holds_below { HoldsBelow self.old.stack.words i }
         ensures same_args { self.new.args.now ≡ self.old.args.now }
         ensures slots_popped { SlotsPopped self.old.args.now keys.now self.old.stack.words self.new.stack.words row.new }
@@ -144,8 +143,8 @@ impl<'a> Fors<'a> {
 
     // What node i, a FOR or a NEXT, does to the FOR stack, and to its row of links.
     fn link_node(&mut self, r: &Records<'_>, i: usize, links: &mut [u16])
-        requires i_bound { (i < r.now.n) × (i * 64 + 64 ≤ length self.old.args.now) × (i * 64 + 64 ≤ length links.old) }
-        requires i_value { moves_fors (get_or r.now.stmts.now (i * 12) 0) ≡ true }
+        requires i_bound { (i < r.now.n) × (i * ARG_ENTRIES + ARG_ENTRIES ≤ length self.old.args.now) × (i * ARG_ENTRIES + ARG_ENTRIES ≤ length links.old) }
+        requires i_value { moves_fors (get_or r.now.stmts.now (i * STMT_ENTRIES) 0) ≡ true }
         requires slots_counted { SlotsCounted r.now.stmts.now i }
         requires holds_below { HoldsBelow self.old.stack.words i }
         ensures same_args { self.new.args.now ≡ self.old.args.now }
@@ -155,16 +154,14 @@ impl<'a> Fors<'a> {
             self.open_for(i);
             return;
         }
-        let at = i * ARG_ENTRIES;
-        let end = at + r.count(i);
-        let args = self.args;
-        self.pop_slots(&args[at..end], i, &mut links[at..end]);
+        let keys = &self.args[r.args_of(i)];
+        self.pop_slots(keys, i, &mut links[r.args_of(i)]);
     }
 }
 
 // In reading order, what each slot of each NEXT pops; the rows of other nodes stay.
 pub(crate) fn link_fors(r: &Records<'_>, args: &[u64], links: &mut [u16])
-    requires n_bound { (r.now.n * 64 ≤ length args.now) × (r.now.n * 64 ≤ length links.old) }
+    requires n_bound { (r.now.n * ARG_ENTRIES ≤ length args.now) × (r.now.n * ARG_ENTRIES ≤ length links.old) }
     requires all_counted { AllCounted r.now.stmts.now r.now.n }
     ensures { ForsLinked r.now.stmts.now args.now r.now.n links.old links.new }
 {
@@ -189,6 +186,7 @@ fn is_dispatched(g: &Nodes<'_>, i: usize) -> bool
 }
 
 // The dispatched FORs that have a body, in reading order; answers how many.
+// Kept: an array and how many, as `list_where`.
 pub(crate) fn list_dispatched(g: &Nodes<'_>, dispatched: &mut [u16; MAX_STMTS]) -> usize
     ensures { DispatchedTo g.now.records.stmts.now g.now.falls.now g.now.records.n dispatched.old dispatched.new result }
 {

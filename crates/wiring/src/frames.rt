@@ -1,4 +1,5 @@
 // What each node meets on the loop stack and on the DO stack, and the links from openers to closers and along ELSEs.
+// Kept: rows by their places: of what a slice holds behind `as_chunks_mut` std says its length alone.
 ghost use Rattle.std.specs.Prelude.{◌≡◌, true, false, ◌+◌, ◌*◌, ◌≤◌, ◌<◌, length, get_or};
 ghost use Rattle.passes.specs.FrameStacks.{HoldsBelow};
 ghost use Rattle.passes.specs.Frames.{Framed};
@@ -7,13 +8,14 @@ ghost use Rattle.passes.specs.FramePass.{move_of, moves_stack, Stepped, AllZero,
 use crate::leads::FRAMES;
 use crate::stacks::{FrameStack, number_of};
 use layout::columns::{CLOSER, ELSE_LINK, FRAME_ENTRIES};
+use layout::limits::MAX_STMTS;
 use layout::words::{ELSE, EXIT, EXITIF};
-use passes::moves::{FrameMove, do_move, loop_move, moves};
+use passes::moves::{FrameMove, do_move, loop_move};
 use tables::nodes::Records;
 
 // Node i leaves the stack alone: if it joins a frame, it writes which.
 fn join_frame(s: &FrameStack, m: FrameMove, i: usize, frames: &mut [u16; FRAMES])
-    requires i_bound { i < 4096 }
+    requires i_bound { i < MAX_STMTS }
     requires holds_below { HoldsBelow s.now.words i }
     requires m_value { moves_stack (move_of m) ≡ false }
     ensures { Stepped (move_of m) i s.now.words s.now.words frames.old frames.new }
@@ -25,7 +27,7 @@ fn join_frame(s: &FrameStack, m: FrameMove, i: usize, frames: &mut [u16; FRAMES]
 
 // Node i opens a frame, or closes one: then it writes the frame that the pop hands back.
 fn move_stack(s: FrameStack, m: FrameMove, i: usize, frames: &mut [u16; FRAMES]) -> FrameStack
-    requires i_bound { i < 4096 }
+    requires i_bound { i < MAX_STMTS }
     requires holds_below { HoldsBelow s.words i }
     requires m_value { moves_stack (move_of m) ≡ true }
     ensures { Stepped (move_of m) i s.words result.words frames.old frames.new }
@@ -45,11 +47,11 @@ fn move_stack(s: FrameStack, m: FrameMove, i: usize, frames: &mut [u16; FRAMES])
 // Kept: two functions and a test: a stack is 512 bytes, so it is handed over only to be changed. Tried as one `match`
 // with four arms: `flowlist` took 2.4 % more instructions on 4,000 lines of DOIF, and 4.4 % on 4,000 of ENDLOOP.
 fn step(s: &mut FrameStack, m: FrameMove, i: usize, frames: &mut [u16; FRAMES])
-    requires i_bound { i < 4096 }
+    requires i_bound { i < MAX_STMTS }
     requires holds_below { HoldsBelow s.old.words i }
     ensures { Stepped (move_of m) i s.old.words s.new.words frames.old frames.new }
 {
-    if moves(m) {
+    if m.moves() {
         *s = move_stack(*s, m, i, frames);
     } else {
         join_frame(s, m, i, frames);
@@ -73,7 +75,7 @@ fn meet_frames(r: &Records<'_>, frames: &mut [u16; FRAMES])
 // The closer of a frame is written at its opener. Each ELSE is put before the ELSEs after it, so that the opener has
 // the first.
 fn link_node(word: u16, i: usize, frames: &mut [u16; FRAMES])
-    requires { (i < 4096) × (get_or frames.old (i * 3) 0 ≤ i) }
+    requires { (i < MAX_STMTS) × (get_or frames.old (i * FRAME_ENTRIES) 0 ≤ i) }
     ensures { frames.new ≡ linked word i frames.old }
 {
     let met = usize::from(frames[i * FRAME_ENTRIES]);

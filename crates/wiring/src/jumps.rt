@@ -8,6 +8,7 @@ use crate::falls::Rows;
 use layout::columns::ARG_ENTRIES;
 use layout::limits::MAX_ARGS;
 use layout::words::{GOSUB, GOTO, ONGOSUB, ONGOTO, RUN};
+use tables::nodes::words_of;
 
 // goto, gosub, run, ongoto and ongosub.
 #[tactic(auto, using(std::proofs::lemmas::Bool::Decides::nat_tests), unfolding(passes::specs::Jumps::names_lines))]
@@ -30,6 +31,8 @@ fn jump_count(word: u16, count: usize) -> usize
 }
 
 // The entry of the line that an argument names; a number above 65535 is no line's.
+// Kept: functions here, no methods of `Entries` and `Rows`, as at `Leads`: an `impl` of either more, for what this module
+// alone does. A `match`, as `Leads::fall_of`, and the number, as `Entries::entry_of`.
 fn entry_of_argument(w: &Entries<'_>, number: u64) -> u16
     ensures { EntryFound w.now.rows.now w.now.count number result }
 {
@@ -39,27 +42,26 @@ fn entry_of_argument(w: &Entries<'_>, number: u64) -> u16
     }
 }
 
-// One statement's row: where its first c arguments lead.
+// One statement's row: where these arguments lead.
 // Kept: by index; tried by `iter_mut` and `zip`, and of what is written through these std's laws say the length alone.
 #[tactic(auto, using(passes::specs::JumpLaws::link_start))]
-fn link_row(w: &Entries<'_>, args: &[u64], links: &mut [u16], c: usize)
-    requires { (c ≤ length args.now) × (c ≤ length links.old) }
-    ensures { RowLinked w.now.rows.now w.now.count args.now c links.old links.new }
+fn link_row(w: &Entries<'_>, args: &[u64], links: &mut [u16])
+    requires { length args.now ≤ length links.old }
+    ensures { RowLinked w.now.rows.now w.now.count args.now (length args.now) links.old links.new }
 {
-    for j in 0..c {
-        links[j] = entry_of_argument(w, args[j]);
+    for (j, &number) in args.iter().enumerate() {
+        links[j] = entry_of_argument(w, number);
     }
 }
 
 // Where the line numbers of all statements lead; the row of a statement that names no lines stays as it is.
 pub(crate) fn link_jumps(g: &Rows<'_, '_>, args: &[u64], links: &mut [u16])
-    requires { (g.now.records.n * 64 ≤ length args.now) × (g.now.records.n * 64 ≤ length links.old) }
+    requires { (g.now.records.n * ARG_ENTRIES ≤ length args.now) × (g.now.records.n * ARG_ENTRIES ≤ length links.old) }
     ensures { JumpsLinked g.now.entries.rows.now g.now.entries.count g.now.records.stmts.now args.now g.now.records.n links.old links.new }
 {
     for i in 0..g.records.n {
-        let c = jump_count(g.records.word(i), g.records.count(i));
         let at = i * ARG_ENTRIES;
-        let end = at + ARG_ENTRIES;
-        link_row(&g.entries, &args[at..end], &mut links[at..end], c);
+        let end = at + jump_count(g.records.word(i), g.records.count(i));
+        link_row(&g.entries, &args[at..end], &mut links[words_of(i)]);
     }
 }

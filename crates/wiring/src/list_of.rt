@@ -2,12 +2,11 @@
 ghost use Rattle.std.specs.Prelude.{◌≡◌, ◌<◌, take};
 ghost use Rattle.graph.specs.Lists.{each};
 ghost use Rattle.graph_laws.specs.Adding.{decode};
-ghost use Rattle.tables.specs.EntryRows.{entry_column};
 ghost use Rattle.passes.specs.AddRoom.{RoomToAdd};
 ghost use Rattle.passes.specs.EntryOrder.{Rises, EntryRoom};
 ghost use Rattle.passes.specs.NodeList.{run_edges, next_edges, until_edges, falls_word, block_edges, own_edges, OwnRoom};
 ghost use Rattle.storing.specs.NodeLists.{AddedTo, Grew};
-ghost use Rattle.wiring.specs.FromLeads.{ListMadeFrom, ListReadyFrom};
+ghost use Rattle.wiring.specs.FromLeads.{ListMadeFrom, ListReadyFrom, nodes_from};
 ghost use Rattle.wiring.specs.OnLists.{EntryMade};
 
 use crate::closing::add_closing;
@@ -23,15 +22,16 @@ use storing::growing::NodeList;
 
 // Adds the first line's entry.
 fn add_first(list: &mut NodeList<'_>, w: &Entries<'_>)
-    ensures { AddedTo list.old list.new (each decode (take 1 (entry_column 1 w.now.count w.now.rows.now))) }
+    ensures { AddedTo list.old list.new (each decode (take 1 (nodes_from w.now))) }
 {
     if w.count == 0 {
         return;
     }
-    list.add_edge(w.rows[ENTRY_NODE]);
+    list.add_edge(w.node(0));
 }
 
 // Adds the entry e after the entry `last`: if it is another one, it is not there yet.
+// Kept: the numbers, and no `checked_sub(1)`: an entry is compared with the last one as the table has it.
 fn add_entry(list: &mut NodeList<'_>, e: u16, last: u16)
     requires { EntryRoom list.old.part.now list.old.n e last }
     ensures { EntryMade e list.old list.new }
@@ -45,9 +45,9 @@ fn add_entry(list: &mut NodeList<'_>, e: u16, last: u16)
 // Adds all line entries. They ascend, so each is compared with the last one only, and nothing is searched for.
 fn all_line_entry_nodes(list: &mut NodeList<'_>, w: &Entries<'_>)
     requires fresh { list.old.n ≡ 0 }
-    requires room_to_add { RoomToAdd list.old.part.now list.old.n (each decode (entry_column 1 w.now.count w.now.rows.now)) }
-    requires rises { Rises 0 (entry_column 1 w.now.count w.now.rows.now) }
-    ensures { Grew list.old list.new (each decode (entry_column 1 w.now.count w.now.rows.now)) }
+    requires room_to_add { RoomToAdd list.old.part.now list.old.n (each decode (nodes_from w.now)) }
+    requires rises { Rises 0 (nodes_from w.now) }
+    ensures { Grew list.old list.new (each decode (nodes_from w.now)) }
 {
     let mut last: u16 = 0;
     let end = w.count * ENTRY_ENTRIES;
@@ -85,15 +85,14 @@ fn add_next(list: &mut NodeList<'_>, g: &Leads<'_, '_>, i: usize)
 fn add_until(list: &mut NodeList<'_>, g: &Leads<'_, '_>, i: usize)
     ensures { AddedTo list.old list.new (until_edges g.now.nodes.falls.now g.now.frames.now i) }
 {
-    let opener = g.opener(i);
-    if opener.is_none() {
-        return;
+    if let Some(o) = g.opener(i) {
+        list.add_edge(g.nodes.fall(o));
+        list.add_edge(g.nodes.fall(i));
     }
-    list.add_edge(g.fall_of(opener));
-    list.add_edge(g.nodes.fall(i));
 }
 
 // The words that do not fall are these three.
+// Kept: a test of its own, as `joins_frame`.
 #[tactic(auto, using(std::proofs::lemmas::Bool::Decides::nat_tests), unfolding(passes::specs::NodeList::falls_word))]
 fn falls_on(word: u16) -> bool
     ensures { result ≡ falls_word word }
@@ -150,7 +149,7 @@ pub(crate) fn list_of(
     part: &mut [u16; MAX_STMTS],
 ) -> usize
     requires in_bounds { i < g.now.nodes.records.n }
-    requires ready { ListReadyFrom g.now args.now i 4096 }
+    requires ready { ListReadyFrom g.now args.now i MAX_STMTS }
     ensures { ListMadeFrom g.now args.now i part.old part.new result }
 {
     let mut list = NodeList::new(part);

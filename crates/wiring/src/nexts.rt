@@ -5,11 +5,12 @@ ghost use Rattle.graph.specs.Lists.{each};
 ghost use Rattle.passes.specs.ListedNodes.{SlotsCounted};
 ghost use Rattle.passes.specs.ForLinks.{popped_by};
 ghost use Rattle.passes.specs.AddedAgain.{AllIn};
-ghost use Rattle.passes.specs.NextBodies.{body_at, link_body, selects_key, selected_body, slot_bodies, came_before, orphan_bodies, SelectRoom, ForRoom};
+ghost use Rattle.passes.specs.NextBodies.{body_at, link_body, selects_key, selected_body, came_before, orphan_bodies, ForRoom};
 ghost use Rattle.storing.specs.NodeLists.{AddedTo, Grew};
+ghost use Rattle.wiring.specs.FromLeads.{SelectRoomFrom, slot_from};
 
 use crate::leads::Leads;
-use layout::columns::{ARG_ENTRIES, ORPHAN};
+use layout::columns::{ARG_ENTRIES, COUNT, ORPHAN, STMT_ENTRIES};
 use layout::words::NEXT;
 use storing::growing::NodeList;
 use tables::nodes::Nodes;
@@ -25,12 +26,13 @@ fn add_links(list: &mut NodeList<'_>, falls: &[u16], row: &[u16])
 
 // Adds the bodies of the FORs that NEXT i pops.
 pub(crate) fn add_popped(list: &mut NodeList<'_>, g: &Nodes<'_>, i: usize)
-    ensures { AddedTo list.old list.new (each (body_at g.now.falls.now) (popped_by g.now.links.now i (get_or g.now.records.stmts.now (i * 12 + 10) 0))) }
+    ensures { AddedTo list.old list.new (each (body_at g.now.falls.now) (popped_by g.now.links.now i (get_or g.now.records.stmts.now (i * STMT_ENTRIES + COUNT) 0))) }
 {
     add_links(list, g.falls, g.targets(i));
 }
 
 // Whether a slot selects a FOR by its name: key 0 selects all.
+// Kept: the numbers: the lent table holds the keys so, 0 for `*`.
 #[tactic(auto, using(std::proofs::lemmas::Bool::Decides::nat_tests), unfolding(passes::specs::NextBodies::selects_key))]
 fn selects(key: u64, name: u64) -> bool
     ensures { result ≡ selects_key key name }
@@ -53,8 +55,8 @@ fn add_selected(list: &mut NodeList<'_>, g: &Leads<'_, '_>, args: &[u64], o: u16
 
 // Adds the bodies of the dispatched FORs that one slot selects.
 fn add_slot(list: &mut NodeList<'_>, g: &Leads<'_, '_>, args: &[u64], key: u64)
-    requires { SelectRoom args.now g.now.nodes.falls.now g.now.dispatched.now list.old.part.now list.old.n }
-    ensures { Grew list.old list.new (slot_bodies args.now g.now.nodes.falls.now g.now.dispatched.now key) }
+    requires { SelectRoomFrom g.now args.now list.old }
+    ensures { Grew list.old list.new (slot_from g.now args.now key) }
 {
     for &o in g.dispatched {
         add_selected(list, g, args, o, key);
@@ -71,9 +73,9 @@ fn came_before(keys: &[u64], key: u64) -> bool
 // Adds the bodies that a slot selects. Where a slot before it selects them too they are in the list already, and
 // nothing is searched.
 fn add_new_slot(list: &mut NodeList<'_>, g: &Leads<'_, '_>, args: &[u64], before: &[u64], key: u64)
-    requires select_room { SelectRoom args.now g.now.nodes.falls.now g.now.dispatched.now list.old.part.now list.old.n }
-    requires added { AllIn (take list.old.n list.old.part.now) (each (slot_bodies args.now g.now.nodes.falls.now g.now.dispatched.now) before.now) }
-    ensures { Grew list.old list.new (slot_bodies args.now g.now.nodes.falls.now g.now.dispatched.now key) }
+    requires select_room { SelectRoomFrom g.now args.now list.old }
+    requires added { AllIn (take list.old.n list.old.part.now) (each (slot_from g.now args.now) before.now) }
+    ensures { Grew list.old list.new (slot_from g.now args.now key) }
 {
     if came_before(before, key) {
         return;
@@ -83,8 +85,8 @@ fn add_new_slot(list: &mut NodeList<'_>, g: &Leads<'_, '_>, args: &[u64], before
 
 // Adds the bodies that each slot selects, slot by slot.
 fn add_slots(list: &mut NodeList<'_>, g: &Leads<'_, '_>, args: &[u64], keys: &[u64])
-    requires { SelectRoom args.now g.now.nodes.falls.now g.now.dispatched.now list.old.part.now list.old.n }
-    ensures { Grew list.old list.new (each (slot_bodies args.now g.now.nodes.falls.now g.now.dispatched.now) keys.now) }
+    requires { SelectRoomFrom g.now args.now list.old }
+    ensures { Grew list.old list.new (each (slot_from g.now args.now) keys.now) }
 {
     for (k, &key) in keys.iter().enumerate() {
         add_new_slot(list, g, args, &keys[..k], key);
@@ -98,15 +100,13 @@ pub(crate) fn add_dispatched_back_edges(
     args: &[u64],
     i: usize,
 )
-    requires i_in_bounds { (i < g.now.nodes.records.n) × (i * 64 + 64 ≤ length args.now) }
+    requires i_in_bounds { (i < g.now.nodes.records.n) × (i * ARG_ENTRIES + ARG_ENTRIES ≤ length args.now) }
     requires slots_counted { SlotsCounted g.now.nodes.records.stmts.now i }
-    requires select_room { SelectRoom args.now g.now.nodes.falls.now g.now.dispatched.now list.old.part.now list.old.n }
+    requires select_room { SelectRoomFrom g.now args.now list.old }
     ensures { Grew list.old list.new (orphan_bodies g.now.nodes.records.stmts.now args.now g.now.nodes.falls.now g.now.dispatched.now i) }
 {
     if g.nodes.records.word(i) != NEXT || g.nodes.records.detail(i) != ORPHAN {
         return;
     }
-    let at = i * ARG_ENTRIES;
-    let end = at + g.nodes.records.count(i);
-    add_slots(list, g, args, &args[at..end]);
+    add_slots(list, g, args, &args[g.nodes.records.args_of(i)]);
 }

@@ -20,7 +20,7 @@ pub(crate) fn read_fitting(
     line_room: usize,
     stmt_room: usize,
 ) -> Result<Accepted, Refusal>
-    requires { (line_room ≤ length lines.old) × (stmt_room * 12 ≤ length stmts.old) × (stmt_room * 64 ≤ length args.old) }
+    requires { (line_room ≤ length lines.old) × (stmt_room * STMT_ENTRIES ≤ length stmts.old) × (stmt_room * ARG_ENTRIES ≤ length args.old) }
     ensures { FittingRead (meaning (is_program input.entry) (bytes_of input.entry)) line_room stmt_room (length lines.old) (length stmts.old) (length args.old) counts.new lines.new stmts.new args.new result }
 {
     let stmt_end = stmt_room * STMT_ENTRIES;

@@ -2,7 +2,7 @@
 ghost use Rattle.std.specs.Prelude.{◌≡◌, [], ◌∷◌, ◌+◌, ◌*◌, ◌≤◌, ◌<◌, length};
 ghost use Rattle.passes.specs.ReturnTargets.{continuation_number, FallsFit, Marking, TargetsListed};
 ghost use Rattle.wiring.specs.OnLists.{TargetsPut, TargetsMade};
-ghost use Rattle.wiring.specs.Places.{one_more};
+ghost use Rattle.tables.specs.OneMore.{one_more};
 
 use crate::leads::Leads;
 use layout::limits::MAX_STMTS;
@@ -23,8 +23,9 @@ fn continuation(g: &Leads<'_, '_>, i: usize) -> Option<u16>
 }
 
 // Puts node a behind the targets, unless its mark says that it is one of them.
+// Kept: beside `walks::walk::mark_all`, whose list is the worklist that `region` reads while it grows.
 fn put_target(list: &mut NodeList<'_>, a: u16, marks: &mut [bool; MAX_STMTS])
-    requires { (a < 4096) × (list.old.n < length list.old.part.now) × Marking 4096 marks.old list.old.part.now list.old.n }
+    requires { (a < MAX_STMTS) × (list.old.n < length list.old.part.now) × Marking MAX_STMTS marks.old list.old.part.now list.old.n }
     ensures { TargetsPut (a ∷ []) marks.new list.old list.new }
 {
     let x = usize::from(a);
@@ -40,14 +41,13 @@ fn put_targets(list: &mut NodeList<'_>, g: &Leads<'_, '_>, marks: &mut [bool; MA
     requires n_bound { g.now.nodes.records.n ≤ length list.old.part.now }
     requires falls_fit { FallsFit g.now.nodes.falls.now g.now.nodes.records.n }
     requires fresh { list.old.n ≡ 0 }
-    requires marking { Marking 4096 marks.old list.old.part.now list.old.n }
+    requires marking { Marking MAX_STMTS marks.old list.old.part.now list.old.n }
     ensures { TargetsMade g.now list.old list.new }
 {
     for i in 0..g.nodes.records.n {
-        let Some(a) = continuation(g, i) else {
-            continue;
-        };
-        put_target(list, a, marks);
+        if let Some(a) = continuation(g, i) {
+            put_target(list, a, marks);
+        }
     }
 }
 

@@ -29,7 +29,7 @@ pub(crate) fn skip_list(
     buffer: &mut [u16; MAX_STMTS],
     count: usize,
 ) -> usize
-    requires { count ≤ 4096 }
+    requires { count ≤ MAX_STMTS }
     ensures { ListIs (skip_list g.now.nodes.records.stmts.now g.now.nodes.falls.now i (take count buffer.old)) buffer.old buffer.new result }
 {
     if !is_call(g.nodes.records.word(i)) {
@@ -71,6 +71,7 @@ fn store_skip_list(
 
 // The lists that skipping paths follow go into a scratch table, as long as all lists together are few; answers how many
 // edges all nodes that are no RETURNs have.
+// Kept: tables that are written go one by one, as above.
 pub(crate) fn store_skip_lists(
     g: &Leads<'_, '_>,
     args: &[u64],

@@ -26,7 +26,8 @@ struct Counted {
 }
 
 // Without handlers, the set of each RETURN goes into its row of arguments: by walks over the stored lists, or where
-// these are too long, by rows of bits. All other nodes have `own` edges.
+// these are too long, by rows of bits. All other nodes have `own` edges. That the tables can be read is proved, so what
+// `region_return_edges` answers is not looked at.
 // Kept: `handlers` says what the listing has, a word of the paper and of every definition here; an enum would be taken
 // apart at each clause.
 fn find_returns(
@@ -38,7 +39,7 @@ fn find_returns(
     scratch: &[u16; SCRATCH],
     buffer: &mut [u16; MAX_STMTS],
 )
-    requires { ReturnsReadyFrom g.now own args.old lists.now scratch.now 4096 }
+    requires { ReturnsReadyFrom g.now own args.old lists.now scratch.now MAX_STMTS }
     ensures { ReturnsFoundFrom g.now handlers own args.old lists.now scratch.now args.new }
 {
     if handlers {
@@ -60,7 +61,7 @@ fn find_returns(
 }
 
 // The edges of all nodes, RETURNs too, and the return targets.
-// Kept: `handlers`, as above.
+// Kept: `handlers`, as above; tables that are written go one by one, as in `wire_lists`.
 fn count_graph(
     g: &Leads<'_, '_>,
     handlers: bool,
@@ -70,7 +71,7 @@ fn count_graph(
     returns: &mut [u16],
     buffer: &mut [u16; MAX_STMTS],
 ) -> Counted
-    requires { CountReadyFrom g.now handlers args.old lists.old scratch.old returns.old 4096 }
+    requires { CountReadyFrom g.now handlers args.old lists.old scratch.old returns.old MAX_STMTS }
     ensures { CountedFrom g.now handlers args.old args.new lists.new scratch.new returns.new result.edges result.targets }
 {
     let own = store_skip_lists(g, args, lists, scratch, buffer);
@@ -90,8 +91,11 @@ fn count_graph(
 }
 
 // The lists of all nodes. The tables are a listing's and the edges are counted before, so writing is never refused.
+// Kept: the answer of `write_graph` goes by `let _`: that it is `Ok` is proved; tried by a `match`, in every branch it
+// had to be shown again that each table keeps its length.
 // Kept: tables that are written go one by one; of a struct of `&mut` a clause names what is left behind it by nested
 // pairs.
+// Kept: `handlers`, as above.
 fn wire_lists(
     g: &Leads<'_, '_>,
     handlers: bool,
@@ -133,7 +137,9 @@ fn wire_lists(
 }
 
 // The lists of all nodes. Their frames and dispatched FORs are in arrays of its own, since nothing else reads them.
-// Kept: tables that are written go one by one, as above.
+// Kept: tables that are written go one by one, as above; the four that are read, since the caller would make a `Nodes`
+// of them in as many lines.
+// Kept: `handlers`, as above.
 pub(crate) fn wire_graph<'a>(
     r: &Records<'a>,
     w: &Entries<'a>,

@@ -7,4 +7,4 @@ pub returns : goal.returns
 returns c =
     asked-limits c.args.text.now _ _ _ _ _ _ _ _ _ _ _ _ _ _ _
     (search rules) (search rules) (search rules) (search rules) (search rules) (search rules) (search rules) (search rules) (search rules) (search rules)
-    c.ask_text.ensures
+    c.with_tables.ensures

@@ -6,14 +6,8 @@ use Rattle.flowcheck.proofs.check_file.Goals as goal
 pub slice_bounds-page-end : goal.slice_bounds-page-end
 slice_bounds-page-end c = c.list_text-listed.ensures.whole.inside
 
-pub slice_bounds-compare_file-end : goal.slice_bounds-compare_file-end
-slice_bounds-compare_file-end c = sym (length-take-le _ _ c.list_text-listed.ensures.whole.inside)
-
-pub slice_bounds-page-end-2 : goal.slice_bounds-page-end-2
-slice_bounds-page-end-2 c = c.list_text-listed.ensures.whole.inside
-
-pub slice_bounds-conclude-end : goal.slice_bounds-conclude-end
-slice_bounds-conclude-end c = sym (length-take-le _ _ c.list_text-listed.ensures.whole.inside)
+pub slice_bounds-due-end : goal.slice_bounds-due-end
+slice_bounds-due-end c = sym (length-take-le _ _ c.list_text-listed.ensures.whole.inside)
 
 pub returns : goal.returns
-returns c = pieces_checked c.args.text.now _ _ _ _ _ _ _ _ c.list_text-listed.ensures c.compare_file-s.ensures c.conclude-v.ensures c.show_verdict.ensures.whole
+returns c = pieces_checked c.args.text.now _ _ _ _ _ _ _ _ c.list_text-listed.ensures c.compare_file-s.ensures c.conclude.ensures c.show_verdict.ensures.whole

@@ -7,8 +7,8 @@ use Rattle.flowcheck.proofs.compare_file.Goals as goal
 pub loop-init : goal.loop-init
 loop-init c = (fed-none _ _ c.begin-s.ensures, length-replicate {0} {A = ℕ} _ 0)
 
-pub returns-then-n-lt65536 : goal.returns-then-n-lt65536
-returns-then-n-lt65536 c = fed_piece _ _ _ _ c.loop.invariant.0 c.feed-s.ensures
+pub returns-then-n-lt-PIECE : goal.returns-then-n-lt-PIECE
+returns-then-n-lt-PIECE c = fed_piece _ _ _ _ c.loop.invariant.0 c.feed-s.ensures
 
 pub loop-preserved : goal.loop-preserved
 loop-preserved c = (fed_piece _ _ _ _ c.loop.invariant.0 c.feed-s.ensures, search rules)

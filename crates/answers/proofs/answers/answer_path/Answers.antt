@@ -24,10 +24,10 @@ returns-in_err-map_err c = go c.check_all-words.result.verdict refl
         let e : c.from_residual.result ≡ Err (refusal_at n c.args.k) = search rules in
         rw e (refl, path_refused (answer_of c.args.g.now) c.args.k c.args.s.now c.check_all-words.result c.check_all-words.ensures n h)
 
-pub returns-then-words-gt65 : goal.returns-then-words-gt65
-returns-then-words-gt65 c =
+pub returns-then-words-gt-MAX_PATH_WORDS : goal.returns-then-words-gt-MAX_PATH_WORDS
+returns-then-words-gt-MAX_PATH_WORDS c =
     let w = c.check_all-words in
-    (refl, ap (λ (r : Refusal). printed_refusal (number_of r.reason) r.place) c.at.ensures ∙ path_8 (answer_of c.args.g.now) c.args.k c.args.s.now w.result w.ensures (grind arith) c.if-words-gt65.true)
+    (refl, ap (λ (r : Refusal). printed_refusal (number_of r.reason) r.place) c.at.ensures ∙ path_8 (answer_of c.args.g.now) c.args.k c.args.s.now w.result w.ensures (grind arith) c.if-words-gt-MAX_PATH_WORDS.true)
 
 pub put_path-requires : goal.put_path-requires
 put_path-requires c =
@@ -47,5 +47,5 @@ returns c =
     let e = front_is (map (entry_by false) ws) _ _ w.result.count c.fill_numbers.ensures (n ∙ sym (length-map ws (entry_by false))) in
     let t = c.args.g.now in
     answered_is _ _ c.put_path.result
-    (ap (λ (l : List ℕ). path_answer t.counts.now t.stmts.now (get_or l 0 0) (drop 1 l)) e ∙ path_answered f c.args.k c.args.s.now w.result w.ensures (grind arith) c.if-words-gt65.false)
+    (ap (λ (l : List ℕ). path_answer t.counts.now t.stmts.now (get_or l 0 0) (drop 1 l)) e ∙ path_answered f c.args.k c.args.s.now w.result w.ensures (grind arith) c.if-words-gt-MAX_PATH_WORDS.false)
     c.put_path.ensures

@@ -1,11 +1,10 @@
--- `split_questions`: no row before `at` is the one looked for. Assumes nothing.
-use Prim.Native.Nat.{suc, ◌≤◌, ◌-◌}
+-- `split_questions`: no row before `left` is the one looked for. Assumes nothing.
 use lib.ListN.{length}
 use Rattle.answers.specs.TextLaws.{Cutting}
 use Rattle.answers.proofs.text.split_questions.Given as goal
 
-abbrev pub invariant-loop-at : goal.invariant-loop-at
-invariant-loop-at l = (l.at ≤ length l.text) × Cutting l.text l.at
+abbrev pub invariant-loop-row : goal.invariant-loop-row
+invariant-loop-row l = Cutting l.text l.left
 
-abbrev pub decreases-loop-at : goal.decreases-loop-at
-decreases-loop-at l = suc (length l.text) - l.at
+abbrev pub decreases-loop-row : goal.decreases-loop-row
+decreases-loop-row l = length l.left

@@ -11,14 +11,14 @@ use Rattle.basic.proofs.actions.action_at.Goals as goal
 pub returns-in-128 : goal.returns-in-128
 returns-in-128 c =
     let T = tokens_at c.args.file.now in
-    ap (found_by T) c.bare_at.ensures
+    ap (found_by T) c.does_at.ensures
     ∙ elim c.in-128.is [ inl e ↦ sym (action_end _ c.args.b (T c.args.c) e) | inr e ↦ sym (action_stop _ c.args.b (T c.args.c) e) ]
 
 pub returns-in-142 : goal.returns-in-142
-returns-in-142 c = ap (found_by (tokens_at c.args.file.now)) c.bare_at-in-142.ensures ∙ sym (action_return _ c.args.b (tokens_at c.args.file.now c.args.c) c.in-142.is)
+returns-in-142 c = ap (found_by (tokens_at c.args.file.now)) c.does_at-in-142.ensures ∙ sym (action_return _ c.args.b (tokens_at c.args.file.now c.args.c) c.in-142.is)
 
 pub returns-in-156 : goal.returns-in-156
-returns-in-156 c = ap (found_by (tokens_at c.args.file.now)) c.bare_at-in-156.ensures ∙ sym (action_clr _ c.args.b (tokens_at c.args.file.now c.args.c) c.in-156.is)
+returns-in-156 c = ap (found_by (tokens_at c.args.file.now)) c.does_at-in-156.ensures ∙ sym (action_clr _ c.args.b (tokens_at c.args.file.now c.args.c) c.in-156.is)
 
 pub returns-in-129 : goal.returns-in-129
 returns-in-129 c = c.one_at.ensures (tokens_at c.args.file.now) ∙ ap (map_found (λ v. Does 13 1)) c.key_at.ensures ∙ sym (action_for _ c.args.b (tokens_at c.args.file.now c.args.c) c.in-129.is)
@@ -43,5 +43,5 @@ returns-in-145 c = c.on_at.ensures ∙ sym (ap (map_found coded) (action_on _ c.
 
 pub returns-in_default : goal.returns-in_default
 returns-in_default c =
-    ap (found_by (tokens_at c.args.file.now)) c.bare_at-in_default.ensures
+    ap (found_by (tokens_at c.args.file.now)) c.does_at-in_default.ensures
     ∙ sym (action_plain _ c.args.b (tokens_at c.args.file.now c.args.c) (grind arith) (grind arith) (grind arith) (grind arith) (grind arith) (grind arith) (grind arith) (grind arith) (grind arith) (grind arith) (grind arith))

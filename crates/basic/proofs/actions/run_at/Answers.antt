@@ -11,4 +11,4 @@ pub returns-then-is_digit : goal.returns-then-is_digit
 returns-then-is_digit c = c.one_at.ensures (tokens_at c.args.file.now) ∙ ap (map_found (λ v. Does 10 1)) c.line_number.ensures ∙ sym (run_number (tokens_at c.args.file.now c.args.c) _ _ _ c.token_at-t.ensures (sym c.if-is_digit.ensures))
 
 pub returns : goal.returns
-returns c = ap (found_by (tokens_at c.args.file.now)) c.bare_at.ensures ∙ sym (run-bare (tokens_at c.args.file.now c.args.c) _ _ _ c.token_at-t.ensures (sym c.if-is_digit.ensures))
+returns c = ap (found_by (tokens_at c.args.file.now)) c.does_at.ensures ∙ sym (run-bare (tokens_at c.args.file.now c.args.c) _ _ _ c.token_at-t.ensures (sym c.if-is_digit.ensures))

@@ -1,34 +1,38 @@
--- `counted_at`: the byte at `at` is the end, counts or is passed. Assumes nothing.
-use Rattle.std.proofs.Common.{◌∙◌, sym, ap, refl, ◌+◌, ◌∷◌, [], Bool, arith, drop, get_or, ne_eqb}
+-- `counted_at`: from `at` on, where nothing covers, the same bytes count. Assumes nothing.
+use Rattle.std.proofs.Common.{◌≡◌, ◌∙◌, sym, ap, refl, ◌+◌, ◌∷◌, [], Bool, true, arith, drop, get_or, ne_eqb}
 use Rattle.listings.specs.Bytes.{pick}
 use Rattle.program_files.specs.Program as definition
-use Rattle.program_files.specs.Program.{Placed, counted}
+use Rattle.program_files.specs.Program.{uncovered, counts, behind, counted}
 use Rattle.basic.specs.Covers.{cover_of}
-use Rattle.basic.specs.Cursors.{counted_past, counted_end, counted_here, counted_skip}
+use Rattle.basic.specs.Covered.{leads_on}
+use Rattle.basic.specs.Cursors.{counted_past, counted_end, counted_here}
 use Rattle.basic.proofs.cursors.counted_at.Goals as goal
+use Rattle.basic.proofs.cursors.counted_at.Goals.{in-Uncovered, in_default, else-loop-at-test, then-loop-at-test+then-b-eq0}
 
-pub returns-then-b-eq0 : goal.returns-then-b-eq0
-returns-then-b-eq0 c =
-    sym c.loop-at.invariant ∙ counted_end (cover_of c.loop-at.cover) c.args.file.now c.loop-at.at (get_or c.args.file.now c.loop-at.at 0) (omega arith) refl c.if-b-eq0.true
+pub loop-at-init : goal.loop-at-init
+unfolding cover_of
+loop-at-init c = elim c.match-c.branch [
+  | in-Uncovered w ↦ rw (w.at-is, w.in-Uncovered.is) refl
+  | in_default w ↦ rw w.at-is w.behind_covered-at.ensures
+]
 
-pub returns-then-is_counted : goal.returns-then-is_counted
-returns-then-is_counted c =
+pub returns-then-b-ne32 : goal.returns-then-b-ne32
+unfolding counts
+returns-then-b-ne32 c =
     let f = c.args.file.now in
     let at = c.loop-at.at in
     let b = get_or f at 0 in
-    let e = sym c.is_counted.ensures ∙ c.if-is_counted.true in
-    sym c.loop-at.invariant ∙ counted_here (cover_of c.loop-at.cover) f at b (omega arith) refl c.if-b-eq0.false e
+    let counts-so : counts uncovered b ≡ true = rw (ne_eqb b 32 c.if-b-ne32.true) refl in
+    c.loop-at.invariant ∙ counted_here uncovered f at b c.loop-at-test.true refl c.if-b-eq0.false counts-so
     ∙ ap (λ (z : definition.Cover). (at, b) ∷ counted z (at + 1) (drop (at + 1) f)) (sym c.behind.ensures)
     ∙ ap (λ (x : Bool). (at, b) ∷ pick x [] (counted (cover_of c.behind.result) (at + 1) (drop (at + 1) f))) (sym (ne_eqb b 0 c.if-b-eq0.false))
 
 pub loop-at-preserved : goal.loop-at-preserved
-loop-at-preserved c =
-    let f = c.args.file.now in
-    let at = c.loop-at.at in
-    let b = get_or f at 0 in
-    let e = sym c.is_counted.ensures ∙ c.if-is_counted.false in
-    ap (λ (z : definition.Cover). counted z (at + 1) (drop (at + 1) f)) c.behind-cover.ensures
-    ∙ sym (counted_skip (cover_of c.loop-at.cover) f at b (omega arith) refl c.if-b-eq0.false e) ∙ c.loop-at.invariant
+unfolding counts behind
+loop-at-preserved c = c.loop-at.invariant ∙ leads_on c.args.file.now c.loop-at.at c.loop-at-test.true uncovered uncovered 32 c.if-b-ne32.false (λ z. absurd (omega arith)) refl refl
 
-pub returns-after-loop-at : goal.returns-after-loop-at
-returns-after-loop-at c = sym c.loop-at.invariant ∙ counted_past (cover_of c.loop-at.cover) c.args.file.now c.loop-at.at (omega arith)
+pub returns : goal.returns
+returns c = c.loop-at.invariant ∙ elim c.loop-at-test.branch [
+  | else-loop-at-test w ↦ counted_past uncovered c.args.file.now c.loop-at.at w.loop-at-test.false
+  | then-loop-at-test+then-b-eq0 w ↦ counted_end uncovered c.args.file.now c.loop-at.at 0 w.loop-at-test.true w.if-b-eq0.true refl
+]

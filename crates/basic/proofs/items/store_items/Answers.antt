@@ -2,19 +2,18 @@
 use Rattle.std.proofs.Common.{◌≡◌, ◌∙◌, ◌<◌, ◌++◌, ℕ, List, length, length-take, take, drop, ap, sym, inl, inr, ⊎_elim, arith}
 use Rattle.std.proofs.lemmas.Bool.{cases_lt}
 use Rattle.basic.specs.Cursors.{tokens_at}
+use Rattle.basic.specs.Found.{found_by}
 use Rattle.basic.specs.Items.{items_from, values_in}
-use Rattle.basic.specs.ItemLaws.{items_lacking, put_joined, put_none, put_room, written_next, listed-all, listed-count, listed-lacking, step_next}
+use Rattle.basic.specs.ItemLaws.{put_joined, put_none, put_room, written_next, listed-all, listed-count, listed_found, step_next}
 use Rattle.basic.proofs.items.store_items.Goals as goal
 
 pub loop-slot-init : goal.loop-slot-init
 loop-slot-init c = record { inside = omega arith; written = sym (put_none _); ahead = λ h. listed-all c.args.count _ c.requires }
 
-pub unreachable-requires : goal.unreachable-requires
-unreachable-requires c =
-    let p = c.in_default.field-0.place in
-    absurd
-    (listed-lacking _ _ p (c.loop-slot.invariant.ahead (omega (arith, length-take c.min-room.result c.args.part.now)))
-    (items_lacking c.args.kind (tokens_at c.args.file.now c.loop-slot.at) p (sym c.in_default.ensures)))
+pub unwrap-item-requires : goal.unwrap-item-requires
+unwrap-item-requires c =
+    let T = tokens_at c.args.file.now in
+    listed_found _ c.args.kind T (T c.loop-slot.at) c.item_at.result c.item_at.ensures (c.loop-slot.invariant.ahead (omega (arith, length-take c.min-room.result c.args.part.now)))
 
 pub loop-slot-preserved : goal.loop-slot-preserved
 loop-slot-preserved c =
@@ -23,10 +22,12 @@ loop-slot-preserved c =
     let old = take c.min-room.result c.args.part.now in
     let n : c.args.count ≡ length vs = listed-count c.args.count _ c.requires in
     let inside : l.slot-index < length vs = omega (arith, length-take c.min-room.result c.args.part.now) in
-    let s = step_next vs l.slot-index inside c.args.kind (tokens_at c.args.file.now) l.at c.in-Ok.item.value c.in-Ok.item.next (sym c.in-Ok.ensures) c.token_at.result c.token_at.ensures (l.invariant.ahead (omega arith)) in
+    let T = tokens_at c.args.file.now in
+    let item = c.unwrap-item.result in
+    let s = step_next vs l.slot-index inside c.args.kind T l.at item.value item.next (sym c.item_at.ensures ∙ ap (found_by T) c.unwrap-item.ensures) c.token_at.result c.token_at.ensures (l.invariant.ahead (omega arith)) in
     record {
       inside = omega arith;
-      written = written_next vs old l.slot-items l.slot-index l.invariant.written l.auto.slot-items c.in-Ok.item.value s.0 inside (omega (arith, l.auto.slot-items));
+      written = written_next vs old l.slot-items l.slot-index l.invariant.written l.auto.slot-items item.value s.0 inside (omega (arith, l.auto.slot-items));
       ahead = λ h. s.1 (omega arith);
     }
 

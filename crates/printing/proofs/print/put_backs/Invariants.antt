@@ -5,4 +5,4 @@ use Rattle.printing.specs.PrintedTables.{back_text}
 use Rattle.printing.proofs.print.put_backs.Given as goal
 
 abbrev pub invariant-loop-i : goal.invariant-loop-i
-invariant-loop-i l = Wrote l.initial.page l.page (each (back_text l.stmts l.falls) (below l.i))
+invariant-loop-i l = Wrote l.initial.page l.page (each (back_text l.records.stmts.now l.falls) (below l.i))

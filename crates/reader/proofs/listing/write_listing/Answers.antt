@@ -15,14 +15,14 @@ returns-then-t-a-2-clause-written c =
       | then-t-a-2-via-else-t-a-2+then-t-a-3 w ↦ short_args c.requires (omega arith) (omega (arith, w.if-t-a-2.false)) w.if-t-a-3.true
     ])
 
-pub fill_input-requires : goal.fill_input-requires
-fill_input-requires c = judged_zeroed c.requires c.if-t-a.false c.if-t-a-2.false c.if-t-a-3.false
+pub fill-requires : goal.fill-requires
+fill-requires c = judged_zeroed c.requires c.if-t-a.false c.if-t-a-2.false c.if-t-a-3.false
 
 pub counts-requires : goal.counts-requires
 counts-requires c = judged_small c.requires
 
 pub returns-clause-same : goal.returns-clause-same
-returns-clause-same c = c.fill_input.ensures.same
+returns-clause-same c = c.fill.ensures.same
 
 pub returns-clause-written : goal.returns-clause-written
-returns-clause-written c = judged-written c.requires c.if-t-a.false c.if-t-a-2.false c.if-t-a-3.false c.counts.ensures c.fill_input.ensures.filled
+returns-clause-written c = judged-written c.requires c.if-t-a.false c.if-t-a-2.false c.if-t-a-3.false c.counts.ensures c.fill.ensures.filled

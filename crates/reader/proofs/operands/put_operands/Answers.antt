@@ -7,7 +7,7 @@ use Rattle.std.specs.Prelude.{Some, None}
 use Rattle.listings.specs.Rows.{split}
 use Rattle.tokens.specs.Kinds.{opened_kind}
 use Rattle.tokens.specs.Scan.{FirstWord}
-use Rattle.reader.specs.Operands.{row_alone, row_words, row_room, entries-numbers, numbers_room, put_by}
+use Rattle.reader.specs.Operands.{row_alone, row_words, row_room, entries_numbers, numbers_room, put_by}
 use Rattle.reader.proofs.operands.put_operands.Goals.{In-Some}
 use Rattle.reader.proofs.operands.put_operands.Goals as goal
 
@@ -35,6 +35,6 @@ put_words-requires c =
 
 pub returns-in-None : goal.returns-in-None
 returns-in-None c =
-    let q = entries-numbers (split 32 c.in-Some.words.now) None (λ e. cc) (λ e. cc) in
+    let q = entries_numbers (split 32 c.in-Some.words.now) None (λ e. cc) (λ e. cc) in
     row_words c.args.s.now _ _ (cut (goal.at.returns-in-None c).In-Some) c.args.part.now c.put_words.new.part c.put_words.result None (c.in-None.ensures ∙ ap opened_kind c.requires.0)
     (put_by c.args.part.now c.put_words.new.part c.put_words.result q.0 q.1 c.put_words.ensures)

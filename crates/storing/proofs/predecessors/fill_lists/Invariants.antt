@@ -1,9 +1,7 @@
 -- `fill_lists`: whatever lists the tables hold, the nodes passed stand in the lists of their successors. Assumes
 -- nothing.
-use mathlib.Core.Path.{◌≡◌}
-use lib.ListN.{length}
 use Rattle.storing.specs.PredecessorLists.{FilledTo}
 use Rattle.storing.proofs.predecessors.fill_lists.Given as goal
 
 abbrev pub invariant-loop-j : goal.invariant-loop-j
-invariant-loop-j l = (length l.lists ≡ length l.initial.lists) × (length l.pred ≡ length l.initial.pred) × FilledTo l.nodes l.j l.succ l.initial.lists l.lists l.initial.pred l.pred
+invariant-loop-j l = FilledTo l.nodes l.j l.succ l.initial.lists l.lists l.initial.pred l.pred

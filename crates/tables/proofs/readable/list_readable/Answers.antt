@@ -4,12 +4,12 @@ use Rattle.std.proofs.lemmas.Bool.{lt-leb}
 use Rattle.tables.specs.Readable.{list-outside, list_inside}
 use Rattle.tables.proofs.readable.list_readable.Goals as goal
 
-pub returns-then-end-edges : goal.returns-then-end-edges
-returns-then-end-edges c =
+pub returns-then-ends-edges : goal.returns-then-ends-edges
+returns-then-ends-edges c =
     let a = c.args in
-    list_inside a.lists.now a.edges.now a.n a.v c.list_ends-start.result.0 _ c.list_ends-start.ensures.start (omega (arith, c.list_ends-start.ensures.start, c.list_ends-start.ensures.end)) c.if-end-edges.true c.ids_below.result c.ids_below.ensures
+    list_inside a.lists.now a.edges.now a.n a.v c.list_ends-ends.result.start _ c.list_ends-ends.ensures.start (omega (arith, c.list_ends-ends.ensures.start, c.list_ends-ends.ensures.end)) c.if-ends-edges.true c.ids_below.result c.ids_below.ensures
 
-pub returns-else-end-edges : goal.returns-else-end-edges
-returns-else-end-edges c =
+pub returns-else-ends-edges : goal.returns-else-ends-edges
+returns-else-ends-edges c =
     let a = c.args in
-    lt-leb _ _ c.if-end-edges.false ∙ list-outside a.lists.now a.edges.now a.n a.v c.list_ends-start.result.0 _ c.list_ends-start.ensures.start (omega (arith, c.list_ends-start.ensures.start, c.list_ends-start.ensures.end)) c.if-end-edges.false
+    lt-leb _ _ c.if-ends-edges.false ∙ list-outside a.lists.now a.edges.now a.n a.v c.list_ends-ends.result.start _ c.list_ends-ends.ensures.start (omega (arith, c.list_ends-ends.ensures.start, c.list_ends-ends.ensures.end)) c.if-ends-edges.false

@@ -11,8 +11,8 @@ use Rattle.tokens.proofs.numbers.value_of.Goals as goal
 digit_at : (w : List ℕ) (i : ℕ) → all is_digit w ≡ true → i < length w → (48 ≤ get_or w i 0) × (get_or w i 0 ≤ 57)
 digit_at w i h lt = digit_range (get_or w i 0) (all-at is_digit w i h lt)
 
-pub overflow_sub-from : goal.overflow_sub-from
-overflow_sub-from c = let d = digit_at c.args.w.now c.loop-b.b-index c.requires (omega arith) in omega (arith, c.from.ensures)
+pub overflow_sub-b : goal.overflow_sub-b
+overflow_sub-b c = (digit_at c.args.w.now c.loop-b.b-index c.requires (omega arith)).0
 
 pub returns-in_err-v : goal.returns-in_err-v
 returns-in_err-v c =

@@ -1,9 +1,10 @@
 -- `nodes_of`: the tables hold the nodes, then each of them is tested. Assumes nothing.
 use mathlib.Core.Path.{sym, ◌∙◌}
 use Rattle.std.proofs.Common.{◌≡◌, refl, rules, arith}
-use Rattle.std.specs.Prelude.{false, true}
-use Rattle.tables.specs.Readable.{every_below}
-use Rattle.passes.specs.WalkTables.{node_readable, sets-read, calls_refused, calls_by}
+use Rattle.std.specs.Prelude.{Bool, false, true}
+use Rattle.std.specs.Bool.{then_some}
+use Rattle.passes.specs.Tested.{Tested, NodesAre}
+use Rattle.passes.specs.WalkTables.{sets-read, calls_refused, calls_by}
 use Rattle.walks.proofs.readable.nodes_of.Goals as goal
 
 pub returns-then-not-sets_fit : goal.returns-then-not-sets_fit
@@ -32,14 +33,15 @@ invariant_of-records c =
     let s = sets-read a.stmts.now a.n a.sets.now (sym c.sets_fit.ensures ∙ c.if-not-sets_fit.false) in
     record { few = s.few; rows = s.in_stmts }
 
-pub returns-then-not-nodes_readable : goal.returns-then-not-nodes_readable
-returns-then-not-nodes_readable c =
-    let a = c.args in
-    let e : false ≡ every_below (node_readable a.stmts.now a.falls.now a.links.now a.n) a.n = sym c.if-not-nodes_readable.true ∙ c.nodes_readable.ensures in
-    sym (calls_by a.stmts.now a.falls.now a.links.now a.n a.sets.now (sym c.sets_fit.ensures ∙ c.if-not-sets_fit.false) false (grind arith))
+-- what passed, or none
+then_tested : {A : Type 0} {t : Bool} (P : A → Type 0) (x : A) (b : Bool) → b ≡ t → P x → Tested t P (then_some b x)
+then_tested P x true e p = (sym e, p)
+then_tested P x false e p = sym e
 
 pub returns : goal.returns
 returns c =
     let a = c.args in
-    let e : true ≡ every_below (node_readable a.stmts.now a.falls.now a.links.now a.n) a.n = sym c.if-not-nodes_readable.false ∙ c.nodes_readable.ensures in
-    (sym (calls_by a.stmts.now a.falls.now a.links.now a.n a.sets.now (sym c.sets_fit.ensures ∙ c.if-not-sets_fit.false) true (grind arith)), record { stmts_are = refl; falls_are = refl; links_are = refl; count_is = refl })
+    rw c.then_some.ensures
+    (then_tested (NodesAre a.stmts.now a.falls.now a.links.now a.n) _ c.nodes_readable.result
+    (calls_by a.stmts.now a.falls.now a.links.now a.n a.sets.now (sym c.sets_fit.ensures ∙ c.if-not-sets_fit.false) c.nodes_readable.result (grind arith))
+    (record { stmts_are = refl; falls_are = refl; links_are = refl; count_is = refl }))

@@ -1,13 +1,14 @@
 -- `join_regions`: the calls are listed, their spans found, all regions joined. Assumes nothing.
 use Rattle.passes.specs.Walk.{stored_list}
-use Rattle.passes.specs.RegionLaws.{regions_all, read_stored}
+use Rattle.passes.specs.RegionLaws.{regions_all}
+use Rattle.walks.specs.FromListed.{stored_in}
 use Rattle.walks.proofs.regions.join_regions.Goals as goal
 
 pub join_entries-requires : goal.join_entries-requires
 join_entries-requires c = record {
   calls_ready = c.among-calls.ensures.ready;
   spanned = c.among-calls.ensures.spanned;
-  stored = read_stored _ _ _ c.args.w.now.readable;
+  stored = stored_in c.args.w.now;
   in_sets = c.requires.1;
 }
 

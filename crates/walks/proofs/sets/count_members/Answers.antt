@@ -1,18 +1,27 @@
--- `count_members`: the members in the first q words are counted. Assumes nothing.
-use mathlib.Core.Path.{ap, ◌∙◌}
-use native.Mathlib.Omega.{arith}
-use lib.ListN.{length, get_or}
-use lib.Count.{ones-le}
+-- `count_members`: the members of its words. Assumes nothing.
+use Rattle.std.proofs.Common.{rules, ◌≡◌, ℕ, zero, suc, ◌+◌, ◌≤◌, ◌<◌, ◌^◌, List, length, take, refl, sym, ap, ◌∙◌, arith, add-one}
+use Rattle.std.specs.Prelude.{get_or}
+use Rattle.std.specs.List.{sum_by}
+use Rattle.std.specs.Int.Count.{ones}
+use Rattle.std.proofs.lemmas.List.Sums.{sum_by_more}
+use Rattle.std.proofs.Math.Seq.{take-length}
+use Rattle.passes.specs.Sets.{members_to, members_of}
 use Rattle.passes.specs.SetLaws.{size_none, size_more, set_end}
 use Rattle.walks.proofs.sets.count_members.Goals as goal
 
-pub loop-word-init : goal.loop-word-init
-loop-word-init c = (omega arith, size_none _)
+-- a sum of words is taken word by word, as members are
+module _ (ws : List ℕ) (fits : (q : ℕ) → get_or ws q 0 < 2 ^ 64) where
+  -- those in the first q words
+  counted : (q : ℕ) → q ≤ length ws → sum_by ones (take q ws) ≡ length (members_to ws q)
+  counted zero h = size_none ws
+  counted (suc q) h =
+      ap (λ (k : ℕ). sum_by ones (take k ws)) (sym (add-one q)) ∙ sum_by_more ones ws q 0 (omega (arith, h)) ∙ ap (λ (k : ℕ). k + ones (get_or ws q 0)) (counted q (omega (arith, h)))
+      ∙ size_more ws q (fits q) ∙ ap (λ (k : ℕ). length (members_to ws k)) (add-one q)
 
-pub loop-word-preserved : goal.loop-word-preserved
-loop-word-preserved c =
-    let f = (c.type_inv.set c.loop-word.word-index).fits in
-    (omega (arith, ones-le 64 (get_or c.args.set.now c.loop-word.word-index 0) f), omega (arith, size_more c.args.set.now c.loop-word.word-index f))
+  all_counted : sum_by ones ws ≡ length (members_of ws)
+  all_counted = ap (sum_by ones) (sym (take-length ws)) ∙ counted (length ws) (omega arith) ∙ ap length (set_end ws (length ws) refl)
 
 pub returns : goal.returns
-returns c = c.loop-word.invariant.1 ∙ ap length (set_end c.args.set.now c.loop-word.word-index (omega arith))
+returns c =
+    let e : c.sum.result ≡ sum_by ones c.args.set.now = search rules in
+    e ∙ all_counted c.args.set.now (λ q. (c.type_inv.set q).fits)

@@ -1,7 +1,7 @@
 -- `add_closing`: by the opening word. Assumes nothing.
 use Rattle.std.proofs.Common.{rules, ◌≡◌, sym, refl, ◌∙◌}
 use Rattle.passes.specs.ClosingLaws.{ready_doif, ready_closer, closing_doif, closing-joined, closing-none}
-use Rattle.wiring.specs.Places.{one_more}
+use Rattle.tables.specs.OneMore.{one_more}
 use Rattle.wiring.proofs.closing.add_closing.Goals as goal
 
 pub add_doif-requires : goal.add_doif-requires

@@ -2,7 +2,7 @@
 use Rattle.std.proofs.Common.{length}
 use Rattle.passes.specs.ChainLaws.{chain_left, Walk}
 use Rattle.storing.specs.NodeLists.{Became}
-use Rattle.wiring.specs.Places.{one_more}
+use Rattle.tables.specs.OneMore.{one_more}
 use Rattle.wiring.proofs.closing.add_elses.Given as goal
 
 abbrev pub invariant-loop-next : goal.invariant-loop-next

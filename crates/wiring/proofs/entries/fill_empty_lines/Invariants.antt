@@ -3,7 +3,6 @@
 use Prim.Native.Nat.{ℕ}
 use mathlib.Core.List.{List, ◌++◌}
 use mathlib.Core.Path.{◌≡◌}
-use lib.ListN.{length}
 use Rattle.passes.specs.LineEntries.{first_rows, Filled}
 use Rattle.listings.specs.Listing.{Lines}
 use Rattle.listings.specs.Listing as listing
@@ -12,5 +11,4 @@ use Rattle.wiring.proofs.entries.fill_empty_lines.Given as goal
 
 abbrev pub invariant-loop-l : goal.invariant-loop-l
 invariant-loop-l l =
-    (length l.entries ≡ length l.initial.entries)
-    × ((ls : Lines) (others rest : List ℕ) → l.lines ≡ line_numbers ls ++ others → l.count ≡ listing.count ls → l.initial.entries ≡ first_rows ls ++ rest → Filled ls l.lines rest l.l l.next l.entries)
+    (ls : Lines) (others rest : List ℕ) → l.lines ≡ line_numbers ls ++ others → l.count ≡ listing.count ls → l.initial.entries ≡ first_rows ls ++ rest → Filled ls l.lines rest l.l l.next l.entries

@@ -9,5 +9,4 @@ use Rattle.wiring.proofs.entries.store_first_nodes.Given as goal
 
 abbrev pub invariant-loop-i : goal.invariant-loop-i
 invariant-loop-i l =
-    (length l.entries ≡ length l.initial.entries)
-    × ((rs : List Rec) (rest : List ℕ) → l.r.stmts.now ≡ rec_rows rs ++ rest → l.r.n ≡ length rs → l.entries ≡ first_nodes l.i l.initial.entries (drop l.i rs))
+    (rs : List Rec) (rest : List ℕ) → l.r.stmts.now ≡ rec_rows rs ++ rest → l.r.n ≡ length rs → l.entries ≡ first_nodes l.i l.initial.entries (drop l.i rs)

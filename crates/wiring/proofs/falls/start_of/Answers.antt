@@ -1,7 +1,7 @@
 -- `start_of`: the last statement before `end` that is of another line, or none. Assumes nothing.
 use Rattle.std.proofs.Common.{◌≡◌, rules}
 use Rattle.std.proofs.lemmas.Iterator.Search.{find_from_yields_List}
-use Rattle.wiring.specs.Places.{one_more}
+use Rattle.tables.specs.OneMore.{one_more}
 use Rattle.wiring.specs.LineStarts.{foreign, yields_down, begins_first}
 use Rattle.wiring.proofs.falls.start_of.Goals as goal
 

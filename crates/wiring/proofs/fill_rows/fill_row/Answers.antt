@@ -1,6 +1,6 @@
 -- `fill_row`: one row, lent on as the part that it is. Assumes nothing.
 use borrow.Author.Rules.{rules}
-use Prim.Native.Nat.{◌≤◌, ◌+◌, ◌-◌, ◌*◌}
+use Prim.Native.Nat.{◌≤◌, ◌-◌, ◌*◌}
 use mathlib.Core.Path.{◌≡◌, sym, ◌∙◌, ap}
 use native.Mathlib.Omega.{arith}
 use lib.ListN.{length, take}
@@ -23,22 +23,22 @@ unfolding passes
 fitting c =
     let size : length c.args.part.now ≡ 4096 = search rules in
     skip_fits _ _ _ _ _ _ _ _ _
-    c.args.part.now _ _ (rw size (c.requires.ready.skips (rw c.word.ensures at (sym c.in_pass.ensures ∙ c.if-not-in_pass.false)))) (tables-made c)
+    c.args.part.now _ _ (rw size (c.requires.ready.skips (rw c.word.ensures at (sym c.has.ensures ∙ c.if-not-has.false)))) (tables-made c)
 
-pub returns-then-not-in_pass : goal.returns-then-not-in_pass
+pub returns-then-not-has : goal.returns-then-not-has
 unfolding passes
-returns-then-not-in_pass c =
+returns-then-not-has c =
     row_left _ _ _ _ _ _ _ _ _ (are_nexts c.args.pass)
-    (rw c.word.ensures at (sym c.in_pass.ensures ∙ c.if-not-in_pass.true))
+    (rw c.word.ensures at (sym c.has.ensures ∙ c.if-not-has.true))
 
 pub list_of-count-requires-clause-ready : goal.list_of-count-requires-clause-ready
 unfolding passes
-list_of-count-requires-clause-ready c = (c.requires.ready.skips (rw c.word.ensures at (sym c.in_pass.ensures ∙ c.if-not-in_pass.false))).ready
+list_of-count-requires-clause-ready c = (c.requires.ready.skips (rw c.word.ensures at (sym c.has.ensures ∙ c.if-not-has.false))).ready
 
 pub skip_list-kept-requires : goal.skip_list-kept-requires
 unfolding passes
 skip_list-kept-requires c =
-    let s = c.requires.ready.skips (rw c.word.ensures at (sym c.in_pass.ensures ∙ c.if-not-in_pass.false)) in
+    let s = c.requires.ready.skips (rw c.word.ensures at (sym c.has.ensures ∙ c.if-not-has.false)) in
     let r = s.ready in
     let size : length c.args.part.now ≡ 4096 = search rules in
     omega (arith, size, (c.list_of-count.ensures r.listing r.keys₀ r.nodes r.prepared r.kept r.size r.node).within)
@@ -50,12 +50,13 @@ shared_ref_as_front-put_set c =
 
 pub put_set-requires : goal.put_set-requires
 put_set-requires c =
-    let k : c.args.i * 64 + 64 - c.args.i * 64 ≡ 64 = omega arith in
-    (ap length (row_part c.args.args.now c.args.i _ k) ∙ row_length c.args.args.now c.args.i c.requires.ready.fits, (fitting (goal.at.put_set-requires c).After-skip_list-kept).1)
+    let w = c.words_of.ensures (omega (arith, c.requires.in_bounds, c.args.g.now.nodes.records.few)) in
+    (rw w.0 (ap length (row_part c.args.args.now c.args.i _ (omega (arith, w)))) ∙ row_length c.args.args.now c.args.i c.requires.ready.fits, (fitting (goal.at.put_set-requires c).After-skip_list-kept).1)
 
 pub returns : goal.returns
 unfolding passes
 returns c =
-    let k : c.args.i * 64 + 64 - c.args.i * 64 ≡ 64 = omega arith in
-    row_filled _ _ _ _ _ _ _ _ _ (are_nexts c.args.pass)
-    c.args.part.now _ _ _ _ (rw c.word.ensures at (sym c.in_pass.ensures ∙ c.if-not-in_pass.false)) k c.requires.ready.fits (tables-made (goal.at.returns c).After-skip_list-kept) c.put_set.ensures
+    let w = c.words_of.ensures (omega (arith, c.requires.in_bounds, c.args.g.now.nodes.records.few)) in
+    let k : c.words_of.result.end - c.args.i * 64 ≡ 64 = omega (arith, w) in
+    rw w.0 (row_filled _ _ _ _ _ _ _ _ _ (are_nexts c.args.pass)
+    c.args.part.now _ _ _ _ (rw c.word.ensures at (sym c.has.ensures ∙ c.if-not-has.false)) k c.requires.ready.fits (tables-made (goal.at.returns c).After-skip_list-kept) c.put_set.ensures)

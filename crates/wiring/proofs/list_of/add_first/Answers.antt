@@ -7,4 +7,4 @@ pub returns-then-w-eq0 : goal.returns-then-w-eq0
 returns-then-w-eq0 c = added_as (column_none _ _ c.if-w-eq0.true) (added_none _)
 
 pub returns : goal.returns
-returns c = added_as (column_one _ _ c.if-w-eq0.false) c.add_edge.ensures
+returns c = added_as (column_one _ _ c.if-w-eq0.false) (rw c.node.ensures at c.add_edge.ensures)

@@ -1,15 +1,18 @@
 -- `add_until`: nothing, or the body and then where it falls. Assumes nothing.
-use Rattle.std.proofs.Common.{sym, ◌∙◌}
+use Rattle.std.proofs.Common.{ℕ, suc, ◌≡◌, ◌*◌, sym, subst, arith, get_or}
+use Rattle.passes.specs.Closing.{fall_from, fall_by}
 use Rattle.passes.specs.NextBodies.{link_is}
 use Rattle.passes.specs.NodeListLaws.{until_none, until_parts}
-use Rattle.storing.specs.NodeLists.{added_as, added_both, added_none}
-use Rattle.wiring.specs.Places.{none_zero, some_more}
+use Rattle.storing.specs.NodeLists.{AddedTo, added_as, added_both, added_none}
 use Rattle.wiring.proofs.list_of.add_until.Goals as goal
 
-pub returns-then-is_none : goal.returns-then-is_none
-returns-then-is_none c = added_as (until_none _ _ _ (sym c.opener-opener.ensures ∙ none_zero _ c.if-is_none.ensures)) (added_none _)
+pub returns-in_default : goal.returns-in_default
+returns-in_default c = added_as (until_none _ _ _ (sym (rw c.in_default.is at c.opener.ensures))) (added_none _)
 
-pub returns : goal.returns
-returns c =
-    let b = added_as (link_is _ _) (rw (c.fall_of.ensures, c.opener-opener.ensures) at c.add_edge.ensures) in
-    added_as (until_parts _ _ _ (rw c.opener-opener.ensures at (some_more _ c.if-is_none.ensures))) (added_both b (rw c.fall.ensures at c.add_edge-2.ensures))
+pub returns-in-Some : goal.returns-in-Some
+unfolding fall_from fall_by
+returns-in-Some c =
+    let g = c.args.g.now in
+    let e : suc c.in-Some.o ≡ get_or g.frames.now (c.args.i * 3) 0 = rw c.in-Some.is at c.opener.ensures in
+    let b = subst (λ (x : ℕ). AddedTo c.args.list.now c.add_edge.new.self (fall_from g.nodes.falls.now x)) e (rw c.fall.ensures at c.add_edge.ensures) in
+    added_as (until_parts _ _ _ (λ z. omega (arith, e, z))) (added_both (added_as (link_is _ _) b) (rw c.fall-in-Some.ensures at c.add_edge-in-Some.ensures))

@@ -1,4 +1,5 @@
 -- `add_dispatched_back_edges`: an orphan NEXT adds what its slots select, any other node nothing. Assumes nothing.
+use Rattle.std.proofs.Common.{refl}
 use Rattle.passes.specs.NextBodies.{orphan_not_next, orphan_plain, orphan_slots}
 use Rattle.storing.specs.NodeLists.{grew_by, grew_same}
 use Rattle.wiring.proofs.nexts.add_dispatched_back_edges.Goals as goal
@@ -12,4 +13,6 @@ returns-then-word-ne-NEXT c =
     ]
 
 pub returns : goal.returns
-returns c = grew_by (orphan_slots c.args.g.now.nodes.records.stmts.now c.args.args.now c.args.g.now.nodes.falls.now c.args.g.now.dispatched.now _ _ c.args.i _ _ _ (rw c.word.ensures at c.if-word-ne-NEXT.false) (rw c.detail.ensures at c.if-detail-ne-ORPHAN.false) c.count.ensures) c.add_slots.ensures
+returns c =
+    let s = c.args_of.ensures c.requires.i_in_bounds.0 in
+    grew_by (orphan_slots c.args.g.now.nodes.records.stmts.now c.args.args.now c.args.g.now.nodes.falls.now c.args.g.now.dispatched.now _ _ c.args.i _ _ _ (rw c.word.ensures at c.if-word-ne-NEXT.false) (rw c.detail.ensures at c.if-detail-ne-ORPHAN.false) refl) (rw (s.0, s.1) at c.add_slots.ensures)

@@ -1,11 +1,11 @@
 -- `put_targets`: the continuations of the first i nodes are listed. Assumes nothing.
-use Rattle.std.proofs.Common.{rules, ℕ, suc, ◌≡◌, refl, sym, ap, ◌∙◌, arith}
-use Rattle.std.proofs.Math.Numerals.{add-one}
+use Rattle.std.proofs.Common.{rules, ℕ, suc, ◌≡◌, refl, ap, ◌∙◌, arith}
 use Rattle.graph_laws.specs.Adding.{decode}
 use Rattle.tables.specs.Columns.{continuation_entry}
 use Rattle.passes.specs.ReturnTargets.{continuation_decoded, continuation-le, one_more, target_none, targets_none, targets_more, targets_listed}
-use Rattle.wiring.specs.Places as place
+use Rattle.tables.specs.OneMore as table
 use Rattle.wiring.proofs.return_targets.put_targets.Goals as goal
+use Rattle.wiring.proofs.return_targets.put_targets.Goals.{in-Some, in_default}
 
 pub loop-i-init : goal.loop-i-init
 loop-i-init c = (
@@ -26,31 +26,32 @@ put_target-requires c = (
 
 pub loop-i-preserved : goal.loop-i-preserved
 loop-i-preserved c =
+    let g = c.args.g.now.nodes in
     let l = c.loop-i.invariant.1 in
-    let p = c.put_target.ensures in
-    let e = rw c.in-Some.is at c.continuation.ensures in
-    let d = ap (λ (x : ℕ). decode x) (sym (add-one c.in-Some.a) ∙ e) ∙ continuation_decoded c.args.g.now.nodes.records.stmts.now c.args.g.now.nodes.falls.now c.loop-i.i in (
-      omega (arith, c.loop-i.invariant.0, one_more (suc c.in-Some.a) p.is),
-      record {
-        same_reference = p.same_reference ∙ l.same_reference;
-        size = p.size ∙ l.size;
-        is = rw c.requires.fresh (targets_more 4096 (continuation_entry c.args.g.now.nodes.records.stmts.now c.args.g.now.nodes.falls.now) _ c.loop-i.i _ _ _ _ (decode (suc c.in-Some.a)) _ _ (rw c.requires.fresh at l.is) d p.is);
-      },
-    )
-
-pub loop-i-preserved-in_default : goal.loop-i-preserved-in_default
-loop-i-preserved-in_default c =
-    let l = c.loop-i.invariant.1 in
-    let t = place.one_more c.continuation.result in
-    let z : t ≡ 0 = search rules in
-    let d = ap (λ (x : ℕ). decode x) c.continuation.ensures ∙ continuation_decoded c.args.g.now.nodes.records.stmts.now c.args.g.now.nodes.falls.now c.loop-i.i in (
-      omega (arith, c.loop-i.invariant.0),
-      record {
-        same_reference = l.same_reference;
-        size = l.size;
-        is = rw c.requires.fresh (targets_more 4096 (continuation_entry c.args.g.now.nodes.records.stmts.now c.args.g.now.nodes.falls.now) _ c.loop-i.i _ _ _ _ (decode t) _ _ (rw c.requires.fresh at l.is) d (target_none 4096 _ _ _ t l.is.marking z));
-      },
-    )
+    let d = ap (λ (x : ℕ). decode x) c.continuation.ensures ∙ continuation_decoded g.records.stmts.now g.falls.now c.loop-i.i in
+    elim c.match-continuation.branch [
+      | in-Some w ↦
+          let p = w.put_target.ensures in
+          rw (w.list-is, w.marks-is) (
+            omega (arith, c.loop-i.invariant.0, one_more (suc w.in-Some.a) p.is),
+            record {
+              same_reference = p.same_reference ∙ l.same_reference;
+              size = p.size ∙ l.size;
+              is = rw c.requires.fresh (targets_more 4096 (continuation_entry g.records.stmts.now g.falls.now) _ c.loop-i.i _ _ _ _ (decode (suc w.in-Some.a)) _ _ (rw c.requires.fresh at l.is) (rw w.in-Some.is at d) p.is);
+            },
+          )
+      | in_default w ↦
+          let t = table.one_more c.continuation.result in
+          let z : t ≡ 0 = search rules in
+          rw (w.list-is, w.marks-is) (
+            omega (arith, c.loop-i.invariant.0),
+            record {
+              same_reference = l.same_reference;
+              size = l.size;
+              is = rw c.requires.fresh (targets_more 4096 (continuation_entry g.records.stmts.now g.falls.now) _ c.loop-i.i _ _ _ _ (decode t) _ _ (rw c.requires.fresh at l.is) d (target_none 4096 _ _ _ t l.is.marking z));
+            },
+          )
+    ]
 
 pub returns : goal.returns
 returns c =

@@ -1,6 +1,7 @@
 -- `climb`: from the holder reached, by the holders that are left, as from the first. Assumes nothing.
 use Rattle.std.proofs.Common.{suc, ◌-◌, ◌≡◌, sym, ap, ◌∙◌}
-use Rattle.statements.specs.StatementAt.{climb, one_more}
+use Rattle.tables.specs.OneMore.{one_more}
+use Rattle.statements.specs.StatementAt.{climb}
 use Rattle.statements.specs.StatementLaws.{is_refused, not_refused, climb_end, climb-none, climb-outside, climb-deep, climb_leaf, climb_on}
 use Rattle.statements.proofs.statement.Statements.climb.Goals as goal
 use Rattle.statements.proofs.statement.Statements.climb.Goals.{then-self-node-via-then-self-node, then-self-node-via-else-self-node+then-record_outside, then-left-eq0-via-then-left-eq0, then-left-eq0-via-else-left-eq0+then-not-is_branching}

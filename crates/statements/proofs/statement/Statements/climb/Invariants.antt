@@ -1,6 +1,7 @@
 -- `climb`: from the holder reached, by the holders that are left, as from the first. Assumes nothing.
 use Rattle.std.proofs.Common.{◌≡◌}
-use Rattle.statements.specs.StatementAt.{climb, one_more}
+use Rattle.tables.specs.OneMore.{one_more}
+use Rattle.statements.specs.StatementAt.{climb}
 use Rattle.statements.proofs.statement.Statements.climb.Given as goal
 
 abbrev pub invariant-loop-at : goal.invariant-loop-at

@@ -2,7 +2,8 @@
 use Rattle.std.proofs.Common.{◌≡◌, refl, rules, arith}
 use Rattle.std.proofs.lemmas.Iterator.{YieldsList-from_range}
 use Rattle.std.proofs.lemmas.Iterator.Search.{find_from_yields_List}
-use Rattle.statements.specs.StatementAt.{stands_at, child_at, one_more}
+use Rattle.tables.specs.OneMore.{one_more}
+use Rattle.statements.specs.StatementAt.{stands_at, child_at}
 use Rattle.statements.specs.StatementLaws.{first_is}
 use Rattle.statements.proofs.statement.Statements.find.Goals as goal
 

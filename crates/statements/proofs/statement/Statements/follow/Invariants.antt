@@ -1,6 +1,7 @@
 -- `follow`: on from the node found, by the numbers that are left. Assumes nothing.
 use Rattle.std.proofs.Common.{◌≡◌, ◌≤◌, drop}
-use Rattle.statements.specs.StatementAt.{statement_from, one_more}
+use Rattle.tables.specs.OneMore.{one_more}
+use Rattle.statements.specs.StatementAt.{statement_from}
 use Rattle.statements.proofs.statement.Statements.follow.Given as goal
 
 abbrev pub invariant-loop-index : goal.invariant-loop-index

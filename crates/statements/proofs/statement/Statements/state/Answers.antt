@@ -1,7 +1,7 @@
 -- `state`: none, or the statement. Assumes nothing.
 use Rattle.std.proofs.Common.{refl, ap}
 use Rattle.std.proofs.lemmas.Result.{err_from_is_err_and}
-use Rattle.statements.specs.StatementAt.{one_more}
+use Rattle.tables.specs.OneMore.{one_more}
 use Rattle.statements.specs.StatementLaws.{refused_none, passed_some, no_stmt, the_stmt}
 use Rattle.statements.proofs.statement.Statements.state.Goals as goal
 

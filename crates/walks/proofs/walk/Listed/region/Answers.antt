@@ -2,7 +2,7 @@
 use Rattle.std.proofs.Common.{rules, refl, arith, ◌<◌}
 use Rattle.passes.specs.Walk.{stored_list}
 use Rattle.passes.specs.WalkLaws.{walk_start, walk_markable, walk_turn, walk_few, walk_end, walk_below, region_listed, stored_ids}
-use Rattle.passes.specs.RegionLaws.{read_stored}
+use Rattle.walks.specs.FromListed.{stored_in}
 use Rattle.walks.proofs.walk.Listed.region.Goals as goal
 
 pub loop-done-init : goal.loop-done-init
@@ -15,16 +15,13 @@ loop-done-init c =
 pub list-requires : goal.list-requires
 list-requires c =
     let s = c.args.self.now in
-    let stored = read_stored s.lists.now s.edges.now s.nodes.records.n s.readable in
-    rw c.from-v.ensures (walk_below s.nodes.records.n stored.ids c.requires c.loop-done.invariant c.loop-done.done c.loop-done-test.true)
+    rw c.from-v.ensures (walk_below s.nodes.records.n (stored_in s).ids c.requires c.loop-done.invariant c.loop-done.done c.loop-done-test.true)
 
 pub mark_all-count-requires : goal.mark_all-count-requires
 mark_all-count-requires c =
     let s = c.args.self.now in
-    let stored = read_stored s.lists.now s.edges.now s.nodes.records.n s.readable in
-    let next : c.from-v.result < s.nodes.records.n =
-    rw c.from-v.ensures (walk_below s.nodes.records.n stored.ids c.requires c.loop-done.invariant c.loop-done.done c.loop-done-test.true) in
-    walk_markable c.loop-done.invariant (stored_ids 4096 c.from-v.result _ stored s.nodes.records.few next c.list.ensures)
+    let next : c.from-v.result < s.nodes.records.n = rw c.from-v.ensures (walk_below s.nodes.records.n (stored_in s).ids c.requires c.loop-done.invariant c.loop-done.done c.loop-done-test.true) in
+    walk_markable c.loop-done.invariant (stored_ids 4096 c.from-v.result _ (stored_in s) s.nodes.records.few next c.list.ensures)
 
 pub loop-done-preserved : goal.loop-done-preserved
 loop-done-preserved c =
@@ -35,6 +32,5 @@ loop-done-preserved c =
 
 pub returns : goal.returns
 returns c =
-    let s = c.args.self.now in
-    region_listed (read_stored s.lists.now s.edges.now s.nodes.records.n s.readable) c.requires
+    region_listed (stored_in c.args.self.now) c.requires
     (omega (arith, walk_few c.loop-done.invariant, c.loop-done.invariant.work_size)) (walk_end _ _ _ _ _ _ _ c.loop-done-test.false c.loop-done.invariant)

@@ -1,6 +1,7 @@
 -- `entry_of`: the node in the row found. Assumes nothing.
-use Prim.Native.Nat.{◌+◌, ◌-◌}
-use mathlib.Core.Path.{◌≡◌, refl}
+use Prim.Native.Nat.{suc}
+use mathlib.Core.Path.{refl}
+use Rattle.std.proofs.Common.{sub-one}
 use native.Mathlib.Omega.{arith}
 use Rattle.passes.specs.LineSearch.{entry_none, entry_some}
 use Rattle.wiring.proofs.entries.Entries.entry_of.Goals as goal
@@ -10,5 +11,4 @@ returns-in-None c = entry_none c.args.self.now.rows.now c.args.self.now.count c.
 
 pub returns-in-Some : goal.returns-in-Some
 returns-in-Some c =
-    let e : c.in-Some.k + 1 - 1 ≡ c.in-Some.k = omega arith in
-    rw e at (entry_some c.args.self.now.rows.now c.args.self.now.count c.args.number (c.in-Some.k + 1) c.in-Some.ensures.found (omega arith))
+    rw c.node.ensures (rw sub-one at (entry_some c.args.self.now.rows.now c.args.self.now.count c.args.number (suc c.in-Some.k) c.in-Some.ensures.found (omega arith)))

@@ -3,6 +3,7 @@ use Prim.Native.Nat.{ℕ, ◌+◌, ◌-◌, ◌*◌, ◌/◌, ◌≤◌, ◌<◌
 use mathlib.Core.List.{List}
 use mathlib.Core.Path.{◌≡◌}
 use native.Mathlib.Omega.{arith}
+use Rattle.std.proofs.Common.{add-one}
 use lib.ListN.{length, get_or}
 use borrow.Author.Rules.{rules}
 use Rattle.tables.specs.EntryRows.{entry_column, column_length, column_at}
@@ -24,7 +25,7 @@ pub returns-then-at-number-clause-found : goal.returns-then-at-number-clause-fou
 returns-then-at-number-clause-found c =
     let l = c.loop-low in
     let m = at_middle c.args.self.now.rows.now c.args.self.now.count l.low l.high c.loop-low-test.true l.invariant.1 in
-    line_here _ c.args.number l.low l.high _ m.0 m.1 m.2 _ m.3 c.if-at-number.true
+    rw add-one at (line_here _ c.args.number l.low l.high _ m.0 m.1 m.2 _ m.3 c.if-at-number.true)
 
 pub loop-low-preserved-then-at-number-2 : goal.loop-low-preserved-then-at-number-2
 loop-low-preserved-then-at-number-2 c =

@@ -1,7 +1,7 @@
 -- `connect_stmt` and `connect_then_branch`, which call each other. Assumes nothing.
 use Prim.Native.Nat.{◌-◌, ◌+◌, ◌≤◌}
 use mathlib.Core.Bool.{not}
-use mathlib.Core.Path.{◌≡◌, refl, ap, ◌∙◌}
+use mathlib.Core.Path.{◌≡◌, ap}
 use native.Mathlib.Omega.{arith}
 use borrow.Author.Rules.{rules}
 use Rattle.std.specs.Prelude.{Err}
@@ -37,7 +37,7 @@ connect_stmt-returns t c =
     c.connect_row.ensures (rw q.1 at c.connect_then_branch.ensures) (rw q.1 at c.connect_then_branch-2.ensures)
 
 pub connect_then_branch-loop-i-init : goal.connect_then_branch-loop-i-init
-connect_then_branch-loop-i-init t c = (omega arith, omega arith, refl, λ es et d dd s sp ok q. branch-start _ _ _ _ _ _ _ _ es et d dd s sp ok q)
+connect_then_branch-loop-i-init t c = (omega arith, omega arith, λ es et d dd s sp ok q. branch-start _ _ _ _ _ _ _ _ es et d dd s sp ok q)
 
 pub connect_then_branch-returns-then-not-contains : goal.connect_then_branch-returns-then-not-contains
 connect_then_branch-returns-then-not-contains t c =
@@ -45,7 +45,7 @@ connect_then_branch-returns-then-not-contains t c =
     let l = c.loop-i in
     λ es et d dd s sp ok q.
     let r = branch_in _ _ _ _ _ _ _ _ es et d dd s sp ok q _ l.i c.loop-i-test.true
-    (l.invariant.3 es et d dd s sp ok q) in
+    (l.invariant.2 es et d dd s sp ok q) in
     let out : (l.i + 1 ≤ c.end-e.result) × (c.end-e.result ≤ a.end) → ⊥ = search rules in
     absurd (out (omega (arith, c.end-e.ensures, r.0), omega (arith, c.end-e.ensures, r.1)))
 
@@ -55,7 +55,7 @@ connect_then_branch-returns-in_err-connect_stmt t c =
     let l = c.loop-i in
     λ es et d dd s sp ok q.
     let r = branch-step _ _ _ _ _ _ _ _ es et d dd s sp ok q _ l.i c.loop-i-test.true
-    (l.invariant.3 es et d dd s sp ok q) _ _ _ _ c.end-e.ensures c.target_of-target.ensures c.connect_stmt.ensures in
+    (l.invariant.2 es et d dd s sp ok q) _ _ _ _ c.end-e.ensures c.target_of-target.ensures c.connect_stmt.ensures in
     not_both _ r.0 (ap (λ x. not (all_found x)) c.in_err-connect_stmt.was)
 
 pub connect_then_branch-loop-i-preserved : goal.connect_then_branch-loop-i-preserved
@@ -65,10 +65,9 @@ connect_then_branch-loop-i-preserved t c =
     let io : (l.i + 1 ≤ c.end-e.result) × (c.end-e.result ≤ c.args.end) = search rules in (
       omega (arith, io, l.invariant.0),
       io.1,
-      c.connect_stmt.auto.falls ∙ l.invariant.2,
       λ es et d dd s sp ok q.
           (branch-step _ _ _ _ _ _ _ _ es et d dd s sp ok q _ l.i c.loop-i-test.true
-          (l.invariant.3 es et d dd s sp ok q) _ _ _ _ c.end-e.ensures c.target_of-target.ensures c.connect_stmt.ensures).1,
+          (l.invariant.2 es et d dd s sp ok q) _ _ _ _ c.end-e.ensures c.target_of-target.ensures c.connect_stmt.ensures).1,
     )
 
 pub connect_then_branch-returns : goal.connect_then_branch-returns
@@ -76,4 +75,4 @@ connect_then_branch-returns t c =
     let a = c.args in
     λ es et d dd s sp ok q.
     branch_end _ _ _ _ _ _ _ _ es et d dd s sp ok q _ _ c.loop-i-test.false
-    (c.loop-i.invariant.3 es et d dd s sp ok q)
+    (c.loop-i.invariant.2 es et d dd s sp ok q)

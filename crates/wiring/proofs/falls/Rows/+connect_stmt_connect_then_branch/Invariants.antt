@@ -3,7 +3,6 @@
 -- The loop over a branch: the statements before i are connected. Assumes nothing.
 use Prim.Native.Nat.{ℕ, ◌≤◌, ◌+◌, ◌-◌, ◌*◌}
 use mathlib.Core.Path.{◌≡◌}
-use lib.ListN.{length}
 use Rattle.passes.specs.Connecting.{Gone}
 use Rattle.passes.specs.Falls.{Spans}
 use Rattle.passes.specs.LineSearch.{EntryTable}
@@ -20,7 +19,7 @@ decreases-connect_then_branch l = 2 * l.depth + 1
 
 abbrev pub invariant-connect_then_branch-loop-i : goal.invariant-connect_then_branch-loop-i
 invariant-connect_then_branch-loop-i l =
-    (l.from ≤ l.i) × (l.i ≤ l.end) × (length l.falls ≡ length l.initial.falls)
+    (l.from ≤ l.i) × (l.i ≤ l.end)
     × ((es : Entries) → EntryTable es l.self.entries.rows.now l.self.entries.count → (d : ℕ) → d + l.depth ≡ 17 → (s : Stmts) → Spans l.self.records.stmts.now l.from s → StmtsOk d s → l.end ≡ l.from + size s
     → Gone es l.from l.end l.next l.initial.falls l.falls l.i s)
 

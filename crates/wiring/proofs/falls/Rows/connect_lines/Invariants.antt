@@ -1,8 +1,6 @@
 -- `connect_lines`: the lines from l on are connected, `next` is the entry of the first of them and `end` its first
 -- node. Assumes nothing.
 use Prim.Native.Nat.{◌≤◌}
-use mathlib.Core.Path.{◌≡◌}
-use lib.ListN.{length}
 use Rattle.passes.specs.Connecting.{Ahead}
 use Rattle.passes.specs.Falls.{fall_rows}
 use Rattle.passes.specs.LineSearch.{EntryTable}
@@ -14,6 +12,6 @@ use Rattle.wiring.proofs.falls.Rows.connect_lines.Given as goal
 
 abbrev pub invariant-loop-l : goal.invariant-loop-l
 invariant-loop-l l =
-    (l.end ≤ l.self.records.n) × (length l.falls ≡ length l.initial.falls)
+    (l.end ≤ l.self.records.n)
     × ((ls : Lines) → LinesOk ls → EntryTable (definition.entries ls) l.self.entries.rows.now l.self.entries.count → StmtsHeld ls l.self.records.stmts.now l.self.records.n
     → Ahead (definition.entries ls) (fall_rows (definition.entries ls) (definition.nodes ls)) l.self.entries.rows.now l.self.records.stmts.now l.initial.falls l.falls l.l l.end l.next)

@@ -1,6 +1,0 @@
--- `flow_successors`: the question, then told. Assumes nothing.
-use Rattle.c_answers.specs.QuestionNumbers.{numbered_as}
-use Rattle.flowgraph.proofs.successors.flow_successors.Goals as goal
-
-pub returns : goal.returns
-returns c = numbered_as _ _ c.ask_successors.ensures c.number_of_answer.ensures

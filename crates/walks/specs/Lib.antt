@@ -1,0 +1,2 @@
+pub mod FromNodes
+pub mod FromListed
