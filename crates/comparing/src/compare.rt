@@ -52,8 +52,6 @@ fn row_behind(b: u8, i: usize, m: usize) -> usize
 }
 
 // How many bytes of a piece that begins a row are rows due. Such rows need no judge.
-// Kept: by place, at each byte of the graph due as `is_due` reads it: it can end before the piece does, where a `zip` would
-// stop as behind the last byte.
 fn rows_due(at: usize, due: &[u8], piece: &[u8]) -> usize
     ensures { RowsDue due.now at piece.now result }
 {

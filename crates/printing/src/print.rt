@@ -66,7 +66,6 @@ fn put_backs(page: &mut Page<'_>, records: &Records<'_>, falls: &[u16])
 }
 
 // The return targets in order.
-// Kept: the table and how many of it, since what is printed is told of the table (`returns_text`).
 fn put_returns(page: &mut Page<'_>, returns: &[u16], targets: usize)
     requires { targets ≤ length returns.now }
     ensures { Wrote page.old page.new (returns_text (take targets returns.now)) }
