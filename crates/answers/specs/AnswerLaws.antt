@@ -1,13 +1,13 @@
 -- From a question's words to its answer, as the code goes. Assumes nothing.
-use Rattle.std.specs.Prelude.{ℕ, ◌-◌, ◌≤◌, ◌<◌, ◌≡◌, refl, List, [], ◌∷◌, ◌++◌, map, Result, Ok, Err, Bool, true, false, leb, length, get_or, take, drop, replicate}
+use Rattle.std.specs.Prelude.{ℕ, ◌-◌, ◌≤◌, ◌<◌, ◌≡◌, refl, List, [], ◌∷◌, ◌++◌, map, Result, Ok, Err, Bool, false, leb, length, get_or, take, drop, replicate}
 use Rattle.std.proofs.Common.{sym, ap, ◌∙◌, subst, arith, not-suc-le-zero, length-drop, length-append, take_at}
 use Rattle.std.proofs.lemmas.List.{length-map}
 use borrow.Author.Tests.{le-leb, lt-leb}
-use Rattle.listings.specs.Bytes.{bytes, pick}
+use Rattle.listings.specs.Bytes.{bytes}
 use Rattle.listings.specs.Listing.{Name}
 use Rattle.listings.specs.Records.{padded}
 use Rattle.listings.specs.Rows.{split, row_of, Parse, malformed, invalid, parsed, map_parse, with_parse, parse_number, parse_numbers, single}
-use Rattle.listings.specs.Read.{taken, or_refused, check}
+use Rattle.listings.specs.Read.{Outcome, taken, or_refused, check}
 use Rattle.listings.specs.Scan.{split-some}
 use Rattle.layout.specs.declared.refusals.Reason.{Reason}
 use Rattle.layout.specs.declared.refusals.Reason.TheVariants as reason
@@ -23,7 +23,7 @@ use Rattle.formatting.specs.declared.page.Page.{Page}
 use Rattle.graph.specs.Questions.{Reply, answer}
 use Rattle.frame_lists.specs.FrameAt.{frame_at}
 use Rattle.frame_slices.specs.FrameAnswer.{FrameAnswered, length_of, slice_after}
-use Rattle.answers.specs.Flowask.{Question, of_path, of_frame, by_number, path_question, form_question, row_question, path_length, short, question, list_row, reply_row, outcome_row, row_answer}
+use Rattle.answers.specs.Flowask.{Question, of_path, of_frame, by_number, path_question, form_question, row_question, path_length, short, question, list_row, reply_row}
 use Rattle.answers.specs.AnswersAt.{frame_answer}
 use Rattle.answers.specs.QuestionWords.{number_question}
 use Rattle.answers.specs.declared.words.ByNumber.{ByNumber}
@@ -115,57 +115,54 @@ path_verdict (l ∷ ws) h = refusal_with of_path (parse_number l) (parse_numbers
 pub refused_on : {p q : Page} (r : Reason) (k : ℕ) (x : Refusal) {l : List ℕ} → x ≡ refusal_at r k → printed_refusal (number_of r) k ≡ l → Wrote p q (printed_refusal (number_of x.reason) x.place) → Wrote p q l
 refused_on r k x e h w = wrote_is (ap (λ (y : Refusal). printed_refusal (number_of y.reason) y.place) e ∙ h) w
 
-module _ (f : Question → List ℕ) (k : ℕ) where
-  -- by document 01's number
-  pub refused_by : (p : Parse Question) (r : Reason) → verdict p ≡ Err r → printed_refusal (number_of r) k ≡ outcome_row f k (or_refused p short)
-  unfolding outcome_row or_refused
-  refused_by malformed r e = ap (λ (m : ℕ). printed_refusal m k) (verdict_number {A = Question} malformed r e)
-  refused_by invalid r e = ap (λ (m : ℕ). printed_refusal m k) (verdict_number {A = Question} invalid r e)
-  refused_by (parsed q) r e = cc
+-- by document 01's number
+pub refused_by : (p : Parse Question) (r : Reason) → verdict p ≡ Err r → or_refused p short ≡ Outcome.refused (number_of r)
+unfolding or_refused
+refused_by malformed r e = ap (λ (m : ℕ). Outcome.refused m) (sym (verdict_number {A = Question} malformed r e))
+refused_by invalid r e = ap (λ (m : ℕ). Outcome.refused m) (sym (verdict_number {A = Question} invalid r e))
+refused_by (parsed q) r e = cc
 
-  pub asked_frame : (p : Parse Question) (h i : ℕ) (v : Name) (g : Bool) → p ≡ parsed (of_frame h i v g) → f (of_frame h i v g) ≡ outcome_row f k (or_refused p short)
-  unfolding outcome_row or_refused short check path_length
-  asked_frame p h i v g e = rw e
+pub asked_frame : (p : Parse Question) (h i : ℕ) (v : Name) (g : Bool) → p ≡ parsed (of_frame h i v g) → or_refused p short ≡ taken (of_frame h i v g)
+unfolding or_refused short check path_length
+asked_frame p h i v g e = rw e refl
 
-  asked_path : (p : Parse Question) (l : ℕ) (ns : List ℕ) → p ≡ parsed (of_path l ns) → outcome_row f k (or_refused p short) ≡ pick (leb (length ns) 64) (f (of_path l ns)) (printed_refusal 8 k)
-  unfolding outcome_row or_refused short check path_length
-  asked_path p l ns e = rw e (go (leb (length ns) 64))
-    where
-      go : (t : Bool) → outcome_row f k (check t 8 (taken (of_path l ns))) ≡ pick t (f (of_path l ns)) (printed_refusal 8 k)
-      go true = refl
-      go false = refl
+asked_path : (p : Parse Question) (l : ℕ) (ns : List ℕ) → p ≡ parsed (of_path l ns) → or_refused p short ≡ check (leb (length ns) 64) 8 (taken (of_path l ns))
+unfolding or_refused short path_length
+asked_path p l ns e = rw e refl
 
-  -- the words of a path, as they were judged
-  module _ (s : List ℕ) (x : Checked) (e : x ≡ checked (length (split 32 s)) (lowest_of (refusal_by false) (split 32 s))) where
-    abbrev ws : List (List ℕ)
-    ws = split 32 s
+-- the words of a path, as they were judged
+module _ (s : List ℕ) (x : Checked) (e : x ≡ checked (length (split 32 s)) (lowest_of (refusal_by false) (split 32 s))) where
+  abbrev ws : List (List ℕ)
+  ws = split 32 s
 
-    abbrev ns : List ℕ
-    ns = map (entry_by false) (split 32 s)
+  abbrev ns : List ℕ
+  ns = map (entry_by false) (split 32 s)
 
-    verdict_is : x.verdict ≡ lowest_of (refusal_by false) ws
-    verdict_is = ap (λ (c : Checked). c.verdict) e
+  verdict_is : x.verdict ≡ lowest_of (refusal_by false) ws
+  verdict_is = ap (λ (c : Checked). c.verdict) e
 
-    pub path_refused : (r : Reason) → x.verdict ≡ Err r → printed_refusal (number_of r) k ≡ outcome_row f k (or_refused (path_question (split 32 s)) short)
-    path_refused r h = refused_by (path_question ws) r (path_verdict ws (split-some 32 s) ∙ sym verdict_is ∙ h)
+  pub path_refused : (r : Reason) → x.verdict ≡ Err r → or_refused (path_question (split 32 s)) short ≡ Outcome.refused (number_of r)
+  path_refused r h = refused_by (path_question ws) r (path_verdict ws (split-some 32 s) ∙ sym verdict_is ∙ h)
 
-    pub count_is : x.count ≡ length (split 32 s)
-    count_is = ap (λ (c : Checked). c.count) e
+  pub count_is : x.count ≡ length (split 32 s)
+  count_is = ap (λ (c : Checked). c.count) e
 
-    module _ (h : x.verdict ≡ Ok tt) where
-      parsed_is : path_question ws ≡ parsed (of_path (get_or ns 0 0) (drop 1 ns))
-      parsed_is =
-          let d = read_ok (path_question ws) tt (path_verdict ws (split-some 32 s) ∙ sym verdict_is ∙ h) in
-          d.1 ∙ ap parsed (path_is ws d.0 d.1)
+  module _ (h : x.verdict ≡ Ok tt) where
+    parsed_is : path_question ws ≡ parsed (of_path (get_or ns 0 0) (drop 1 ns))
+    parsed_is =
+        let d = read_ok (path_question ws) tt (path_verdict ws (split-some 32 s) ∙ sym verdict_is ∙ h) in
+        d.1 ∙ ap parsed (path_is ws d.0 d.1)
 
-      long : length (drop 1 ns) ≡ x.count - 1
-      long = length-drop 1 ns ∙ omega (arith, length-map ws (entry_by false), count_is)
+    long : length (drop 1 ns) ≡ x.count - 1
+    long = length-drop 1 ns ∙ omega (arith, length-map ws (entry_by false), count_is)
 
-      pub path_8 : 65 < x.count → printed_refusal 8 k ≡ outcome_row f k (or_refused (path_question (split 32 s)) short)
-      path_8 m = sym (asked_path (path_question ws) (get_or ns 0 0) (drop 1 ns) parsed_is ∙ ap (λ (t : Bool). pick t (f (of_path (get_or ns 0 0) (drop 1 ns))) (printed_refusal 8 k)) (lt-leb (length (drop 1 ns)) 64 (omega (arith, long))))
+    pub path_8 : 65 < x.count → or_refused (path_question (split 32 s)) short ≡ Outcome.refused 8
+    unfolding check
+    path_8 m = asked_path (path_question ws) (get_or ns 0 0) (drop 1 ns) parsed_is ∙ ap (λ (t : Bool). check t 8 (taken (of_path (get_or ns 0 0) (drop 1 ns)))) (lt-leb (length (drop 1 ns)) 64 (omega (arith, long)))
 
-      pub path_answered : x.count ≤ 65 → f (of_path (get_or (map (entry_by false) (split 32 s)) 0 0) (drop 1 (map (entry_by false) (split 32 s)))) ≡ outcome_row f k (or_refused (path_question (split 32 s)) short)
-      path_answered m = sym (asked_path (path_question ws) (get_or ns 0 0) (drop 1 ns) parsed_is ∙ ap (λ (t : Bool). pick t (f (of_path (get_or ns 0 0) (drop 1 ns))) (printed_refusal 8 k)) (le-leb (length (drop 1 ns)) 64 (omega (arith, long))))
+    pub path_answered : x.count ≤ 65 → or_refused (path_question (split 32 s)) short ≡ taken (of_path (get_or (map (entry_by false) (split 32 s)) 0 0) (drop 1 (map (entry_by false) (split 32 s))))
+    unfolding check
+    path_answered m = asked_path (path_question ws) (get_or ns 0 0) (drop 1 ns) parsed_is ∙ ap (λ (t : Bool). check t 8 (taken (of_path (get_or ns 0 0) (drop 1 ns)))) (le-leb (length (drop 1 ns)) 64 (omega (arith, long)))
 
 -- the numbers in the room for them
 pub front_is : (ns r xs : List ℕ) (n : ℕ) → xs ≡ ns ++ r → n ≡ length ns → take n xs ≡ ns
@@ -173,12 +170,11 @@ front_is ns r xs n e q = rw (e, q) (take_at ns r (length ns) refl)
 
 -- ---- a question of one number
 
-module _ (f : Question → List ℕ) (k : ℕ) (s : List ℕ) (w : ByNumber) where
+module _ (s : List ℕ) (w : ByNumber) where
   pub number_refused : (x : Result ℕ Reason) (r : Reason) → x ≡ as_number (single (split 32 s)) → x ≡ Err r
-      → printed_refusal (number_of r) k ≡ outcome_row f k (or_refused (form_question (by_number (number_question w)) (split 32 s)) short)
+      → or_refused (form_question (by_number (number_question w)) (split 32 s)) short ≡ Outcome.refused (number_of r)
   unfolding form_question map_parse
-  number_refused x r q h =
-      refused_by f k (map_parse (number_question w) (single (split 32 s))) r (go (single (split 32 s)) (sym q ∙ h))
+  number_refused x r q h = refused_by (map_parse (number_question w) (single (split 32 s))) r (go (single (split 32 s)) (sym q ∙ h))
     where
       go : (g : Parse ℕ) → as_number g ≡ Err r → verdict (map_parse (number_question w) g) ≡ Err r
       go malformed y = let z : reason.NotAForm ≡ r = cc in ap Err z
@@ -192,15 +188,14 @@ module _ (f : Question → List ℕ) (k : ℕ) (s : List ℕ) (w : ByNumber) whe
   no_path of.Statement n = refl
   no_path of.Entry n = refl
 
-  taken_number : (r : Parse Question) (n : ℕ) → r ≡ parsed (number_question w n) → outcome_row f k (or_refused r short) ≡ f (number_question w n)
-  unfolding outcome_row or_refused short check
-  taken_number r n q = rw (q, no_path w n)
+  taken_number : (r : Parse Question) (n : ℕ) → r ≡ parsed (number_question w n) → or_refused r short ≡ taken (number_question w n)
+  unfolding or_refused short check
+  taken_number r n q = rw (q, no_path w n) refl
 
   pub number_answered : (x : Result ℕ Reason) (n : ℕ) → x ≡ as_number (single (split 32 s)) → x ≡ Ok n
-      → f (number_question w n) ≡ outcome_row f k (or_refused (form_question (by_number (number_question w)) (split 32 s)) short)
+      → or_refused (form_question (by_number (number_question w)) (split 32 s)) short ≡ taken (number_question w n)
   unfolding form_question map_parse
-  number_answered x n q h =
-      sym (taken_number (map_parse (number_question w) (single (split 32 s))) n (go (single (split 32 s)) (sym q ∙ h)))
+  number_answered x n q h = taken_number (map_parse (number_question w) (single (split 32 s))) n (go (single (split 32 s)) (sym q ∙ h))
     where
       go : (r : Parse ℕ) → as_number r ≡ Ok n → map_parse (number_question w) r ≡ parsed (number_question w n)
       go malformed y = absurd (let z : ◌≡◌ {A = ℕ} 0 1 = cc in omega arith)
@@ -209,11 +204,11 @@ module _ (f : Question → List ℕ) (k : ℕ) (s : List ℕ) (w : ByNumber) whe
 
 -- ---- a whole row
 
-module _ (f : Question → List ℕ) (k : ℕ) (w : List ℕ) where
-  pub row_refused : row_question (row_of w) ≡ malformed → printed_refusal 2 k ≡ row_answer f k w
-  unfolding row_answer question
-  row_refused e = refused_by f k (row_question (row_of w)) reason.NotAForm (ap verdict e)
+module _ (w : List ℕ) where
+  pub row_refused : row_question (row_of w) ≡ malformed → question w ≡ Outcome.refused 2
+  unfolding question
+  row_refused e = refused_by (row_question (row_of w)) reason.NotAForm (ap verdict e)
 
-  pub row_answered : (p : Parse Question) → row_question (row_of w) ≡ p → outcome_row f k (or_refused p short) ≡ row_answer f k w
-  unfolding row_answer question
-  row_answered p e = ap (λ (z : Parse Question). outcome_row f k (or_refused z short)) (sym e)
+  pub row_answered : (p : Parse Question) → row_question (row_of w) ≡ p → or_refused p short ≡ question w
+  unfolding question
+  row_answered p e = ap (λ (z : Parse Question). or_refused z short) (sym e)

@@ -1,6 +1,6 @@
 -- The rows of answers, by what the tables say, whoever wrote them. Assumes nothing.
-use Rattle.std.specs.Prelude.{ℕ, ◌+◌, ◌≤◌, List, [], ◌∷◌, Bool, true, false, ◌≡◌, refl, length, get_or, take, drop, Result, Ok, Err}
-use Rattle.std.proofs.Common.{sym, ap, ◌∙◌}
+use Rattle.std.specs.Prelude.{ℕ, ◌+◌, ◌-◌, ◌≤◌, List, [], ◌∷◌, Bool, true, false, ◌≡◌, refl, length, get_or, take, drop, Result, Ok, Err}
+use Rattle.std.proofs.Common.{arith, subst}
 use Rattle.std.specs.Prelude as std
 use Rattle.listings.specs.Bytes.{bytes}
 use Rattle.listings.specs.Listing.{Name}
@@ -15,12 +15,14 @@ use Rattle.adjacency.specs.EntryAt.{entry_at, node_of}
 use Rattle.statements.specs.StatementAt.{path_statement, node_statement}
 use Rattle.frame_lists.specs.FrameAt.{frame_at}
 use Rattle.layout.specs.declared.refusals.Refusal.{Refusal}
+use Rattle.listings.specs.Read.{Outcome, taken}
+use Rattle.layout.specs.declared.refusals.Reason.{Reason}
 use Rattle.layout.specs.Refusals.{number_of}
 use Rattle.tables.specs.Told.{told, told_by}
 use Rattle.formatting.specs.Pages.{Wrote, wrote_is}
 use Rattle.formatting.specs.declared.page.Page.{Page}
 use Rattle.answers.specs.declared.asked.QuestionTables.{QuestionTables}
-use Rattle.answers.specs.Flowask.{Question, of_successors, of_predecessors, of_statement, of_entry, of_path, of_frame, list_row, stmt_row, reply_row}
+use Rattle.answers.specs.Flowask.{Question, of_successors, of_predecessors, of_statement, of_entry, of_path, of_frame, list_row, stmt_row, reply_row, outcome_row}
 
 -- ---- each question
 
@@ -67,10 +69,27 @@ Answered p q (Err r) l = (q ≡ p) × (printed_refusal (number_of r.reason) r.pl
 pub answered_is : (p q : Page) {k l : List ℕ} (r : Result (Unit {0}) Refusal) → k ≡ l → Answered p q r k → Answered p q r l
 answered_is p q r e a = rw e at a
 
--- the refusal printed after all
-pub refusal_printed : (p q : Page) {s : Page} {l : List ℕ} (r : Result (Unit {0}) Refusal) (x : Refusal) → r ≡ Err x → Answered p q r l → Wrote q s (printed_refusal (number_of x.reason) x.place) → Wrote p s l
-refusal_printed p q (Ok u) x e a w = cc
-refusal_printed p q (Err y) x e a w = let z : y ≡ x = cc in rw a.0 at (wrote_is (ap (λ (r : Refusal). printed_refusal (number_of r.reason) r.place) (sym z) ∙ a.1) w)
+-- the same of a row that asks o, and f answers: with no question in it there is only the reason, and no place yet
+abbrev pub RowAnswered : Page → Page → Result (Result (Unit {0}) Refusal) Reason → (Question → List ℕ) → Outcome Question → Type 0
+RowAnswered p q (Ok r) f o = (x : Question) × (o ≡ taken x) × Answered p q r (f x)
+RowAnswered p q (Err n) f o = (q ≡ p) × (o ≡ Outcome.refused (number_of n))
+
+pub asked_so : (p q : Page) (r : Result (Result (Unit {0}) Refusal) Reason) (f : Question → List ℕ) {o u : Outcome Question} → o ≡ u → RowAnswered p q r f o → RowAnswered p q r f u
+asked_so p q r f e a = rw e at a
+
+-- row k of the questions
+module _ {p q : Page} (f : Question → List ℕ) (k : ℕ) {o : Outcome Question} where
+  pub row_put : {u : Unit {0}} → RowAnswered p q (Ok (Ok u)) f o → Wrote p q (outcome_row f k o)
+  unfolding outcome_row
+  row_put a = rw a.1 a.2
+
+  pub row_turned : {s : Page} (x : Refusal) → RowAnswered p q (Ok (Err x)) f o → Wrote q s (printed_refusal (number_of x.reason) x.place) → Wrote p s (outcome_row f k o)
+  unfolding outcome_row
+  row_turned {s} x a w = rw a.1 (wrote_is a.2.1 (subst (λ (z : Page). Wrote z s (printed_refusal (number_of x.reason) x.place)) a.2.0 w))
+
+  pub row_malformed : {s : Page} (n : Reason) → RowAnswered p q (Err n) f o → Wrote q s (printed_refusal (number_of n) k) → Wrote p s (outcome_row f k o)
+  unfolding outcome_row
+  row_malformed {s} n a w = rw a.1 (subst (λ (z : Page). Wrote z s (printed_refusal (number_of n) k)) a.0 w)
 
 -- ---- the rows of the code's answers
 
@@ -80,9 +99,9 @@ entry_row std.None = list_row (bytes "(entry") []
 
 -- they are those of the replies
 module _ (w table : List ℕ) (q : Reply (ℕ × ℕ)) where
-  pub list_is : (d : ℕ × ℕ) → told (Ok d) ≡ q → list_row w (take d.1 (drop d.0 table)) ≡ reply_row (list_row w) (list_reply q table)
+  pub list_is : (a n : ℕ) → told (Ok (a, n)) ≡ q → list_row w (take (a + n - a) (drop a table)) ≡ reply_row (list_row w) (list_reply q table)
   unfolding reply_row list_reply
-  list_is d e = rw (← e) refl
+  list_is a n e = let z : a + n - a ≡ n = omega arith in rw (z, ← e) refl
 
   pub no_list : (r : Refusal) → told (Err r) ≡ q → printed_refusal (number_of r.reason) r.place ≡ reply_row (list_row w) (list_reply q table)
   unfolding reply_row list_reply

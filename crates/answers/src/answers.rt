@@ -4,8 +4,8 @@ ghost use Rattle.listings.specs.Rows.{split};
 ghost use Rattle.listings.specs.Read.{or_refused};
 ghost use Rattle.reader.specs.Operands.{entry_by};
 ghost use Rattle.formatting.specs.Pages.{Wrote};
-ghost use Rattle.answers.specs.Flowask.{path_question, frame_question, form_question, short, outcome_row, row_answer};
-ghost use Rattle.answers.specs.AnswersAt.{path_answer, frame_answer, answer_of, Answered};
+ghost use Rattle.answers.specs.Flowask.{path_question, frame_question, form_question, question, short, row_answer};
+ghost use Rattle.answers.specs.AnswersAt.{path_answer, frame_answer, answer_of, Answered, RowAnswered};
 ghost use Rattle.answers.specs.QuestionWords.{form_at, number_question};
 
 use crate::asked::QuestionTables;
@@ -27,7 +27,8 @@ use tokens::numbers::number;
 const MAX_PATH_WORDS: usize = MAX_ARGS + 1;
 
 // By the opening word; n is a line's number for an entry, else a node.
-// Kept: here and below functions of a page and of tables, no methods: each is named by what it puts, and writes the page.
+// Kept: here and below functions of a page and of tables: as methods of `QuestionTables` they would take the page as
+// they do now, and only `g` would stand elsewhere.
 fn put_by_number(
     page: &mut Page<'_>,
     g: &QuestionTables<'_>,
@@ -79,25 +80,23 @@ fn put_path(page: &mut Page<'_>, g: &QuestionTables<'_>, numbers: &[u16]) -> Res
     Ok(())
 }
 
-// L N .., of row k of the questions: 2 goes before 3, and 3 before 8.
-// Kept: `k` goes along, here and below: were rows judged first and refusals given their place by the caller, what was
-// judged would be an enum of all questions, a path's numbers among them.
+// L N ..: 2 goes before 3, and 3 before 8. Here and below, an outer `Err` is of a row that asks nothing; its place is
+// the row's, which `answer_row` has.
 fn answer_path(
     page: &mut Page<'_>,
     g: &QuestionTables<'_>,
-    k: usize,
     s: &[u8],
-) -> Result<(), Refusal>
-    ensures { Answered page.old page.new result (outcome_row (answer_of g.now) k (or_refused (path_question (split 32 s.now)) short)) }
+) -> Result<Result<(), Refusal>, Reason>
+    ensures { RowAnswered page.old page.new result (answer_of g.now) (or_refused (path_question (split 32 s.now)) short) }
 {
     let words = check_all(s, Arguments::Numbers);
-    words.verdict.map_err(|reason| reason.at(k))?;
+    words.verdict?;
     if MAX_PATH_WORDS < words.count {
-        return Err(Reason::TooWide.at(k));
+        return Err(Reason::TooWide);
     }
     let mut room = all_of::<u16, MAX_PATH_WORDS>(0);
     fill_numbers(s, &mut room);
-    put_path(page, g, &room[..words.count])
+    Ok(put_path(page, g, &room[..words.count]))
 }
 
 // The row of a frame list, or its refusal; there is room for all nodes.
@@ -120,35 +119,33 @@ fn put_frame(page: &mut Page<'_>, g: &QuestionTables<'_>, w: &FrameWords<'_>) ->
     Ok(())
 }
 
-// H N V F, of row k of the questions.
+// H N V F.
 fn answer_frame(
     page: &mut Page<'_>,
     g: &QuestionTables<'_>,
-    k: usize,
     s: &[u8],
-) -> Result<(), Refusal>
-    ensures { Answered page.old page.new result (outcome_row (answer_of g.now) k (or_refused (frame_question (split 32 s.now)) short)) }
+) -> Result<Result<(), Refusal>, Reason>
+    ensures { RowAnswered page.old page.new result (answer_of g.now) (or_refused (frame_question (split 32 s.now)) short) }
 {
-    let w = frame_words(s).map_err(|reason| reason.at(k))?;
-    put_frame(page, g, &w)
+    let w = frame_words(s)?;
+    Ok(put_frame(page, g, &w))
 }
 
-// The words s after the opening word, of row k of the questions.
+// The words s after the opening word.
 fn answer_words(
     page: &mut Page<'_>,
     g: &QuestionTables<'_>,
-    k: usize,
     form: Form,
     s: &[u8],
-) -> Result<(), Refusal>
-    ensures { Answered page.old page.new result (outcome_row (answer_of g.now) k (or_refused (form_question (form_at form) (split 32 s.now)) short)) }
+) -> Result<Result<(), Refusal>, Reason>
+    ensures { RowAnswered page.old page.new result (answer_of g.now) (or_refused (form_question (form_at form) (split 32 s.now)) short) }
 {
     match form {
-        Form::Path => answer_path(page, g, k, s),
-        Form::Frame => answer_frame(page, g, k, s),
+        Form::Path => answer_path(page, g, s),
+        Form::Frame => answer_frame(page, g, s),
         Form::Number(word) => {
-            let n = single_number(s).map_err(|reason| reason.at(k))?;
-            put_by_number(page, g, word, n)
+            let n = single_number(s)?;
+            Ok(put_by_number(page, g, word, n))
         }
     }
 }
@@ -157,20 +154,21 @@ fn answer_words(
 fn put_answer(
     page: &mut Page<'_>,
     g: &QuestionTables<'_>,
-    k: usize,
     w: &[u8],
-) -> Result<(), Refusal>
-    ensures { Answered page.old page.new result (row_answer (answer_of g.now) k w.now) }
+) -> Result<Result<(), Refusal>, Reason>
+    ensures { RowAnswered page.old page.new result (answer_of g.now) (question w.now) }
 {
-    let o = open_row(w).ok_or(Reason::NotAForm.at(k))?;
-    answer_words(page, g, k, o.form, o.words)
+    let o = open_row(w).ok_or(Reason::NotAForm)?;
+    answer_words(page, g, o.form, o.words)
 }
 
 // Row k of the questions: the answer's row, or the refusal's.
 pub(crate) fn answer_row(page: &mut Page<'_>, g: &QuestionTables<'_>, k: usize, w: &[u8])
     ensures { Wrote page.old page.new (row_answer (answer_of g.now) k w.now) }
 {
-    if let Err(refusal) = put_answer(page, g, k, w) {
-        page.put_refusal(refusal);
+    match put_answer(page, g, w) {
+        Ok(Ok(())) => {}
+        Ok(Err(refusal)) => page.put_refusal(refusal),
+        Err(reason) => page.put_refusal(reason.at(k)),
     }
 }

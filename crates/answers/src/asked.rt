@@ -1,8 +1,9 @@
 // The tables that questions are answered from, whoever wrote them.
 
 // Kept: beside `Graph`, which has two more that no question reads: whoever asks would have to name these too.
-// Kept: no `FrameTables` among them: tried; the borrow checker does not cover a struct filled from tables whose lifetimes
-// differ.
+// Kept: no `FrameTables` among them: tried, in place and by a function that takes one: `ask_text` fills it from lent
+// tables, and as it goes on into this struct, the borrow checker does not cover "a reference at an intersection of
+// lifetimes".
 #[derive(Clone, Copy)]
 pub struct QuestionTables<'a> {
     pub counts: &'a [u32; 6],

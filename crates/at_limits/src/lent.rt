@@ -7,8 +7,8 @@ use layout::limits::{
 };
 
 // Calls a routine with all tables between an input and what it writes.
-// Kept: a macro, since a method that is handed the routine as a closure would have the eleven tables named at each call
-// again.
+// Kept: a macro: a method that takes the routine by its name would name the eleven tables in its bound, in its clause
+// and at its call; here they stand once.
 #[macro_export]
 macro_rules! with_tables {
     ($routine:path, $input:expr, $t:ident, $out:expr) => {

@@ -167,7 +167,8 @@ fn run_at(file: &[u8], c: Cursor) -> Result<Found<Action>, Lack>
 }
 
 // The statement whose first byte is b; c stands behind it.
-// Kept: a byte and a cursor, not a `Token`: `put_args` has them from a row's `Simple`, which keeps no place.
+// Kept: a byte and a cursor, not a `Token`: its place is not asked, and `put_args`, which is told the same, has the two
+// from a row's `Simple`, which keeps none.
 pub fn action_at(file: &[u8], b: u8, c: Cursor) -> Result<Found<Action>, Lack>
     ensures { found_by (tokens_at file.now) result ≡ map_found coded (action (fuel file.now c) b (tokens_at file.now c)) }
 {

@@ -88,8 +88,7 @@ impl LineAt<'_> {
     }
 
     // An offence, or the first 64 hexadecimal of the line.
-    // Kept: a `match`, whose arms are the definition's cases (`with_foreign`); below, `or_foreign` in both arms: the offence by
-    // a name of its own would be as many lines.
+    // Kept: a `match`, whose arms are the definition's cases (`with_foreign`).
     fn or_foreign(&self, zero: usize, o: Option<Refusal>) -> Option<Refusal>
         requires { EndsLine self.now.file.now self.now.at zero }
         ensures { offence_in result ≡ with_foreign (first_foreign (bytes_at self.now.file.now self.now.at)) (offence_in o) }
@@ -107,10 +106,11 @@ impl LineAt<'_> {
     {
         let end = self.file.len();
         let cut = (zero == end).then_some(Reason::EndsEarly.at(end));
-        match body {
-            Err(lack) => self.or_foreign(zero, Some(sooner(lack.into(), cut))),
-            Ok(_) => self.or_foreign(zero, cut),
-        }
+        let o = match body {
+            Err(lack) => Some(sooner(lack.into(), cut)),
+            Ok(_) => cut,
+        };
+        self.or_foreign(zero, o)
     }
 
     // The least offence of the line, whose number is n.

@@ -5,8 +5,8 @@ use super::cursors::Cursor;
 
 // What is due next: the module's row, a line or the module's end, a statement or the end of its list, the row of a jump
 // branch to a number, `(stmts`, rows `)`, nothing.
-// Kept: `Ended`, and no `Option` of a source: `row_at`, which is public, answers none there, so that callers have one
-// loop.
+// Kept: `Ended`, and no `Option` of a source behind a row: tried, and `prglist` takes some 20 instructions more for
+// each row (1,000 lines of three plain statements 4.94 million, 4.82).
 #[derive(Clone, Copy)]
 pub enum Stage {
     Module,

@@ -19,8 +19,8 @@ abbrev pub SomeFed : (due : List ℕ) → Standing → Type 0
 SomeFed due z = (g : List ℕ) × (z ≡ fed due (same 0 start) g)
 
 -- the row is the definition's for the text and some bytes
-abbrev pub SomeChecked : (text row : List ℕ) → ℕ → Type 0
-SomeChecked text row n = (g : List ℕ) × Whole row n (flowcheck text g)
+abbrev pub SomeChecked : (text row : List ℕ) → Type 0
+SomeChecked text row = (g : List ℕ) × (row ≡ flowcheck text g)
 
 pub fed-none : (due : List ℕ) (z : Standing) → z ≡ same 0 start → SomeFed due z
 unfolding fed
@@ -30,9 +30,9 @@ pub fed_piece : (due piece : List ℕ) (y z : Standing) → SomeFed due y → z 
 fed_piece due piece y z h e = (h.0 ++ piece, e ∙ ap (λ (x : Standing). fed due x piece) h.1 ∙ sym (fed-append due (same 0 start) h.0 piece))
 
 pub pieces_checked : (text empty page row : List ℕ) (x : BuiltAnswer) (n r : ℕ) (z : Standing) (v : Result (Unit {0}) Refusal) → ListedWhole text empty page x n → SomeFed (take n page) z
-    → verdict_of v ≡ concluded x z (take n page) → Whole row r (shown (verdict_of v)) → SomeChecked text row r
+    → verdict_of v ≡ concluded x z (take n page) → Whole row r (shown (verdict_of v)) → SomeChecked text (take r row)
 unfolding flowcheck flowlist
 pieces_checked text empty page row x n r z v l h q w = (
   h.0,
-  rw (q ∙ ap (λ (y : Standing). concluded x y (take n page)) h.1 ∙ concluded_so limits text h.0 (take n page) x l.answer l.whole.bytes) at w,
+  w.bytes ∙ ap shown (q ∙ ap (λ (y : Standing). concluded x y (take n page)) h.1 ∙ concluded_so limits text h.0 (take n page) x l.answer l.whole.bytes),
 )

@@ -52,6 +52,8 @@ fn row_behind(b: u8, i: usize, m: usize) -> usize
 }
 
 // How many bytes of a piece that begins a row are rows due. Such rows need no judge.
+// Kept: by place, at each byte of the graph due as `is_due` reads it: tried as a `zip` with what is left of that graph,
+// under `enumerate`, and proved, but each byte took two instructions more, and `flowcheck` 3 % more.
 fn rows_due(at: usize, due: &[u8], piece: &[u8]) -> usize
     ensures { RowsDue due.now at piece.now result }
 {

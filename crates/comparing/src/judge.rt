@@ -15,7 +15,8 @@ use tokens::numbers::{is_digit, with_digit};
 // What is left of a form, where `#` is a number, `*` numbers with a space before each and `%` numbers with a space
 // between them; in a list, one more number may come first.
 // Kept: forms are texts with three signs, as the definition's `row_forms` are, from which they are checked.
-// Kept: `list` beside what is left, and no `Option` of it: both are read at each byte.
+// Kept: `list` beside what is left, and no enum of an open list and none: what is left is there in both, and each
+// reader would take it out by a `match`.
 #[derive(Clone, Copy)]
 pub struct Place {
     left: &'static [u8],

@@ -1,9 +1,10 @@
 -- The tables that `flowask` lends suffice at all limits, and so does the room for the answers: what it writes is what the definition's `flowask` says. Assumes nothing.
 use Rattle.std.specs.Prelude.{ℕ, ◌≤◌, ◌<◌, ◌≡◌, List}
 use Rattle.std.proofs.Math.Path.{refl, ap}
-use Rattle.std.proofs.Common.{◌∙◌, arith}
+use Rattle.std.proofs.Common.{arith}
+use Rattle.layout.specs.declared.refusals.Refusal.{Refusal}
+use Rattle.layout.specs.Refusals.{number_of, number_small}
 use Rattle.std.proofs.Math.ListN.{length}
-use Rattle.std.proofs.Math.Seq.{length-sets}
 use borrow.Author.Tests.{le-leb, lt-leb}
 use Rattle.graph.specs.Print.{printed_refusal}
 use Rattle.graph.specs.Build.{Capacity, limits}
@@ -22,23 +23,21 @@ pub asked-limits : (text : List ℕ) (s : Sizes) (c l t a e f k i r u p out out'
 asked-limits text s c l t a e f k i r u p out out' n hl ht ha he hf hk hi hr hu hp g =
     puts_is (ap (λ (z : Capacity). ask_text z text) (at_limits s hl ht ha he hf hk hi hr hu hp)) g.asked
 
+-- a refusal, in the room that there is
+pub refused-whole : (r : Refusal) (out out' : List ℕ) (n : ℕ) → length out ≡ 2097153 → r.place < 18446744073709551616 → Puts out 0 out' n (printed_refusal (number_of r.reason) r.place) → Whole out' n (printed_refusal (number_of r.reason) r.place)
+refused-whole r out out' n room h g =
+    puts_whole out out' (printed_refusal (number_of r.reason) r.place) n (omega (arith, refusal_length (number_of r.reason) r.place (omega (arith, number_small r.reason)) (omega arith))) g
+
 -- by the length of the text and of the answers: there is room for one byte more than they may have
-module _ (text out : List ℕ) (room : length out ≡ 2097153) where
-  refused-whole : (number place : ℕ) (out' out'' : List ℕ) (r : ℕ) → number ≤ 28 → place ≤ 2097152 → length out' ≡ length out → Puts out' 0 out'' r (printed_refusal number place) → Whole out'' r (printed_refusal number place)
-  refused-whole number place out' out'' r hn hp e g =
-      puts_whole out' out'' (printed_refusal number place) r (omega (arith, refusal_length number place (omega arith) (omega arith))) g
-
-  pub too_long : (out' : List ℕ) (r : ℕ) → 262144 < length text → Puts out 0 out' r (printed_refusal 1 0) → Whole out' r (flowask text)
+module _ (text : List ℕ) where
+  pub too_long : 262144 < length text → printed_refusal 1 0 ≡ flowask text
   unfolding flowask
-  too_long out' r h g = rw (lt-leb (length text) 262144 h) (refused-whole 1 0 out out' r (omega arith) (omega arith) refl g)
+  too_long h = rw (lt-leb (length text) 262144 h) refl
 
-  module _ (short : length text ≤ 262144) (out' : List ℕ) (r : ℕ) (g : Puts out 0 out' r (ask_text limits text)) where
-    pub too_many : (out'' : List ℕ) (n : ℕ) → 2097152 < r → Puts out' 0 out'' n (printed_refusal 28 2097152) → Whole out'' n (flowask text)
+  module _ (short : length text ≤ 262144) (out out' : List ℕ) (room : length out ≡ 2097153) (r : ℕ) (g : Puts out 0 out' r (ask_text limits text)) where
+    pub too_many : 2097152 < r → printed_refusal 28 2097152 ≡ flowask text
     unfolding flowask in_room
-    too_many out'' n h p =
-        let e : length out' ≡ length out = ap length g.bytes ∙ length-sets out 0 (ask_text limits text) in
-        rw (le-leb (length text) 262144 short, lt-leb (length (ask_text limits text)) 2097152 (omega (arith, g.next)))
-        (refused-whole 28 2097152 out' out'' n (omega arith) (omega arith) e p)
+    too_many h = rw (le-leb (length text) 262144 short, lt-leb (length (ask_text limits text)) 2097152 (omega (arith, g.next))) refl
 
     pub all-answered : r ≤ 2097152 → Whole out' r (flowask text)
     unfolding flowask in_room

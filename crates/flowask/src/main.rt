@@ -1,9 +1,11 @@
 // A listing with questions on standard input; their answers, or the listing's refusal, on standard output.
 #![tactic(auto)]
 
+ghost use Rattle.std.specs.Prelude.{◌≡◌};
 ghost use Rattle.graph.specs.Build.{limits};
+ghost use Rattle.graph.specs.Print.{printed_refusal};
+ghost use Rattle.layout.specs.Refusals.{number_of};
 ghost use Rattle.formatting.specs.Printing.{Puts};
-ghost use Rattle.formatting.specs.Whole.{Whole};
 ghost use Rattle.answers.specs.Flowask.{ask_text, flowask};
 
 use asking::ask::ask_text;
@@ -11,7 +13,7 @@ use at_limits::lent::Tables;
 use at_limits::with_tables;
 use filling::read_full;
 use formatting::page::print_refusal;
-use layout::refusals::Reason;
+use layout::refusals::{Reason, Refusal};
 use std::io::Write;
 
 // So many bytes a text may have, questions and all.
@@ -21,7 +23,7 @@ const MAX_TEXT: usize = 262144;
 const MAX_ANSWERS: usize = 2097152;
 
 // With tables that suffice at all limits.
-// Kept: a length, here and below, as `formatting::page::print_bytes` answers.
+// Kept: a length, as `formatting::page::print_bytes` answers: it tells whether the answers are too long.
 fn ask_at_limits(text: &[u8], out: &mut [u8]) -> usize
     ensures { Puts out.old 0 out.new result (ask_text limits text.now) }
 {
@@ -29,18 +31,26 @@ fn ask_at_limits(text: &[u8], out: &mut [u8]) -> usize
     with_tables!(ask_text, text, t, out)
 }
 
+// A refusal alone.
+fn refuse(out: &mut [u8; MAX_ANSWERS + 1], refusal: Refusal) -> &[u8]
+    ensures { result.now ≡ printed_refusal (number_of refusal.reason) refusal.place }
+{
+    let r = print_refusal(out, refusal);
+    &out[..r]
+}
+
 // There is room for a byte more than the answers may have, so that the length tells whether they are too long.
-fn ask(text: &[u8], out: &mut [u8; MAX_ANSWERS + 1]) -> usize
-    ensures { Whole out.new result (flowask text.now) }
+fn ask<'a>(text: &[u8], out: &'a mut [u8; MAX_ANSWERS + 1]) -> &'a [u8]
+    ensures { result.now ≡ flowask text.now }
 {
     if MAX_TEXT < text.len() {
-        return print_refusal(out, Reason::TextTooLong.at(0));
+        return refuse(out, Reason::TextTooLong.at(0));
     }
     let r = ask_at_limits(text, out);
     if MAX_ANSWERS < r {
-        return print_refusal(out, Reason::NoRoom.at(MAX_ANSWERS));
+        return refuse(out, Reason::NoRoom.at(MAX_ANSWERS));
     }
-    r
+    &out[..r]
 }
 
 // The text ends where the input does; one that goes on past the room for it is refused by its length.
@@ -49,6 +59,6 @@ fn main(rt: HostRuntime) {
     let mut text = [0u8; MAX_TEXT + 1];
     let mut out = [0u8; MAX_ANSWERS + 1];
     let n = read_full(&mut rt.stdin(), &mut text);
-    let r = ask(&text[..n], &mut out);
-    let _ = rt.stdout().write_all(&out[..r]);
+    let answers = ask(&text[..n], &mut out);
+    let _ = rt.stdout().write_all(answers);
 }

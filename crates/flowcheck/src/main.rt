@@ -118,15 +118,15 @@ fn compare_file(file: &mut File, due: &[u8]) -> Comparing
 }
 
 // The row for a listing's text and a graph in a file: the definition's for some bytes, those that `compare_file` feeds.
-// Kept: a length, as `formatting::page::print_bytes` answers.
-fn check_file(text: &[u8], file: &mut File, row: &mut [u8; MAX_ROW]) -> usize
-    ensures { SomeChecked text.now row.new result }
+fn check_file<'a>(text: &[u8], file: &mut File, row: &'a mut [u8; MAX_ROW]) -> &'a [u8]
+    ensures { SomeChecked text.now result.now }
 {
     let mut page = [0u8; MAX_PRINTED];
     let listed = list_text(text, &mut page);
     let due = &page[..listed.len];
     let s = compare_file(file, due);
-    show_verdict(row, conclude(listed.built, s, due))
+    let r = show_verdict(row, conclude(listed.built, s, due));
+    &row[..r]
 }
 
 // The row for the files that the arguments name. Both are opened before anything is judged, and both are read to their
@@ -142,9 +142,9 @@ fn check_named<'a>(
     let mut text = [0u8; MAX_BYTES + 1];
     let n = read_full(&mut listing.file, &mut text);
     expect_text_end(n, &mut listing)?;
-    let r = check_file(&text[..n], &mut graph.file, row);
+    let shown = check_file(&text[..n], &mut graph.file, row);
     expect_end(&mut graph)?;
-    Ok(&row[..r])
+    Ok(shown)
 }
 
 // Prints the row where both files could be read.

@@ -5,7 +5,6 @@ ghost use Rattle.graph.specs.Questions.{kept, if_room};
 ghost use Rattle.frame_slices.specs.FrameAnswer.{FrameAnswered};
 
 use layout::refusals::{Reason, Refusal};
-use layout::zeroing::fill_behind;
 use tables::lists::holds;
 
 // How many successors of a NEXT the header has too: the length of its frame list.
@@ -34,7 +33,7 @@ pub fn copy_list(list: &[u16], out: &mut [u16]) -> Result<usize, Refusal>
         return Err(Reason::NoRoom.at(len));
     }
     out[..len].copy_from_slice(list);
-    fill_behind(out, len, 0);
+    out[len..].fill(0);
     Ok(len)
 }
 
@@ -47,7 +46,7 @@ pub fn keep_shared(list: &[u16], header: &[u16], out: &mut [u16]) -> Result<usiz
         return Err(Reason::NoRoom.at(count));
     }
     store_kept(list, header, out);
-    fill_behind(out, count, 0);
+    out[count..].fill(0);
     Ok(count)
 }
 

@@ -1,5 +1,5 @@
 -- The dispatched FORs that have a body, in reading order, as the tables have them. Assumes nothing.
-use Rattle.std.specs.Prelude.{ℕ, zero, suc, ◌+◌, ◌*◌, ◌≤◌, ◌≡◌, Bool, false, not, List, [], ◌∷◌, ◌++◌, eqb, length, take, drop}
+use Rattle.std.specs.Prelude.{ℕ, zero, suc, ◌+◌, ◌*◌, ◌≤◌, ◌≡◌, Bool, false, not, List, [], ◌∷◌, ◌++◌, eqb, length, take}
 use Rattle.std.proofs.Common.{sym, ap, ◌∙◌, take_all}
 use Rattle.std.proofs.Math.Option.{Option, none, some}
 use native.Mathlib.Omega.{arith}
@@ -17,8 +17,8 @@ use Rattle.graph.specs.NodeWords.{stmt_number}
 use Rattle.graph.specs.Targets.{on_for, on_simple, dispatch_target, dispatch_targets}
 use Rattle.passes.specs.ListedNodes.{StmtListed, Listed, FallsListed, ForKind, is_for, is_next, is_other, for_kind, for_number, next_number}
 use Rattle.passes.specs.Growing.{each_snoc}
-use Rattle.passes.specs.Sets.{one_if, Put}
-use Rattle.passes.specs.ListedWhere.{listed_where, where_few}
+use Rattle.passes.specs.Sets.{one_if}
+use Rattle.passes.specs.ListedWhere.{listed_where}
 use Rattle.passes.specs.LineEntries.{at_place}
 
 -- ts: the records; es: where nodes fall. A FOR, dispatched, that falls:
@@ -28,15 +28,6 @@ is_dispatched ts es k = pick (eqb (get_or ts (k * 12) 0) for_word) (pick (eqb (g
 -- those among the nodes below n
 abbrev pub dispatched_ids : List ℕ → List ℕ → ℕ → List ℕ
 dispatched_ids ts es = listed_where (is_dispatched ts es)
-
--- they are the first r entries; what stands behind is as it was
-pub record DispatchedTo (ts es : List ℕ) (n : ℕ) (ds ds' : List ℕ) (r : ℕ) : Type 0 where
-  pub few : r ≤ n
-  pub listed : take r ds' ≡ dispatched_ids ts es n
-  pub rest : drop r ds' ≡ drop r ds
-
-pub dispatched_put : (ts es : List ℕ) (n : ℕ) (ds ds' : List ℕ) (r : ℕ) → Put ds 0 ds' r (dispatched_ids ts es n) → DispatchedTo ts es n ds ds' r
-dispatched_put ts es n ds ds' r a = record { few = omega (arith, a.count, where_few (is_dispatched ts es) n); listed = a.list; rest = a.rest }
 
 -- ---- the test
 

@@ -1,8 +1,10 @@
 -- What is printed, in terms of the tables that hold a graph; and what the tables must be for it to be read off them. Assumes nothing.
-use Prim.Native.Nat.{ℕ, zero, suc, ◌+◌, ◌*◌, ◌-◌, ◌<◌, ◌≤◌}
-use Rattle.std.specs.Prelude.{◌≡◌, refl, true, false, Option, Some, None, List, [], ◌∷◌, ◌++◌, length, get_or}
+use Prim.Native.Nat.{ℕ, zero, suc, ◌+◌, ◌*◌, ◌-◌, ◌/◌, ◌<◌, ◌≤◌}
+use Rattle.std.specs.Prelude.{◌≡◌, refl, true, false, Option, Some, None, List, [], ◌∷◌, ◌++◌, length, get_or, take, drop}
 use Rattle.std.specs.Option.{SomeIff, option_to_list}
-use Rattle.std.proofs.Common.{sym, ◌∙◌, append_assoc, append-nil, arith, length-append}
+use Rattle.std.specs.Simd.{first_chunks}
+use Rattle.std.proofs.Common.{sym, ◌∙◌, append_assoc, append-nil, arith, length-append, length-take-le}
+use Rattle.std.proofs.lemmas.List.{get_or-take, get_or-drop}
 use Rattle.std.proofs.Math.Path.{ap}
 use Rattle.std.proofs.Math.Numerals.{sub-one}
 use Rattle.listings.specs.Bytes.{bytes, decimal, pick}
@@ -152,6 +154,26 @@ pub wrote_entry : {p q : Page} (entries : List ℕ) (k x : ℕ) → x ≡ get_or
     → Wrote p q (entry_text entries k)
 unfolding entry_text
 wrote_entry entries k x e a = rw e at a
+
+-- row i of those before n, by itself
+chunk_at : (k : ℕ) (t : List ℕ) (i j : ℕ) (d : List ℕ) → i < k → j < 2 → get_or (get_or (first_chunks 2 k t) i d) j 0 ≡ get_or t (i * 2 + j) 0
+chunk_at zero t i j d h b = absurd (omega arith)
+chunk_at (suc k) t zero j d h b = let e : j ≡ 0 * 2 + j = omega arith in get_or-take 2 t j 0 b ∙ ap (λ (z : ℕ). get_or t z 0) e
+chunk_at (suc k) t (suc i) j d h b =
+    let e : 2 + (i * 2 + j) ≡ suc i * 2 + j = omega arith in
+    chunk_at k (drop 2 t) i j d (omega arith) b ∙ get_or-drop 2 t (i * 2 + j) 0 ∙ ap (λ (z : ℕ). get_or t z 0) e
+
+module _ (entries : List ℕ) (n : ℕ) (rows : List (List ℕ)) (fit : n * 2 ≤ length entries) (e : rows ≡ first_chunks 2 (length entries / 2) entries) (many : length rows ≡ length entries / 2) where
+  pub row_count : length (take n rows) ≡ n
+  row_count = length-take-le n rows (omega (arith, many))
+
+  pub row_alone : (i : ℕ) → i < n → entry_text (get_or (take n rows) i []) 0 ≡ entry_text entries i
+  unfolding entry_text
+  row_alone i h =
+      let r : get_or (take n rows) i [] ≡ get_or (first_chunks 2 (length entries / 2) entries) i [] = get_or-take n rows i [] h ∙ ap (λ (l : List (List ℕ)). get_or l i []) e in
+      let f : (j : ℕ) → j < 2 → get_or (get_or (take n rows) i []) j 0 ≡ get_or entries (i * 2 + j) 0 = λ j b.
+      ap (λ (l : List ℕ). get_or l j 0) r ∙ chunk_at (length entries / 2) entries i j [] (omega arith) b in
+      ap (λ (x : ℕ). some_text (bytes "(entry") x (get_or (get_or (take n rows) i []) 1 0)) (f 0 (omega arith)) ∙ ap (some_text (bytes "(entry") (get_or entries (i * 2 + 0) 0)) (f 1 (omega arith))
 
 pub wrote_back : {p q : Page} (stmts falls : List ℕ) (i : ℕ) → call_word (word_of stmts i) ≡ true → Wrote p q (some_text (bytes "(back") i (get_or falls (i * 3) 0)) → Wrote p q (back_text stmts falls i)
 unfolding back_text

@@ -16,7 +16,7 @@ use wiring::build::build_input;
 pub const MAX_PRINTED: usize = 1048576;
 
 // Prints the graph that the tables hold, on a page of its own.
-// Kept: what the tables hold in a `requires`, as print_nodes::put_node.
+// Kept: what the tables hold in a `requires`, as `print_graph`.
 fn print_counted(g: &Graph<'_>, out: &mut [u8]) -> usize
     requires { SomeGraphFrom g.now }
     ensures { GraphPrintedFrom g.now out.old out.new result }

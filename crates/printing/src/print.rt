@@ -1,5 +1,5 @@
 // The printed graph.
-ghost use Rattle.std.specs.Prelude.{◌≡◌, ◌+◌, ◌*◌, ◌≤◌, length, take};
+ghost use Rattle.std.specs.Prelude.{◌≡◌, ◌+◌, ◌*◌, ◌≤◌, length};
 ghost use Rattle.std.specs.Option.{option_to_list};
 ghost use Rattle.graph.specs.Lists.{each, below};
 ghost use Rattle.formatting.specs.Pages.{Wrote, pair_text};
@@ -23,14 +23,12 @@ fn put_some(page: &mut Page<'_>, word: &[u8], a: usize, node: Option<usize>)
     }
 }
 
-// The entry in row k; no row where there is none.
-// Kept: by the row's place: the definition prints row k of the table (`entry_text`).
-fn put_entry(page: &mut Page<'_>, entries: &[u16], k: usize)
-    requires { k * ENTRY_ENTRIES + ENTRY_ENTRIES ≤ length entries.now }
-    ensures { Wrote page.old page.new (entry_text entries.now k) }
+// The entry in a row of the table; no row where there is none.
+fn put_entry(page: &mut Page<'_>, row: &[u16; ENTRY_ENTRIES])
+    ensures { Wrote page.old page.new (entry_text row.now 0) }
 {
-    let number = usize::from(entries[k * ENTRY_ENTRIES + ENTRY_NUMBER]);
-    let node = usize::from(entries[k * ENTRY_ENTRIES + ENTRY_NODE]).checked_sub(1);
+    let number = usize::from(row[ENTRY_NUMBER]);
+    let node = usize::from(row[ENTRY_NODE]).checked_sub(1);
     put_some(page, b"(entry", number, node);
 }
 
@@ -39,8 +37,9 @@ fn put_entries(page: &mut Page<'_>, entries: &[u16], rows: usize)
     requires { rows * ENTRY_ENTRIES ≤ length entries.now }
     ensures { Wrote page.old page.new (each (entry_text entries.now) (below rows)) }
 {
-    for k in 0..rows {
-        put_entry(page, entries, k);
+    let (all, _) = entries.as_chunks::<ENTRY_ENTRIES>();
+    for row in &all[..rows] {
+        put_entry(page, row);
     }
 }
 
@@ -66,16 +65,16 @@ fn put_backs(page: &mut Page<'_>, records: &Records<'_>, falls: &[u16])
 }
 
 // The return targets in order.
-fn put_returns(page: &mut Page<'_>, returns: &[u16], targets: usize)
-    requires { targets ≤ length returns.now }
-    ensures { Wrote page.old page.new (returns_text (take targets returns.now)) }
+fn put_returns(page: &mut Page<'_>, returns: &[u16])
+    ensures { Wrote page.old page.new (returns_text returns.now) }
 {
-    page.put_list(b"(returns", &returns[..targets]);
+    page.put_list(b"(returns", returns);
     page.put_bytes(b")\n");
 }
 
 // Prints the graph that the tables hold.
-// Kept: what the tables hold in a `requires`, as put_node.
+// Kept: what the tables hold in a `requires`, here and at `print_counted` alone: a struct with it as a ghost field
+// would be made for these two.
 pub(crate) fn print_graph(g: &Graph<'_>, page: &mut Page<'_>)
     requires { SomeGraphFrom g.now }
     ensures { GraphWroteFrom g.now page.old page.new }
@@ -88,7 +87,7 @@ pub(crate) fn print_graph(g: &Graph<'_>, page: &mut Page<'_>)
     page.put_bytes(b"\n");
     put_nodes(page, g, &records);
     put_entries(page, g.entries, used.rows());
-    put_returns(page, g.returns, used.targets());
+    put_returns(page, &g.returns[..used.targets()]);
     put_backs(page, &records, g.falls);
     page.put_bytes(b")\n");
 }

@@ -52,8 +52,8 @@ fn put_lists(page: &mut Page<'_>, g: &Graph<'_>, i: usize)
 }
 
 // The row of node i.
-// Kept: what can be read in a `requires`; no plainer in a ghost field, where it would stand in `∥ ∥₁`, and each reader's
-// proof would have to open it.
+// Kept: what can be read in a `requires`: it ties a graph to its records, so a ghost field would want a struct of both,
+// made for these two functions.
 fn put_node(page: &mut Page<'_>, g: &Graph<'_>, records: &Records<'_>, i: usize)
     requires { (i < records.now.n) × NodesReadableFrom g.now records.now }
     ensures { Wrote page.old page.new (node_text_from g.now records.now i) }
@@ -65,7 +65,7 @@ fn put_node(page: &mut Page<'_>, g: &Graph<'_>, records: &Records<'_>, i: usize)
 }
 
 // The rows of all nodes.
-// Kept: a `requires`, as `put_node`.
+// Kept: what can be read in a `requires`, as `put_node`.
 pub(crate) fn put_nodes(page: &mut Page<'_>, g: &Graph<'_>, records: &Records<'_>)
     requires { NodesReadableFrom g.now records.now }
     ensures { Wrote page.old page.new (each (node_text_from g.now records.now) (below records.now.n)) }

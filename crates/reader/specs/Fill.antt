@@ -8,8 +8,6 @@ use Rattle.reader.specs.Tables.{append_row}
 use Rattle.reader.specs.CodedRows.{place_number, as_row, cond_index, Said}
 use Rattle.reader.specs.AcceptedRows.{uncounted}
 use Rattle.reader.specs.Machine.{State}
-use Rattle.reader.specs.declared.fill.Branch.{Branch}
-use Rattle.reader.specs.declared.fill.Branch.TheVariants as branch
 use Rattle.tokens.specs.declared.words.Cond.{Cond}
 use Rattle.reader.specs.declared.rows.Row.TheVariants as row
 use Rattle.reader.specs.declared.fill.Walk.{Walk}
@@ -68,11 +66,6 @@ held_back (suc i) = omega arith
 
 abbrev pub entry_of : State → Walk → (word end : ℕ) → Given → Entry
 entry_of s w k e g = record { word = k; line = s.lines - 1; holder = held w.holder; index = w.index; end = e; count = g.count; detail = g.detail }
-
--- the form and the number of a branch, as its record has them
-abbrev pub branch_columns : Branch → ℕ × ℕ
-branch_columns branch.Stmts = (1, 0)
-branch_columns (branch.To n) = (2, n)
 
 abbrev pub branch_stmts : List ℕ → ℕ → Bool → (form number n : ℕ) → List ℕ
 branch_stmts t i true form number n = set (set t (i * 12 + 8) form) (i * 12 + 9) number

@@ -8,6 +8,7 @@ pub mod Machine
 pub mod MachineLaws
 pub mod AcceptedRows
 pub mod Judge
+pub mod Branch
 pub mod Fill
 pub mod Holds
 pub mod FillLaws

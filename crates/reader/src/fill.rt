@@ -2,20 +2,21 @@
 ghost use Rattle.std.specs.Prelude.{◌≡◌, true, false, ◌+◌, ◌*◌, ◌-◌, ◌≤◌, ◌<◌, length, set, eqb, Ok};
 ghost use Rattle.listings.specs.Read.{start};
 ghost use Rattle.listings.specs.Cut.{meant};
+ghost use Rattle.reader.specs.Branch.{branch_columns};
 ghost use Rattle.reader.specs.Lent.{ReadyIn, RecordedIn, ZeroedIn, FilledIn};
-ghost use Rattle.reader.specs.Fill.{held, entry_of, branch_columns, branch_stmts, end_table, to_table, end_walk, outside_walk, added_walk, inside_walk, add_simple, add_cond, OperandsPut, Wrote, Ready, EndReady, ToReady, AddReady, HasRoom};
+ghost use Rattle.reader.specs.Fill.{held, entry_of, branch_stmts, end_table, to_table, end_walk, outside_walk, added_walk, inside_walk, add_simple, add_cond, OperandsPut, Wrote, Ready, EndReady, ToReady, AddReady, HasRoom};
 ghost use Rattle.reader.specs.CodedRows.{cond_index, is_second};
 ghost use Rattle.reader.specs.Machine.{as_state};
 ghost use Rattle.reader.specs.States.{state_of};
 ghost use Rattle.reader.specs.RowOperands.{operands_in, row_operands, IsStatement, RowReady};
 
+use super::branch::Branch;
 use super::machine::State;
 use super::operands::{Given, put_operands};
 use super::rows::{Position, Row, Which, accepted_row};
 use super::tables::{Entry, Records, append, fetch, store};
 use layout::columns::{
     ARG_ENTRIES, END, FORM1, FORM2, HOLDER, INDEX, NUMBER1, NUMBER2, SECOND, STMT_ENTRIES,
-    STMTS_BRANCH, TO_BRANCH,
 };
 use layout::limits::{MAX_ARGS, MAX_LINES, MAX_STMTS};
 use layout::words::IF;
@@ -48,24 +49,20 @@ impl Place {
             walk: Walk::default(),
         }
     }
-}
 
-// What a branch holds: statements, or the number of a line.
-// Kept: the reader writes it and the wiring reads it back; one type of both would stand in layout, for two functions.
-#[derive(Clone, Copy)]
-enum Branch {
-    Stmts,
-    To(u16),
-}
-
-impl Branch {
-    // Its form and its number as the record has them.
-    fn columns(self) -> (u16, u16)
-        ensures { result ≡ branch_columns self }
+    // What is known of a statement at its row. A holder is stored as one more than its node, and 0 is none.
+    fn entry(&self, word: usize, end: usize, g: Given) -> Entry
+        requires { (0 < self.now.state.lines) × (self.now.state.lines ≤ MAX_LINES) × (held self.now.walk.holder ≤ MAX_STMTS) × (word ≤ 28) × (end ≤ MAX_STMTS) × (g.count ≤ MAX_ARGS) }
+        ensures { result ≡ entry_of (state_of self.now.state) self.now.walk word end g }
     {
-        match self {
-            Branch::Stmts => (STMTS_BRANCH, 0),
-            Branch::To(n) => (TO_BRANCH, n),
+        Entry {
+            word: word as u16,
+            line: (self.state.lines - 1) as u16,
+            holder: self.walk.holder.map_or(0, |i| i + 1),
+            index: self.walk.index,
+            end: end as u16,
+            count: g.count as u16,
+            detail: g.detail,
         }
     }
 }
@@ -124,29 +121,13 @@ fn to_row(t: &mut [u16], p: &Place, n: u16) -> Walk
     p.walk
 }
 
-// What is known of a statement at its row. A holder is stored as one more than its node, and 0 is none.
-fn record_entry(p: &Place, word: usize, end: usize, g: Given) -> Entry
-    requires { (0 < p.now.state.lines) × (p.now.state.lines ≤ MAX_LINES) × (held p.now.walk.holder ≤ MAX_STMTS) × (word ≤ 28) × (end ≤ MAX_STMTS) × (g.count ≤ MAX_ARGS) }
-    ensures { result ≡ entry_of (state_of p.now.state) p.now.walk word end g }
-{
-    Entry {
-        word: word as u16,
-        line: (p.state.lines - 1) as u16,
-        holder: p.walk.holder.map_or(0, |i| i + 1),
-        index: p.walk.index,
-        end: end as u16,
-        count: g.count as u16,
-        detail: g.detail,
-    }
-}
-
 // The record of a statement that holds none; the next one stands beside it.
 fn add_simple(stmts: &mut [u16], p: &Place, word: usize, given: Given) -> Walk
     requires { AddReady stmts.old (state_of p.now.state) p.now.walk word × (given.count ≤ MAX_ARGS) }
     ensures { (result ≡ added_walk p.now.walk) × (stmts.new ≡ add_simple stmts.old (state_of p.now.state) p.now.walk word given) }
 {
     let n = p.state.stmts;
-    append(stmts, n, record_entry(p, word, n + 1, given));
+    append(stmts, n, p.entry(word, n + 1, given));
     Walk {
         holder: p.walk.holder,
         index: p.walk.index + 1,
@@ -160,7 +141,7 @@ fn add_cond(stmts: &mut [u16], p: &Place, word: Cond) -> Walk
 {
     let k = usize::from(IF) + word as usize;
     let n = p.state.stmts;
-    append(stmts, n, record_entry(p, k, 0, Given::default()));
+    append(stmts, n, p.entry(k, 0, Given::default()));
     Walk {
         holder: Some(n as u16),
         index: 0,
@@ -221,7 +202,7 @@ fn write_text_row(text: &[u8], t: &mut Records<'_>, p: &Place, row: Row) -> Walk
 }
 
 // The rows again, each of which was taken before.
-// Kept: `while let`, as `judge`.
+// Kept: `while let`: an iterator of rows, as at `judge`, would be a struct whose `next` is this call.
 pub(crate) fn fill(text: &[u8], t: &mut Records<'_>)
     requires { ZeroedIn (meant text.now) t.old }
     ensures { FilledIn (meant text.now) t.old t.new }

@@ -55,7 +55,8 @@ impl Branches {
     }
 
     // The same when that branch has ended.
-    // Kept: by hand, and no `From<u64>`: it is the way back of `digit`, and of numbers that are no digit nothing is meant.
+    // Kept: by hand, and no `From<u64>`: it takes `digit` back and counts the branch that has ended; of numbers that
+    // are no digit nothing is meant.
     fn behind(digit: u64) -> Branches
         ensures { (result.word ≡ cond_by (digit / 2)) × (result.read ≡ digit % 2 + 1) }
     {
@@ -72,8 +73,8 @@ impl Branches {
 // last: the last line's number. lines, stmts: how many were begun.
 // depth, open_conds: the IFs in whose branches the next row stands, packed to the base 8, the innermost lowest.
 // branches: of the IF whose branches are due; elsewhere none of an If.
-// Kept: the open IFs as one number; of an array what stood above `depth` would say something too, and equal states
-// would differ.
+// Kept: the open IFs as one number, as the state in specs/ has them (`open_conds`): of an array `state_of`, by which
+// the clauses speak of a state, would have to leave out what stands above `depth`.
 // Kept: `branches` beside the position; one that carried them could not be what a misfit names as due, and a second
 // enum of the same five places without them would be its twin.
 #[derive(Clone, Copy)]

@@ -3,7 +3,7 @@ ghost use Rattle.std.specs.Prelude.{◌≡◌, true, map, ◌≤◌, length, tak
 ghost use Rattle.listings.specs.Rows.{split};
 ghost use Rattle.listing_laws.specs.RowForms.{join};
 ghost use Rattle.tokens.specs.Arguments.{are_slots};
-ghost use Rattle.reader.specs.Operands.{entry_by, tier_entry, mark_entry, head_mark, entries_of, details_of, opening_word, row_entries, row_detail, Put};
+ghost use Rattle.reader.specs.Operands.{entry_by, tier_entry, mark_entry, head_mark, opening_word, row_entries, row_detail, Put};
 
 use tokens::arguments::Arguments;
 use tokens::names::key_of;
@@ -103,21 +103,6 @@ fn put_next(s: &[u8], part: &mut [u64]) -> Given
     }
 }
 
-// The words after an opening word of this kind.
-// Kept: beside `put_operands`; tried as arms of its `match`, where the other words come two ways, by another kind and
-// by none, which each proof would take apart.
-#[tactic(auto, using(crate::specs::Operands::entries_for, crate::specs::Operands::entries_next, crate::specs::Operands::entries_numbers, crate::specs::Operands::put_by))]
-fn put_kind(kind: Kind, s: &[u8], part: &mut [u64]) -> Given
-    requires { length (entries_of (Some kind) (split 32 s.now)) ≤ length part.old }
-    ensures { Put (entries_of (Some kind) (split 32 s.now)) (details_of (Some kind) (split 32 s.now)) part.old part.new result }
-{
-    match kind {
-        Kind::For => put_for(s, part),
-        Kind::Next => put_next(s, part),
-        _ => put_words(s, Arguments::Numbers, part),
-    }
-}
-
 // The arguments among the words of s, a row without its brackets; word: the number of its opening word.
 pub(crate) fn put_operands(word: usize, s: &[u8], part: &mut [u64]) -> Given
     requires { (word ≡ opening_word (split 32 s.now)) × (length (row_entries (split 32 s.now)) ≤ length part.old) }
@@ -127,7 +112,8 @@ pub(crate) fn put_operands(word: usize, s: &[u8], part: &mut [u64]) -> Given
         return Given::default();
     };
     match kind_of(word) {
-        Some(kind) => put_kind(kind, words, part),
-        None => put_words(words, Arguments::Numbers, part),
+        Some(Kind::For) => put_for(words, part),
+        Some(Kind::Next) => put_next(words, part),
+        _ => put_words(words, Arguments::Numbers, part),
     }
 }

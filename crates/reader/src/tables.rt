@@ -65,8 +65,8 @@ fn put_record(part: &mut [u16], e: Entry)
 }
 
 // The record of statement n, which is the next one.
-// Kept: here and below a table with its row's bound in the contract: a struct of both would hold a `&mut`, and each
-// change would have to show its bound again.
+// Kept: here and below a table with its row's bound in the contract: a struct of both would be made in each of the four
+// functions that call these (`end_branch`, `end_row`, `add_simple`, `add_cond`).
 pub(crate) fn append(t: &mut [u16], n: usize, e: Entry)
     requires { (n * STMT_ENTRIES + STMT_ENTRIES ≤ length t.old) × (n ≤ MAX_STMTS) }
     ensures { t.new ≡ append_row t.old n e }

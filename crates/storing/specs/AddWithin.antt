@@ -55,7 +55,7 @@ in_length room l a h =
       | no nl ↦ let q = ap length (in_old room l a (omega arith)) in (omega (arith, q), omega (arith, q), omega (arith, q))
     ]
 
-all-length : (room : ℕ) (l k : List ℕ) → length l ≤ room
+pub all-length : (room : ℕ) (l k : List ℕ) → length l ≤ room
     → (length l ≤ length (add_all_in room l k)) × (length (add_all_in room l k) ≤ room) × (length (add_all_in room l k) ≤ length l + length k)
 unfolding add_all_in
 all-length room l [] h = (omega arith, h, omega arith)
@@ -193,7 +193,7 @@ within_as e a = rw (← e) a
 
 -- ---- where there is room for all
 
-all_in : (nodes room : ℕ) {l : List ℕ} (k : List ℕ) → nodes ≤ room → Distinct l → Ids nodes l → Ids nodes k → add_all_in room l k ≡ add_all l k
+pub all_in : (nodes room : ℕ) {l : List ℕ} (k : List ℕ) → nodes ≤ room → Distinct l → Ids nodes l → Ids nodes k → add_all_in room l k ≡ add_all l k
 unfolding add_all_in add_all
 all_in nodes room [] h d i all[] = refl
 all_in nodes room {l} (a ∷ k) h d i (all∷ lt j) = rw (one (has a l) refl) (all_in nodes room {l = add l a} k h (distinct_add a d) (ids-add) j)

@@ -1,9 +1,9 @@
 -- The successor lists of the graph, as a loop over the nodes writes them in node order. Assumes nothing.
 use Rattle.std.specs.Prelude.{◌≡◌, Bool, eqb, ltb, drop, get_or}
 use Rattle.std.proofs.Math.Path.{refl, sym, ap}
-use Rattle.std.proofs.Common.{◌∙◌, arith, eq-eqb, ne_eqb, length-append, take_at}
+use Rattle.std.proofs.Common.{◌∙◌, arith, eq-eqb, ne_eqb}
 use Rattle.std.proofs.Math.Bool.{true, false}
-use mathlib.Core.List.{List, [], ◌∷◌, ◌++◌}
+use mathlib.Core.List.{List, [], ◌∷◌}
 use Prim.Native.Nat.{ℕ, zero, suc, ◌+◌, ◌-◌, ◌*◌, ◌≤◌, ◌<◌}
 use Rattle.std.proofs.Math.ListN.{length, length-take, length-drop, take}
 use Rattle.std.proofs.Math.Seq.{length-take-le}
@@ -12,6 +12,7 @@ use Rattle.listings.specs.Bytes.{pick}
 use Rattle.listings.specs.Every.{All, all[], all∷, all_append}
 use Rattle.graph.specs.Lists.{add_all, each}
 use Rattle.graph_laws.specs.Adding.{decode}
+use Rattle.graph_laws.specs.Distinct.{dist[]}
 use Rattle.graph_laws.specs.EdgeBounds.{Ids}
 use Rattle.tables.specs.Columns.{succ_start, succ_count, succ_part, call_word, word_of, fall_entry}
 use Rattle.passes.specs.Sets.{members_of, members_within, size_of, Put}
@@ -20,14 +21,13 @@ use Rattle.passes.specs.ReturnSets.{set_of}
 use Rattle.passes.specs.ReturnTotals.{return_size, return_size-le, members_few}
 use Rattle.passes.specs.EdgeTable.{joined_lists, lists_to, length_lists, ListsStored, Appended, stored_none}
 use Rattle.passes.specs.Counting.{sum_to}
-use Rattle.passes.specs.AddRoom.{grown_start}
 use Rattle.passes.specs.Prepared.{link_entries}
-use Rattle.passes.specs.NodeList.{jump_edges, ListIs}
+use Rattle.passes.specs.NodeList.{jump_edges}
 use Rattle.passes.specs.Regions.{target_row, CallFits}
 use Rattle.passes.specs.WalkTables.{CallsRead}
 use Rattle.passes.specs.RegionLaws.{calls_fit}
-use Rattle.passes.specs.SkipLists.{list-kept, joined_to, stored_next}
-use Rattle.storing.specs.AddWithin.{AddedIn, grows_within}
+use Rattle.passes.specs.SkipLists.{joined_to, stored_next}
+use Rattle.storing.specs.AddWithin.{add_all_in, all-length, all_in}
 use Rattle.storing.specs.Appending.{appended_as}
 
 -- ---- what the tables hold
@@ -91,31 +91,9 @@ WritesDone handlers stmts args falls links n lists lists' scratch returns target
 -- ---- the list of a RETURN
 
 module _ (handlers : Bool) (args : List ℕ) (i : ℕ) (returns : List ℕ) (targets : ℕ) where
-  through_list : handlers ≡ true → return_list handlers args i returns targets ≡ take targets returns
-  unfolding return_list
-  through_list e = ap (λ (b : Bool). return_list b args i returns targets) e
-
   back_list : handlers ≡ false → return_list handlers args i returns targets ≡ members_of (set_of args i)
   unfolding return_list
   back_list e = ap (λ (b : Bool). return_list b args i returns targets) e
-
-  -- with handlers
-  module _ (e : handlers ≡ true) (h : handlers ≡ true → targets ≤ length returns) where
-    pub through_ready : {room : ℕ} → length (return_list handlers args i returns targets) ≤ room → (targets ≤ length returns) × (length (take targets returns) ≤ room)
-    through_ready g = (h e, omega (arith, ap length (through_list e)))
-
-    pub through_done : {part part' : List ℕ} → length (return_list handlers args i returns targets) ≤ length part → part' ≡ take targets returns ++ drop (length (take targets returns)) part → ListIs (return_list handlers args i returns targets) part part' targets
-    through_done {part} {part'} g q =
-        let k : length (take targets returns) ≡ targets = length-take-le targets returns (h e) in
-        let w : targets ≤ length part = omega (arith, k, (through_ready g).1) in
-        let p : part' ≡ take targets returns ++ drop targets part = rw k at q in
-        rw (through_list e)
-        (record {
-          count = sym k;
-          list = ap (take targets) p ∙ take_at (take targets returns) (drop targets part) targets k;
-          size = ap length p ∙ length-append (take targets returns) (drop targets part) ∙ omega (arith, length-drop targets part);
-          within = w;
-        })
 
   -- without them, from the row of the set
   module _ (e : handlers ≡ false) where
@@ -127,13 +105,13 @@ module _ (handlers : Bool) (args : List ℕ) (i : ℕ) (returns : List ℕ) (tar
     unfolding set_of
     back_ready h g = (length-take-le 64 (drop (i * 64) args) (omega (arith, length-drop (i * 64) args)), omega (arith, ap length members_are))
 
-    pub back_done : {part part' : List ℕ} {r : ℕ} → i * 64 + 64 ≤ length args → Put part 0 part' r (members_within (set_of args i) (length part)) → length (return_list handlers args i returns targets) ≤ length part → length part' ≡ length part
-        → ListIs (return_list handlers args i returns targets) part part' r
-    back_done {part} {part'} {r} h w g s =
+    pub back_done : {part part' : List ℕ} {r : ℕ} → i * 64 + 64 ≤ length args → Put part 0 part' r (members_within (set_of args i) (length part)) → length (return_list handlers args i returns targets) ≤ length part
+        → (r ≤ length part) × (take r part' ≡ return_list handlers args i returns targets)
+    back_done {part} {part'} {r} h w g =
         let f = back_ready h g in
         let p : Put part 0 part' r (members_of (set_of args i)) = rw (within_is (set_of args i) (length part) f.0 f.1) at w in
         let n = ap length members_are in
-        record { count = omega (arith, p.count); list = p.list ∙ members_are; size = s; within = omega (arith, p.count) }
+        (omega (arith, p.count), p.list ∙ members_are)
 
 -- ---- the turn for one node
 
@@ -156,28 +134,23 @@ unfolding jump_edges link_entries target_row fall_entry
 jump_ids m stmts falls links i a b =
     all_append (each-ids m (target_row stmts links i) a) (pick-ids m (ltb (word_of stmts i) ongoto_word) (decode (get_or falls (i * 3) 0)) (decode-ids m (get_or falls (i * 3) 0) b))
 
--- a call's list, made in a buffer of 4,096 entries
-module _ {stmts falls links : List ℕ} {i : ℕ} (c : CallFits stmts falls links i) {buffer buffer' : List ℕ} {count : ℕ} (e : length buffer ≡ 4096) (s : length buffer' ≡ length buffer)
-    (m : AddedIn buffer 0 buffer' count (jump_edges stmts falls links i)) where
-  pub call_list_lem : ListIs (call_list stmts falls links i) buffer buffer' count
+-- a call's list, made with room for 4,096 entries
+module _ {stmts falls links : List ℕ} {i : ℕ} (c : CallFits stmts falls links i) {room : ℕ} {l : List ℕ} (e : room ≡ 4096)
+    (m : l ≡ add_all_in room [] (jump_edges stmts falls links i)) where
+  pub call_is : l ≡ call_list stmts falls links i
   unfolding call_list
-  call_list_lem =
-      let i4 = jump_ids 4096 stmts falls links i c.targets.ids c.continues in
-      let r = grown_start 4096 buffer (omega arith) in
-      let w = grows_within m (record { nodes = 4096; grown = r; ids = i4 }) in
-      let g = w.grown 4096 r i4 in
-      record { count = sym (length-take-le count buffer' g.within) ∙ ap length w.added.list; list = w.added.list; size = s; within = omega (arith, g.within) }
+  call_is = m ∙ all_in 4096 room (jump_edges stmts falls links i) (omega (arith, e)) dist[] all[] (jump_ids 4096 stmts falls links i c.targets.ids c.continues)
+
+  pub call_few : length l ≤ 4096
+  call_few = omega (arith, ap length m, (all-length room [] (jump_edges stmts falls links i) (omega arith)).1, e)
 
 module _ {handlers : Bool} {stmts args falls links : List ℕ} {i at : ℕ} {lists scratch returns : List ℕ} {targets edges : ℕ}
     (q : WriteReady handlers stmts args falls links i at lists scratch returns targets edges) where
   abbrev own : List ℕ
   own = final_list handlers stmts args falls links lists scratch returns targets i
 
-  -- a list from the buffer
-  fitting : {l part part' : List ℕ} {count : ℕ} → l ≡ own → ListIs l part part' count → (at + length (take count part') ≤ edges) × (at + length (take count part') < 65536) × (i * 4 + 4 ≤ length lists)
-  fitting {l} {part} {part'} {count} e k =
-      let c = k.count ∙ ap length e in
-      (omega (arith, list-kept k, q.fits), omega (arith, list-kept k, q.few), q.in_rows)
+  fitting : {l : List ℕ} → l ≡ own → (at + length l ≤ edges) × (at + length l < 65536) × (i * 4 + 4 ≤ length lists)
+  fitting e = (omega (arith, ap length e, q.fits), omega (arith, ap length e, q.few), q.in_rows)
 
   module _ (w : get_or stmts (i * 12) 0 ≡ 9) where
     return_own : return_list handlers args i returns targets ≡ own
@@ -192,13 +165,13 @@ module _ {handlers : Bool} {stmts args falls links : List ℕ} {i at : ℕ} {lis
     pub return_ready : (i < 4096) × (i * 64 + 64 ≤ length args) × (handlers ≡ true → targets ≤ length returns) × (length (return_list handlers args i returns targets) ≤ 4096)
     return_ready = (q.node, q.in_sets, q.targets_fit, return_short handlers refl)
 
-    module _ {buffer buffer' : List ℕ} {count : ℕ} (k : ListIs (return_list handlers args i returns targets) buffer buffer' count) where
-      pub return_fits : (at + length (take count buffer') ≤ edges) × (at + length (take count buffer') < 65536) × (i * 4 + 4 ≤ length lists)
-      return_fits = fitting return_own k
+    module _ {l : List ℕ} (k : l ≡ return_list handlers args i returns targets) where
+      pub return_fits : (at + length l ≤ edges) × (at + length l < 65536) × (i * 4 + 4 ≤ length lists)
+      return_fits = fitting (k ∙ return_own)
 
-      pub return_done : {lists' succ succ' : List ℕ} {r : ℕ} → Appended i at (length (take count buffer')) (take count buffer') lists lists' succ succ' r
+      pub return_done : {lists' succ succ' : List ℕ} {r : ℕ} → Appended i at (length l) l lists lists' succ succ' r
           → WriteDone handlers stmts args falls links i at lists lists' scratch returns targets succ succ' r
-      return_done a = appended_as (ap length (k.list ∙ return_own)) (k.list ∙ return_own) a
+      return_done a = appended_as (ap length (k ∙ return_own)) (k ∙ return_own) a
 
   module _ (w : get_or stmts (i * 12) 0 ≡ 9 → ⊥) where
     module _ (c : call_word (get_or stmts (i * 12) 0) ≡ true) where
@@ -213,16 +186,16 @@ module _ {handlers : Bool} {stmts args falls links : List ℕ} {i at : ℕ} {lis
       unfolding final_list word_of
       call_own = rw (ne_eqb (get_or stmts (i * 12) 0) 9 w, c)
 
-      module _ {buffer buffer' : List ℕ} {count : ℕ} (e : length buffer ≡ 4096) (s : length buffer' ≡ length buffer) (m : AddedIn buffer 0 buffer' count (jump_edges stmts falls links i)) where
-        made : ListIs (call_list stmts falls links i) buffer buffer' count
-        made = call_list_lem fits_call e s m
+      module _ {room : ℕ} {l : List ℕ} (e : room ≡ 4096) (m : l ≡ add_all_in room [] (jump_edges stmts falls links i)) where
+        made : l ≡ own
+        made = call_is fits_call e m ∙ call_own
 
-        pub call_fits : (at + length (take count buffer') ≤ edges) × (at + length (take count buffer') < 65536) × (i * 4 + 4 ≤ length lists)
-        call_fits = fitting call_own made
+        pub call_fits : (at + length l ≤ edges) × (at + length l < 65536) × (i * 4 + 4 ≤ length lists)
+        call_fits = fitting made
 
-        pub call_done : {lists' succ succ' : List ℕ} {r : ℕ} → Appended i at (length (take count buffer')) (take count buffer') lists lists' succ succ' r
+        pub call_done : {lists' succ succ' : List ℕ} {r : ℕ} → Appended i at (length l) l lists lists' succ succ' r
             → WriteDone handlers stmts args falls links i at lists lists' scratch returns targets succ succ' r
-        call_done a = appended_as (ap length (made.list ∙ call_own)) (made.list ∙ call_own) a
+        call_done a = appended_as (ap length made) made a
 
     module _ (c : call_word (get_or stmts (i * 12) 0) ≡ false) where
       move_own : succ_part lists scratch i ≡ own
@@ -343,11 +316,9 @@ module _ {stmts args falls links : List ℕ} {i : ℕ} {lists : List ℕ} {targe
       pub size_ready : (i * 12 + 12 ≤ length stmts) × (i * 3 + 3 ≤ length falls) × (i * 64 + 64 ≤ length links) × (get_or stmts (i * 12 + 10) 0 ≤ 64)
       size_ready = (q.in_stmts, q.in_falls, fits.targets.in_links, fits.targets.few)
 
-      pub size_call : {buffer buffer' : List ℕ} {r : ℕ} → length buffer ≡ 4096 → length buffer' ≡ length buffer → AddedIn buffer 0 buffer' r (jump_edges stmts falls links i) → SizeIs handlers stmts args falls links lists targets i r
+      pub size_call : {room : ℕ} {l : List ℕ} → room ≡ 4096 → l ≡ add_all_in room [] (jump_edges stmts falls links i) → SizeIs handlers stmts args falls links lists targets i (length l)
       unfolding final_size word_of
-      size_call {buffer} e s m =
-          let l = call_list_lem fits e s m in
-          (rw (ne_eqb (get_or stmts (i * 12) 0) 9 w, c) l.count, omega (arith, l.within, e))
+      size_call e m = (rw (ne_eqb (get_or stmts (i * 12) 0) 9 w, c) (ap length (call_is fits e m)), omega (arith, call_few fits e m))
 
     pub size-other : call_word (get_or stmts (i * 12) 0) ≡ false → (r : ℕ) → r ≡ succ_count lists i → r < 65536 → SizeIs handlers stmts args falls links lists targets i r
     unfolding final_size word_of

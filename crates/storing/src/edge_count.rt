@@ -32,7 +32,7 @@ fn list_size(
         return size_of(set_at(args, i));
     }
     if is_call(word) {
-        return put_jump(g, i, buffer);
+        return put_jump(g, i, buffer).len();
     }
     usize::from(lists[i * LIST_ENTRIES + SUCC_COUNT])
 }

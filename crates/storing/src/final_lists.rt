@@ -1,33 +1,37 @@
 // The successor lists of the graph, in node order.
-ghost use Rattle.std.specs.Prelude.{◌+◌, ◌*◌, ◌≤◌, ◌<◌, length};
-ghost use Rattle.passes.specs.NodeList.{ListIs};
+ghost use Rattle.std.specs.Prelude.{◌≡◌, ◌+◌, ◌*◌, ◌≤◌, ◌<◌, length};
 ghost use Rattle.storing.specs.FromSource.{returns_from, WriteReadyFrom, WriteDoneFrom, WritesReadyFrom, WritesDoneFrom};
 
 use crate::growing::put_jump;
 use crate::source::Source;
-use crate::store::{move_list, put_list, store_list};
+use crate::store::{move_list, put_list};
 use layout::columns::ARG_ENTRIES;
 use layout::limits::MAX_STMTS;
 use layout::words::RETURN;
 use tables::calls::is_call;
 use walks::sets::{members, set_at};
 
-// Where RETURN i leads goes into the buffer: with handlers all return targets, without them the members of its set.
-// Kept: a buffer and how many, as `put_jump`.
+// Where RETURN i leads: with handlers to all return targets, without them to the members of its set, which are listed
+// in the buffer.
 #[tactic(auto, unfolding(crate::specs::FinalLists::return_list))]
-fn return_list(source: &Source<'_>, args: &[u64], i: usize, buffer: &mut [u16; MAX_STMTS]) -> usize
+fn return_list<'a: 'b, 'b>(
+    source: &Source<'a>,
+    args: &[u64],
+    i: usize,
+    buffer: &'b mut [u16; MAX_STMTS],
+) -> &'b [u16]
     requires { (i < source.now.nodes.records.n) × (i * ARG_ENTRIES + ARG_ENTRIES ≤ length args.now) × (length (returns_from source.now args.now i) ≤ MAX_STMTS) }
-    ensures { ListIs (returns_from source.now args.now i) buffer.old buffer.new result }
+    ensures { result.now ≡ returns_from source.now args.now i }
 {
     if source.handlers {
-        store_list(buffer, &source.returns[..source.targets]);
-        return source.targets;
+        return &source.returns[..source.targets];
     }
-    members(set_at(args, i), buffer)
+    let n = members(set_at(args, i), buffer);
+    &buffer[..n]
 }
 
-// Node i's list goes behind those written before it, from entry `at` on: a RETURN's or a call's from the buffer, any
-// other's from scratch, where its row says.
+// Node i's list goes behind those written before it, from entry `at` on: a RETURN's or a call's is made for that, any
+// other's stands in scratch, where its row says.
 // Kept: `put_list` twice: a RETURN's list and a call's have room for reasons of their own, which a proof of one call
 // for both would take apart again.
 // Kept: tables that are written go one by one, here and below, as in write_graph.rt.
@@ -46,12 +50,10 @@ fn write_list(
     let g = &source.nodes;
     let word = g.records.word(i);
     if word == RETURN {
-        let count = return_list(source, args, i, buffer);
-        return put_list(lists, succ, i, at, &buffer[..count]);
+        return put_list(lists, succ, i, at, return_list(source, args, i, buffer));
     }
     if is_call(word) {
-        let count = put_jump(g, i, buffer);
-        return put_list(lists, succ, i, at, &buffer[..count]);
+        return put_list(lists, succ, i, at, put_jump(g, i, buffer));
     }
     move_list(lists, source.scratch, succ, i, at)
 }

@@ -1,10 +1,10 @@
 // A node's list while it grows, each node once, at the front of a part of any length: what does not fit is left out.
-ghost use Rattle.std.specs.Prelude.{◌≡◌, ◌+◌, ◌*◌, ◌≤◌, ◌<◌, length, take, get_or};
+ghost use Rattle.std.specs.Prelude.{◌≡◌, [], ◌+◌, ◌*◌, ◌≤◌, ◌<◌, length, take, get_or};
 ghost use Rattle.graph.specs.Lists.{has, each};
 ghost use Rattle.graph_laws.specs.Adding.{decode};
 ghost use Rattle.passes.specs.Closing.{fall_from};
 ghost use Rattle.passes.specs.NodeList.{jump_edges};
-ghost use Rattle.storing.specs.AddWithin.{AddedIn, jump_readable, jump_read};
+ghost use Rattle.storing.specs.AddWithin.{add_all_in, jump_readable, jump_read};
 ghost use Rattle.storing.specs.NodeLists.{AddedTo, Pushed, Same};
 
 use layout::columns::{ARG_ENTRIES, COUNT, FALL_ENTRIES, STMT_ENTRIES};
@@ -135,13 +135,13 @@ impl<'a> NodeList<'a> {
     }
 }
 
-// The list of a jump alone, in a lent part; answers how many nodes it has.
-// Kept: a part and how many: `list_size` asks for the number alone, and `write_list` copies from the part.
-pub(crate) fn put_jump(g: &Nodes<'_>, i: usize, part: &mut [u16]) -> usize
+// The list of a jump alone, in a lent part.
+pub(crate) fn put_jump<'b>(g: &Nodes<'_>, i: usize, part: &'b mut [u16]) -> &'b [u16]
     requires { (i < g.now.records.n) × (get_or g.now.records.stmts.now (i * STMT_ENTRIES + COUNT) 0 ≤ MAX_ARGS) }
-    ensures { AddedIn part.old 0 part.new result (jump_edges g.now.records.stmts.now g.now.falls.now g.now.links.now i) }
+    ensures { result.now ≡ add_all_in (length part.old) [] (jump_edges g.now.records.stmts.now g.now.falls.now g.now.links.now i) }
 {
     let mut list = NodeList::new(part);
     list.add_written(g.records.stmts, g.falls, g.links, i);
-    list.len()
+    let n = list.len();
+    &part[..n]
 }

@@ -10,8 +10,8 @@ use tables::nodes::Nodes;
 // hold it twice.
 // Kept: without `args`, though what reads a source reads them too: at last they are cleared, while the source is lent.
 // Kept: `returns, targets` and no slice: without handlers `returns` may be shorter, and nothing of it is read.
-// Kept: what goes over it stands as functions in modules of their own, by what they write: methods would be one `impl`
-// a module.
+// Kept: what goes over it stands as functions in modules of their own, by what they are for: methods would be one
+// `impl` a module.
 #[derive(Clone, Copy)]
 pub(crate) struct Source<'a> {
     pub handlers: bool,

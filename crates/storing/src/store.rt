@@ -19,7 +19,7 @@ pub(crate) fn store_list(part: &mut [u16], list: &[u16])
 
 // A node's list goes behind those stored before it, from entry `at` on, and its row says where; the answer is where the
 // next list begins.
-// Kept: `lists` and `succ` one by one, here and below: both are written.
+// Kept: `lists` and `succ` one by one, here and below: both are written, as in write_graph.rt.
 pub(crate) fn put_list(
     lists: &mut [u16],
     succ: &mut [u16],
@@ -49,7 +49,7 @@ fn append_fits(node: usize, at: usize, count: usize, lists: &[u16], succ: &[u16]
 }
 
 // The same on any tables: where the list does not fit, nothing changes, and the answer is `at`.
-// Kept: `at` and no `Option`: a public promise, which may not change; and the next list goes there in either case.
+// Kept: `at` and no `Option`: the next list goes there in either case.
 #[tactic(auto, unfolding(crate::specs::Appending::append_fits))]
 pub fn append_list(
     lists: &mut [u16],

@@ -73,8 +73,6 @@ fn with_byte(a: u64, i: usize, b: u8) -> u64
 
 // The key of a name that is judged whole and then cut to two characters and its kind: the bytes less 32 as digits to
 // the base 64, the first byte lowest. No two cut names have the same key.
-// Kept: by the place; tried as `iter().enumerate().rev()`: its laws tell a proof which bytes were
-// yielded, and not at which place the loop stands, and of that place the key so far is told.
 pub fn key_of(w: &[u8]) -> Result<u64, Reason>
     ensures { result ≡ as_key (parse_name w.now) }
 {
@@ -82,8 +80,8 @@ pub fn key_of(w: &[u8]) -> Result<u64, Reason>
         return Err(Reason::BadWord);
     }
     let mut a: u64 = 0;
-    for i in (0..w.len()).rev() {
-        a = with_byte(a, i, w[i]);
+    for (i, b) in w.iter().enumerate().rev() {
+        a = with_byte(a, i, *b);
     }
     Ok(a)
 }

@@ -21,7 +21,7 @@ pub fn find(s: &[u8], b: u8) -> usize
 }
 
 // What stands before the first b, and what stands behind it; none where there is no b.
-// Kept: by `find`; tried as `place_of(s, b)?`, by which `flowlist` takes 2.3 % more instructions for 4,096 plain
+// Kept: by `find`; tried as `place_of(s, b)?`, by which `flowlist` takes 2.2 % more instructions for 4,096 plain
 // statements (12.41 million, 12.14).
 #[tactic(auto, using(crate::specs::Scan::first_alone, crate::specs::Scan::first_more, crate::specs::Scan::first_parts))]
 fn cut_at(s: &[u8], b: u8) -> Option<(&[u8], &[u8])>

@@ -31,7 +31,7 @@ fn join_by_rows(
         return;
     };
     let records = g.records;
-    let count = list_row(
+    let list = list_row(
         &Sets {
             records,
             words: rows,
@@ -39,7 +39,7 @@ fn join_by_rows(
         e,
         work,
     );
-    join_region(g, called, e, &work[..count], rows);
+    join_region(g, called, e, list, rows);
 }
 
 // All called entries.

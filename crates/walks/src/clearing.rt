@@ -8,8 +8,8 @@ use layout::words::RETURN;
 use tables::nodes::Records;
 
 // Clears the set of node i, where that is a RETURN.
-// Kept: here and below sets with their bound in the contract: a struct of them would hold a `&mut`, and each
-// change would have to show its bound again.
+// Kept: here and below sets with their bound in the contract: a struct of them would be made in each of the three
+// public functions that have them lent to write (`clear_sets`, `region_return_edges`, `return_edges_by_rows`).
 fn clear_set(records: &Records<'_>, i: usize, sets: &mut [u64])
     requires { (i < records.now.n) × (i * WORDS + WORDS ≤ length sets.old) }
     ensures { SetCleared records.now.stmts.now i sets.old sets.new }

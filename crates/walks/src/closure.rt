@@ -1,6 +1,6 @@
 // Rows of bits, `WORDS` words a node, as sets have them: where each node leads, and, once they are closed, all that it
 // can reach (Warshall).
-ghost use Rattle.std.specs.Prelude.{◌≡◌, ◌+◌, ◌*◌, ◌≤◌, ◌<◌, eqb, length, take};
+ghost use Rattle.std.specs.Prelude.{◌≡◌, ◌+◌, ◌*◌, ◌≤◌, ◌<◌, eqb, length};
 ghost use Rattle.passes.specs.Sets.{bit};
 ghost use Rattle.passes.specs.ReturnSets.{set_of};
 ghost use Rattle.passes.specs.Closure.{Closed, RowJoined, RowsJoined};
@@ -11,20 +11,17 @@ use layout::limits::MAX_STMTS;
 use layout::words::RETURN;
 
 // Row i as a set of its own, so that the rows can change meanwhile.
-// Kept: by `copy_from_slice`: `as_array` would answer an `Option` to take apart, for no plainer code.
 #[tactic(auto, unfolding(passes::specs::ReturnSets::set_of))]
 fn row_copy(rows: &[u64], i: usize) -> [u64; WORDS]
     requires { (i < MAX_STMTS) × (i * WORDS + WORDS ≤ length rows.now) }
     ensures { result ≡ set_of rows.now i }
 {
-    let mut row = no_words();
-    row.copy_from_slice(set_at(rows, i));
-    row
+    *set_at(rows, i).as_array().unwrap()
 }
 
 // Joins `row`, which is row k, into row i, where that has node k.
-// Kept: here and below rows with their bound in the contract: a struct of them would hold a `&mut`, and each change
-// would have to show its bound again.
+// Kept: here and below rows with their bound in the contract: a struct of rows and n would be made for one call, that
+// of `close_rows`, and each of the three functions here would have to promise besides that n stays.
 fn close_row(rows: &mut [u64], i: usize, k: usize, row: &[u64; WORDS])
     requires { (i < MAX_STMTS) × (i * WORDS + WORDS ≤ length rows.old) × (k < MAX_STMTS) }
     ensures { RowJoined k row.now i rows.old rows.new }
@@ -71,12 +68,16 @@ fn row_region(rows: &Sets<'_>, from: usize) -> [u64; WORDS]
     set
 }
 
-// Lists these, ascending, and answers how many.
-// Kept: a list and how many, as `region` does, so that one worklist serves all entries.
-pub(crate) fn list_row(rows: &Sets<'_>, from: usize, work: &mut [u16; MAX_STMTS]) -> usize
+// Lists these, ascending, at the front of an array that is lent.
+pub(crate) fn list_row<'b>(
+    rows: &Sets<'_>,
+    from: usize,
+    work: &'b mut [u16; MAX_STMTS],
+) -> &'b [u16]
     requires { from < rows.now.records.n }
-    ensures { (result ≤ length work.new) × RowListedFrom rows.now from (take result work.new) }
+    ensures { RowListedFrom rows.now from result.now }
 {
     let set = row_region(rows, from);
-    put_members(&set, work)
+    let n = put_members(&set, work);
+    &work[..n]
 }

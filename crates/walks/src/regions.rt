@@ -77,8 +77,7 @@ fn join_called(
     let Some(called) = calls.of_entry(e) else {
         return;
     };
-    let count = w.region(e, work);
-    join_region(&w.nodes, called, e, &work[..count], sets);
+    join_region(&w.nodes, called, e, w.region(e, work), sets);
 }
 
 // All called entries.
@@ -110,8 +109,8 @@ fn join_regions(w: &Listed<'_>, sets: &mut [u64])
 // lists. Answers whether the tables can be read; where they cannot, nothing is written.
 // Kept: tables one by one: `Nodes` has as its invariant what is tested here, and a plain struct would be filled from a
 // `Nodes` by the caller, one by one too.
-// Kept: a `bool`: it can be refused for one reason at one place, so that there is nothing to carry; its caller has the
-// tables proved, and drops it.
+// Kept: a `bool`: all that it can say is that the tables cannot be read (25 at 0), so that there is nothing to carry;
+// its caller has them proved, and drops it.
 pub fn region_return_edges<'a>(
     stmts: &'a [u16],
     falls: &'a [u16],

@@ -14,8 +14,9 @@ use tables::nodes::Records;
 pub const WORD_BITS: usize = u64::BITS as usize;
 
 // The words of a set: a bit for each statement that there may be. A row of arguments has as many entries.
-// Kept: a set that is lent is a slice of so many words, as contracts say, and no array: it stands in a row of a lent
-// table, of which `as_array` would test at each use what the contract says already.
+// Kept: a set that is lent is a slice of so many words, and no array: it stands in a row of a lent table, which
+// definitions read flat (`set_of`); over rows of `as_chunks` each clause would flatten them again, as at the wiring's
+// `Entries`.
 pub const WORDS: usize = MAX_STMTS / WORD_BITS;
 
 // The set of node i, of a table with one for each node; where the table ends before it has them all, what there is
@@ -30,8 +31,9 @@ pub fn set_at(sets: &[u64], i: usize) -> &[u64]
 }
 
 // Where the words of node i's set stand in a table with one for each node.
-// Kept: beside `tables::nodes::words_of`, which answers for any number and so multiplies with care: here i is a node,
-// and the closure asks n * n times (by `set_at`, which multiplies so too, 4,096 ANYs took 1.95 times the instructions).
+// Kept: beside `tables::nodes::words_of`, which another crate calls and so answers for any number, with care at the
+// product and the sum: here i is a node, and the closure asks n * n times. That one was not measured here; by `set_at`,
+// with two `min`s more, 4,096 ANYs took 1.95 times the instructions.
 pub(crate) fn words_of(i: usize) -> Range<usize>
     requires { i < MAX_STMTS }
     ensures { (result.start ≡ i * WORDS) × (result.end ≡ i * WORDS + WORDS) }
@@ -73,8 +75,8 @@ pub fn bit(id: usize) -> u64
 }
 
 // Whether the set has an id; it has none where its words end before it.
-// Kept: its word by `get`: `tables::nodes::entry` is of `u16` tables; a generic one would be told its zero, for two
-// places.
+// Kept: its word by `get`: `tables::nodes::entry` is of `u16` tables; of any type that one line would need a bound, and
+// its clause the type's `is_default`, for two places.
 #[tactic(auto, unfolding(passes::specs::Sets::bit))]
 pub fn has_bit(words: &[u64], id: usize) -> bool
     ensures { result ≡ eqb (bit words.now id) 1 }
@@ -123,7 +125,8 @@ pub(crate) fn count_members(set: &[u64]) -> usize
 }
 
 // How many members a set of `WORDS` words has; 0 where it has not so many.
-// Kept: 0 and no `Option`, here and in `members`: they are public, and that is what their promises say of such a set.
+// Kept: 0 and no `Option`, here and in `members`: whoever calls them has a set of `WORDS` words, and would take the
+// `Option` apart for nothing.
 #[tactic(auto, unfolding(passes::specs::Sets::size_of))]
 pub fn size_of(set: &[u64]) -> usize
     ensures { result ≡ size_of set.now }

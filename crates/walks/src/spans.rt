@@ -4,18 +4,15 @@ ghost use Rattle.std.specs.Prelude.{◌≡◌, ℕ, ◌+◌, ◌-◌, ◌*◌, �
 ghost use Rattle.listings.specs.Every.{All};
 ghost use Rattle.graph.specs.Lists.{each};
 ghost use Rattle.graph_laws.specs.Adding.{decode};
-ghost use Rattle.passes.specs.Regions.{calls_below};
-ghost use Rattle.passes.specs.Sets.{Put};
 ghost use Rattle.passes.specs.Spans.{SpansTo, SpansGrow};
 ghost use Rattle.passes.specs.declared.spans.Span.{Span};
 ghost use Rattle.walks.specs.FromNodes.{CallsReadFrom, TargetsFitFrom, entries_from, CallsReadyFrom, SpannedFrom};
 
-use crate::lists::list_where;
+use crate::lists::list_calls;
 use layout::limits::MAX_STMTS;
 use layout::zeroing::all_of;
 use passes::spans::Span;
-use tables::calls::is_call;
-use tables::nodes::{Nodes, Records};
+use tables::nodes::Nodes;
 
 // Place k, the last so far, comes into the span of the entry t - 1, where t is not 0.
 // Kept: the number, as the links have it: its one caller would take each apart by this same line.
@@ -58,13 +55,6 @@ fn span_calls(g: &Nodes<'_>, calls: &[u16], spans: &mut [Option<Span>; MAX_STMTS
     }
 }
 
-// Lists the calls, ascending, and answers how many: later loops run over these alone.
-fn list_calls(records: &Records<'_>, calls: &mut [u16; MAX_STMTS]) -> usize
-    ensures { Put calls.old 0 calls.new result (calls_below records.now.stmts.now records.now.n) }
-{
-    list_where(records, |i| is_call(records.word(i)), calls)
-}
-
 // No span yet.
 pub(crate) fn no_spans() -> [Option<Span>; MAX_STMTS]
     ensures { result ≡ replicate MAX_STMTS None }
@@ -91,8 +81,8 @@ impl<'a> Calls<'a> {
         ensures ready { CallsReadyFrom g.now result.list.now }
         ensures spanned { SpannedFrom g.now result.list.now result.spans.now }
     {
-        let count = list_calls(&g.records, list);
-        let list = &list[..count];
+        // later loops run over these alone
+        let list = list_calls(&g.records, list);
         span_calls(g, list, spans);
         Calls { list, spans }
     }

@@ -1,8 +1,8 @@
 // The walk through a region, by lists of nodes: a mark for each statement that there may be, and a list of the marked
 // nodes, whose end is the worklist.
-ghost use Rattle.std.specs.Prelude.{◌≡◌, true, false, ◌<◌, ◌≤◌, length, replicate};
+ghost use Rattle.std.specs.Prelude.{◌≡◌, ℕ, List, true, false, ◌<◌, ◌≤◌, length, replicate};
 ghost use Rattle.tables.specs.Readable.{lists_readable};
-ghost use Rattle.passes.specs.Walk.{stored_list, RegionListed, Markable, ListMarked};
+ghost use Rattle.passes.specs.Walk.{stored_list, Markable, ListMarked, Reached, Stored};
 
 use layout::columns::{LIST_ENTRIES, SUCC_COUNT};
 use layout::limits::MAX_STMTS;
@@ -43,7 +43,7 @@ pub fn no_marks() -> [bool; MAX_STMTS]
 
 // n nodes, each with a list of nodes: where in `edges` it stands says the node's row of `lists`.
 // Kept: what goes over it (regions.rt) and over `Sets` (closure.rt, return_totals.rt) stands as functions in modules of
-// their own, by what they write: methods would be one `impl` a module.
+// their own, by what they are for: methods would be one `impl` a module.
 #[derive(Clone, Copy)]
 pub(crate) struct Listed<'a> {
     pub nodes: Nodes<'a>,
@@ -66,11 +66,11 @@ impl<'a> Listed<'a> {
         &self.edges[start..start + count]
     }
 
-    // Lists every node that the stored lists lead to from `from`, each once, and answers how many. The steps of the
-    // first `done` of them are marked: the others are the worklist.
-    pub(crate) fn region(&self, from: usize, work: &mut [u16; MAX_STMTS]) -> usize
+    // Lists every node that the stored lists lead to from `from`, each once. The steps of the first `done` of them are
+    // marked: the others are the worklist.
+    pub(crate) fn region<'b>(&self, from: usize, work: &'b mut [u16; MAX_STMTS]) -> &'b [u16]
         requires { from < self.now.nodes.records.n }
-        ensures { RegionListed self.now.lists.now self.now.edges.now self.now.nodes.records.n from work.new result }
+        ensures { (step : ℕ → List ℕ) → Stored self.now.lists.now self.now.edges.now self.now.nodes.records.n step → Reached step from result.now }
     {
         let mut marks = no_marks();
         marks[from] = true;
@@ -83,6 +83,6 @@ impl<'a> Listed<'a> {
             done += 1;
             count = mark_all(self.list(v), &mut marks, work, count);
         }
-        count
+        &work[..count]
     }
 }

@@ -7,12 +7,9 @@ use Rattle.passes.specs.Compare.{lt-or}
 use Rattle.passes.specs.Connecting.{no, led_line, led_none, led_first, led_empty}
 use Rattle.passes.specs.Falls.{target_of, BranchLed}
 use Rattle.passes.specs.LineSearch.{EntryFound}
-use Rattle.wiring.specs.declared.falls.Branch.{Branch}
-use Rattle.wiring.specs.declared.falls.Branch.TheVariants as branch
-
--- by its form and its number; a form that is none and no line's is statements'
-abbrev pub branch_of : (form number : ℕ) → Option Branch
-branch_of form number = pick (eqb form 0) None (pick (eqb form 2) (Some (branch.To number)) (Some branch.Stmts))
+use Rattle.reader.specs.Branch.{branch_of}
+use Rattle.reader.specs.declared.branch.Branch.{Branch}
+use Rattle.reader.specs.declared.branch.Branch.TheVariants as branch
 
 -- where the branch leads, whatever form and number it was read from
 abbrev pub Led : (entries : List ℕ) (k : ℕ) (b : Option Branch) (from end next r : ℕ) → Type 0

@@ -1,10 +1,11 @@
 // What later nodes add to a node's list: where the closer of its frame falls, and where the ELSEs of a DOIF fall.
-// Kept: contracts ask for room (`Fits`), though `NodeList` needs none: that the ELSEs are linked in order, without
-// which `add_elses` would not end, has to be asked for all the same, and the fact that says it (`ClosingReady`) says
-// what fits too.
+// Kept: contracts ask for room (`Fits`), though `NodeList` needs none: each of `add_elses` and `add_doif` promises that
+// the list still fits (`ElsesMade`, `DoifMade`), and the tables' facts have to be asked for all the same, since without
+// the order of the ELSEs `add_elses` would not end.
 ghost use Rattle.std.specs.Prelude.{◌≡◌, length, ◌<◌};
-ghost use Rattle.passes.specs.Closing.{ElsesFit, DoifFits, joins_word, CloserFits, ClosingReady};
-ghost use Rattle.wiring.specs.OnLists.{Fits, ElsesMade, DoifMade, CloserMade, ClosingMade};
+ghost use Rattle.passes.specs.Closing.{ElsesFit, DoifFits, joins_word, closer_from, ClosingReady};
+ghost use Rattle.wiring.specs.OnLists.{Fits, ElsesMade, DoifMade, ClosingMade};
+ghost use Rattle.storing.specs.NodeLists.{AddedTo};
 ghost use Rattle.tables.specs.OneMore.{one_more};
 
 use crate::leads::Leads;
@@ -38,8 +39,7 @@ fn add_doif(list: &mut NodeList<'_>, g: &Leads<'_, '_>, i: usize)
 
 // Where the closer of the frame of that opener falls, if there is one.
 fn add_closer(list: &mut NodeList<'_>, g: &Leads<'_, '_>, opener: Option<usize>)
-    requires { Fits list.old × CloserFits g.now.nodes.falls.now g.now.frames.now (length list.old.part.now) (one_more opener) }
-    ensures { CloserMade g.now.nodes.falls.now g.now.frames.now (one_more opener) list.old list.new }
+    ensures { AddedTo list.old list.new (closer_from g.now.nodes.falls.now g.now.frames.now (one_more opener)) }
 {
     if let Some(o) = opener {
         list.add_edge(g.fall_of(g.closer(o)));
@@ -47,8 +47,8 @@ fn add_closer(list: &mut NodeList<'_>, g: &Leads<'_, '_>, opener: Option<usize>)
 }
 
 // The words that go to where the closer of their frame falls.
-// Kept: a test of its own, since `ClosingMade` goes by `joins_word`; tried as arms of the match, which its proof has to
-// take apart into ranges of words again, in four goals.
+// Kept: a test of its own, since the laws of what it adds (`closing-joined`, `closing-none`) go by `joins_word`; tried
+// as arms of the match, which its proof has to take apart into ranges of words again, in four goals.
 #[tactic(auto, using(std::proofs::lemmas::Bool::Decides::nat_tests), unfolding(passes::specs::Closing::joins_word))]
 fn joins_frame(word: u16) -> bool
     ensures { result ≡ joins_word word }

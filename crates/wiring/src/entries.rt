@@ -42,26 +42,25 @@ fn entry_or(e: u16, next: u16) -> u16
 // A line without statements takes the next line's entry, from the last line up. Each row gets its number.
 // Kept: by index; std says nothing of what a slice ends as behind `as_chunks_mut`.
 #[tactic(auto, using(passes::specs::LineEntries::filled_start))]
-fn fill_empty_lines(lines: &[u16], entries: &mut [u16], count: usize)
-    requires { (count ≤ length lines.now) × (count * ENTRY_ENTRIES ≤ length entries.old) }
-    ensures { EntriesFilled lines.now count entries.old entries.new }
+fn fill_empty_lines(lines: &[u16], entries: &mut [u16])
+    requires { length lines.now * ENTRY_ENTRIES ≤ length entries.old }
+    ensures { EntriesFilled lines.now (length lines.now) entries.old entries.new }
 {
     let mut next: u16 = 0;
-    for l in (0..count).rev() {
+    for l in (0..lines.len()).rev() {
         next = entry_or(entries[l * ENTRY_ENTRIES + ENTRY_NODE], next);
         entries[l * ENTRY_ENTRIES + ENTRY_NUMBER] = lines[l];
         entries[l * ENTRY_ENTRIES + ENTRY_NODE] = next;
     }
 }
 
-// The rows of `count` lines with these statements.
-// Kept: the whole table and how many lines it has: what is promised of it (`PreparedTo`) is about the whole.
-pub(crate) fn compute_line_after(r: &Records<'_>, lines: &[u16], entries: &mut [u16], count: usize)
-    requires { (count ≤ length lines.now) × (count * ENTRY_ENTRIES ≤ length entries.old) }
-    ensures { EntriesComputed lines.now r.now.stmts.now count r.now.n entries.old entries.new }
+// The rows of these lines with these statements.
+pub(crate) fn compute_line_after(r: &Records<'_>, lines: &[u16], entries: &mut [u16])
+    requires { length lines.now * ENTRY_ENTRIES ≤ length entries.old }
+    ensures { EntriesComputed lines.now r.now.stmts.now (length lines.now) r.now.n entries.old entries.new }
 {
     store_first_nodes(r, entries);
-    fill_empty_lines(lines, entries, count);
+    fill_empty_lines(lines, entries);
 }
 
 // The entries of `count` lines, once they are computed.
@@ -101,7 +100,7 @@ impl<'a> Entries<'a> {
     }
 
     // The node where the line of row k enters: one more than it, or 0.
-    // Kept: the number, as `entry_of`.
+    // Kept: the number: callers put it into a table as it is, or hand it on to `add_edge`.
     pub(crate) fn node(&self, k: usize) -> u16
         requires { k < self.now.count }
         ensures { result ≡ get_or self.now.rows.now (k * ENTRY_ENTRIES + ENTRY_NODE) 0 }

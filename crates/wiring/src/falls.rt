@@ -6,14 +6,13 @@ ghost use Rattle.passes.specs.Connecting.{Begins};
 ghost use Rattle.layout.specs.Refusals.{refusal_at};
 ghost use Rattle.layout.specs.declared.refusals.Reason.TheVariants as reason;
 ghost use Rattle.wiring.specs.Found.{all_found};
-ghost use Rattle.wiring.specs.Branches.{branch_of, Led};
+ghost use Rattle.wiring.specs.Branches.{Led};
 
 use crate::entries::Entries;
-use layout::columns::{
-    FALL_ENTRIES, FORM1, FORM2, NO_BRANCH, NUMBER1, NUMBER2, STMT_ENTRIES, TO_BRANCH,
-};
+use layout::columns::{FALL_ENTRIES, FORM1, FORM2, NO_BRANCH, NUMBER1, NUMBER2, STMT_ENTRIES};
 use layout::limits::{MAX_DEPTH, MAX_STMTS};
 use layout::refusals::{Reason, Refusal};
+use reader::branch::Branch;
 use tables::nodes::Records;
 
 // Statements nest to depth 16, and those of a line have depth 0.
@@ -31,28 +30,9 @@ impl From<NotFound> for Refusal {
     }
 }
 
-// What a branch of an IF holds: statements, or the number of a line.
-// Kept: the reader writes it and the wiring reads it back; one type of both would stand in `layout`, for two functions.
-#[derive(Clone, Copy)]
-enum Branch {
-    Stmts,
-    To(u16),
-}
-
-// The branch, if there is one, whose form and number a record has.
-fn branch_of(form: u16, number: u16) -> Option<Branch>
-    ensures { result ≡ branch_of form number }
-{
-    match form {
-        NO_BRANCH => None,
-        TO_BRANCH => Some(Branch::To(number)),
-        _ => Some(Branch::Stmts),
-    }
-}
-
 // Where a statement falls that ends at e, in a list that ends at `end` and then comes to `next`.
 // Kept: `next`, here and below, is the number that a row of falls holds: all that hands it on ends in `put_falls`.
-// Kept: `end` and `next` one by one: each call pairs them anew, so a struct would be made at each.
+// Kept: `end` and `next` one by one: four of the nine calls pair them anew, and a struct would be made at each of these.
 fn target_of(e: usize, end: usize, next: u16) -> u16
     requires { e < 65535 }
     ensures { result ≡ target_of e end next }
@@ -108,8 +88,8 @@ impl<'a, 'b> Rows<'a, 'b> {
     {
         let stmts = self.records.stmts;
         let row = i * STMT_ENTRIES;
-        let first = branch_of(stmts[row + FORM1], stmts[row + NUMBER1]);
-        let second = branch_of(stmts[row + FORM2], stmts[row + NUMBER2]);
+        let first = Branch::of_columns(stmts[row + FORM1], stmts[row + NUMBER1]);
+        let second = Branch::of_columns(stmts[row + FORM2], stmts[row + NUMBER2]);
         let first_leads = self.branch_target(first, i + 1, m, next);
         let second_leads = self.branch_target(second, m, end, next);
         put_falls(falls, i, next, first_leads, second_leads);

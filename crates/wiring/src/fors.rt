@@ -1,4 +1,4 @@
-// The FOR stack in reading order, and the dispatched FORs.
+// The FOR stack in reading order.
 ghost use Rattle.std.specs.Prelude.{◌≡◌, true, ◌+◌, ◌*◌, ◌/◌, ◌≤◌, ◌<◌, eqb, length, get_or};
 ghost use Rattle.passes.specs.ListedNodes.{SlotsCounted, AllCounted};
 ghost use Rattle.passes.specs.FrameStacks.{HoldsBelow, top_mark};
@@ -6,17 +6,15 @@ ghost use Rattle.passes.specs.ForStack.{moves_fors, Sought, SlotFound, ForPushed
 ghost use Rattle.passes.specs.Sets.{bit};
 ghost use Rattle.passes.specs.NotedKeys.{note_of};
 ghost use Rattle.passes.specs.ForLinks.{ForsLinked};
-ghost use Rattle.passes.specs.Dispatched.{is_dispatched, DispatchedTo};
 ghost use Rattle.tables.specs.OneMore.{one_more};
 ghost use Rattle.wiring.specs.NotedFors.{Noted};
 
 use crate::stacks::{FrameStack, number_of};
-use layout::columns::{ARG_ENTRIES, DISPATCHED, STMT_ENTRIES};
+use layout::columns::{ARG_ENTRIES, STMT_ENTRIES};
 use layout::limits::MAX_STMTS;
 use layout::words::{FOR, NEXT};
 use layout::zeroing::{all_of, fill_behind};
-use tables::nodes::{Nodes, Records};
-use walks::lists::list_where;
+use tables::nodes::Records;
 use walks::sets::{WORD_BITS, has_bit, insert};
 
 // The keys of FORs are noted by their remainders: by a prime, so that names that are alike seldom share one.
@@ -119,7 +117,8 @@ impl<'a> Fors<'a> {
 
     // The slots of NEXT i in order; row gets what each pops: one more than the FOR, or 0. With no FOR open the slots
     // that are left pop nothing.
-    // Kept: the row by places: where no FOR is open, the rest of it is filled from a place on.
+    // Kept: the row by places: where no FOR is open, the rest of it is filled from a place on, by `fill_behind` as in
+    // `stacks.rt`.
     fn pop_slots(&mut self, keys: &[u64], i: usize, row: &mut [u16])
         requires i_bound { (i < MAX_STMTS) × (i * ARG_ENTRIES ≤ length self.old.args.now) × (length keys.now ≡ length row.old) }
         requires holds_below { HoldsBelow self.old.stack.words i }
@@ -175,20 +174,4 @@ pub(crate) fn link_fors(r: &Records<'_>, args: &[u64], links: &mut [u16])
             fors.link_node(r, i, links);
         }
     }
-}
-
-// Whether node i is a dispatched FOR that has a body.
-#[tactic(auto, using(std::proofs::lemmas::Bool::Decides::nat_tests), unfolding(passes::specs::Dispatched::is_dispatched))]
-fn is_dispatched(g: &Nodes<'_>, i: usize) -> bool
-    ensures { result ≡ is_dispatched g.now.records.stmts.now g.now.falls.now i }
-{
-    g.records.word(i) == FOR && g.records.detail(i) == DISPATCHED && g.fall(i) != 0
-}
-
-// The dispatched FORs that have a body, in reading order; answers how many.
-// Kept: an array and how many, as `list_where`.
-pub(crate) fn list_dispatched(g: &Nodes<'_>, dispatched: &mut [u16; MAX_STMTS]) -> usize
-    ensures { DispatchedTo g.now.records.stmts.now g.now.falls.now g.now.records.n dispatched.old dispatched.new result }
-{
-    list_where(&g.records, |i| is_dispatched(g, i), dispatched)
 }

@@ -1,5 +1,6 @@
 // What each node meets on the loop stack and on the DO stack, and the links from openers to closers and along ELSEs.
-// Kept: rows by their places: of what a slice holds behind `as_chunks_mut` std says its length alone.
+// Kept: one flat table, though it is the wiring's own: `Framed`, `linked` and `Stepped` say it of a flat one, and would
+// be stated anew.
 ghost use Rattle.std.specs.Prelude.{◌≡◌, true, false, ◌+◌, ◌*◌, ◌≤◌, ◌<◌, length, get_or};
 ghost use Rattle.passes.specs.FrameStacks.{HoldsBelow};
 ghost use Rattle.passes.specs.Frames.{Framed};

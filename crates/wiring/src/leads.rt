@@ -14,8 +14,9 @@ pub(crate) const FRAMES: usize = MAX_STMTS * FRAME_ENTRIES;
 
 // The nodes, the line entries, the frames that nodes meet, and the dispatched FORs that have a body; the last two are
 // the wiring's own tables.
-// Kept: the frames are one table with three numbers a node; three arrays of `Option`s would be read by the same three
-// methods below, and `Framed`, on which all that is proved of frames stands, be stated anew for no plainer code.
+// Kept: the frames are one flat table with three numbers a node: as rows of three, or as three arrays of `Option`s,
+// they would be read by the same three methods below, and what `Framed`, `linked` and `Stepped` say be stated anew for
+// no plainer code.
 // Kept: `args` goes beside the leads to all that reads both, since `fill_rows` writes it while it reads the leads.
 // Kept: what goes over it stands as functions in modules of their own, by what they write: methods would be one `impl`
 // a module.

@@ -92,7 +92,7 @@ fn add_until(list: &mut NodeList<'_>, g: &Leads<'_, '_>, i: usize)
 }
 
 // The words that do not fall are these three.
-// Kept: a test of its own, as `joins_frame`.
+// Kept: a test of its own, since `block_edges` goes by `falls_word`.
 #[tactic(auto, using(std::proofs::lemmas::Bool::Decides::nat_tests), unfolding(passes::specs::NodeList::falls_word))]
 fn falls_on(word: u16) -> bool
     ensures { result ≡ falls_word word }

@@ -23,7 +23,7 @@ pub(crate) fn prepare(
     requires { PrepareReady lines.now records.stmts.now args.now entries.old falls.old links.old count records.n }
     ensures { PreparedTo lines.now records.entry.stmts.now args.now entries.new falls.new links.new count records.entry.n (all_found result) }
 {
-    compute_line_after(&records, lines, entries, count);
+    compute_line_after(&records, &lines[..count], entries);
     let entries = Entries {
         rows: entries,
         count,

@@ -23,7 +23,8 @@ fn continuation(g: &Leads<'_, '_>, i: usize) -> Option<u16>
 }
 
 // Puts node a behind the targets, unless its mark says that it is one of them.
-// Kept: beside `walks::walk::mark_all`, whose list is the worklist that `region` reads while it grows.
+// Kept: beside `walks::walk::mark_all`: that one asks for marks and room, and no function that another crate calls asks
+// for anything.
 fn put_target(list: &mut NodeList<'_>, a: u16, marks: &mut [bool; MAX_STMTS])
     requires { (a < MAX_STMTS) × (list.old.n < length list.old.part.now) × Marking MAX_STMTS marks.old list.old.part.now list.old.n }
     ensures { TargetsPut (a ∷ []) marks.new list.old list.new }

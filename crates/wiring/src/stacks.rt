@@ -67,7 +67,8 @@ impl FrameStack {
     }
 
     // The highest mark below mark id: the frame under the frame of opener id.
-    // Kept: the sum of a word's place and its top bit as in `highest`: a function of both would be as long as the two.
+    // Kept: the sum of a word's place and its top bit as in `highest`; tried as a function of both: its contract has to
+    // say of a word what `highest_mark` says of a list, and the source grew by eight lines.
     pub(crate) fn below(&self, id: usize) -> Option<usize>
         requires { id < MAX_STMTS }
         ensures { (one_more result ≤ id) × (one_more result ≡ top_mark (under self.now.words id)) }
@@ -107,6 +108,8 @@ impl FrameStack {
     }
 
     // Pops down to the frame of opener id: it and all above it go.
+    // Kept: `fill_behind`; tried as `self.words[q + 1..].fill(0)`, here and in `fors.rt`: it proves, and `flowlist`
+    // took 0.3 % more instructions on 1,500 FORs closed one by one, 0.1 % less on 1,500 that are closed at the end.
     pub(crate) fn pop_to(mut self, id: usize) -> FrameStack
         requires { id < MAX_STMTS }
         ensures { result.words ≡ under self.words id }

@@ -4,7 +4,6 @@ ghost use Rattle.wiring.specs.FromLeads.{CountReadyFrom, CountedFrom, FramesIn, 
 
 use crate::by_rows::return_edges_by_filled_rows;
 use crate::entries::Entries;
-use crate::fors::list_dispatched;
 use crate::frames::stack_frames;
 use crate::leads::{FRAMES, Leads};
 use crate::return_targets::list_return_targets;
@@ -15,6 +14,7 @@ use layout::zeroing::all_of;
 use storing::edge_count::edges_fit;
 use storing::write_graph::write_graph;
 use tables::nodes::{Nodes, Records};
+use walks::lists::list_dispatched;
 use walks::regions::region_return_edges;
 use walks::return_totals::count_returns;
 
@@ -137,8 +137,8 @@ fn wire_lists(
 }
 
 // The lists of all nodes. Their frames and dispatched FORs are in arrays of its own, since nothing else reads them.
-// Kept: tables that are written go one by one, as above; the four that are read, since the caller would make a `Nodes`
-// of them in as many lines.
+// Kept: tables that are written go one by one, as above; the four that are read, since the borrow checker does not
+// cover a `Nodes` that the caller makes (tried): its records and its tables are lent there for lifetimes of their own.
 // Kept: `handlers`, as above.
 pub(crate) fn wire_graph<'a>(
     r: &Records<'a>,
@@ -165,8 +165,7 @@ pub(crate) fn wire_graph<'a>(
         falls,
         links,
     };
-    let d = list_dispatched(&nodes, &mut buffer);
-    let dispatched = &buffer[..d];
+    let dispatched = list_dispatched(&nodes, &mut buffer);
     let entries = *w;
     let leads = Leads {
         nodes,

@@ -1,5 +1,5 @@
 -- `put_by_number`: each opening word in turn. Assumes nothing.
-use Rattle.std.proofs.Common.{ℕ, ◌+◌, ◌-◌, rules, arith, ◌≡◌, refl, ap, ◌∙◌, Err, take, drop}
+use Rattle.std.proofs.Common.{rules, arith, ◌≡◌, refl, ap, ◌∙◌, Err}
 use Rattle.listings.specs.Bytes.{bytes}
 use Rattle.graph.specs.Lists.{list}
 use Rattle.adjacency.specs.EntryAt.{node_of}
@@ -7,10 +7,6 @@ use Rattle.formatting.specs.Pages.{wrote_is}
 use Rattle.answers.specs.Flowask.{list_row}
 use Rattle.answers.specs.AnswersAt.{answer_at, numbered_row, successors_answer, predecessors_answer, statement_answer, entry_answer, successors_inside, predecessors_inside, list_is, no_list, row_is, no_row, entry_row_is}
 use Rattle.answers.proofs.answers.put_by_number.Goals as goal
-
--- as many entries as the part has
-part_of : (a n : ℕ) → a + n - a ≡ n
-part_of a n = omega arith
 
 pub returns-in_err-start-in-Successors : goal.returns-in_err-start-in-Successors
 unfolding bytes answer_at successors_answer
@@ -35,7 +31,7 @@ returns-in_ok-start-in-Successors c =
     let g = c.args.g.now in
     let o = c.in_ok-start-in-Successors in
     rw c.in-Successors.is
-    (wrote_is (ap (λ (m : ℕ). list_row (bytes "(successors") (take m (drop o.start g.succ.now))) (part_of o.start o.len) ∙ list_is (bytes "(successors") g.succ.now _ _ o.ensures ∙ ap (successors_answer g.counts.now g.lists.now g.succ.now) c.from-node.ensures) c.put_list_row.ensures)
+    (wrote_is (list_is (bytes "(successors") g.succ.now _ _ _ o.ensures ∙ ap (successors_answer g.counts.now g.lists.now g.succ.now) c.from-node.ensures) c.put_list_row.ensures)
 
 pub returns-in_err-start-in-Predecessors : goal.returns-in_err-start-in-Predecessors
 unfolding bytes answer_at predecessors_answer
@@ -60,7 +56,7 @@ returns-in_ok-start-in-Predecessors c =
     let g = c.args.g.now in
     let o = c.in_ok-start-in-Predecessors in
     rw c.in-Predecessors.is
-    (wrote_is (ap (λ (m : ℕ). list_row (bytes "(predecessors") (take m (drop o.start g.pred.now))) (part_of o.start o.len) ∙ list_is (bytes "(predecessors") g.pred.now _ _ o.ensures ∙ ap (predecessors_answer g.counts.now g.lists.now g.pred.now) c.from-node.ensures) c.put_list_row-in-Predecessors.ensures)
+    (wrote_is (list_is (bytes "(predecessors") g.pred.now _ _ _ o.ensures ∙ ap (predecessors_answer g.counts.now g.lists.now g.pred.now) c.from-node.ensures) c.put_list_row-in-Predecessors.ensures)
 
 pub returns-in_err-node-in-Statement : goal.returns-in_err-node-in-Statement
 unfolding answer_at statement_answer

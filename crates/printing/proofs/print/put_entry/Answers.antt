@@ -5,4 +5,4 @@ use Rattle.printing.proofs.print.put_entry.Goals as goal
 
 pub returns : goal.returns
 unfolding bytes
-returns c = wrote_entry c.args.entries.now c.args.k _ c.from-number.ensures (some_read _ _ _ _ _ c.from.ensures c.checked_sub-node.ensures c.put_some.ensures)
+returns c = wrote_entry c.args.row.now 0 _ c.from-number.ensures (some_read _ _ _ _ _ c.from.ensures c.checked_sub-node.ensures c.put_some.ensures)

@@ -18,7 +18,7 @@ pub put_jump-requires : goal.put_jump-requires
 put_jump-requires c = (c.requires.0, (size_ready c.args.source.now.handlers c.requires.1 (search rules) (search rules)).3)
 
 pub returns-then-is_call : goal.returns-then-is_call
-returns-then-is_call c = size_call c.args.source.now.handlers c.requires.1 (search rules) (search rules) (search rules) c.put_jump.auto.part c.put_jump.ensures
+returns-then-is_call c = size_call c.args.source.now.handlers c.requires.1 (search rules) (search rules) c.told-buffer c.put_jump.ensures
 
 pub returns : goal.returns
 returns c =

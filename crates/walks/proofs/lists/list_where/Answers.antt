@@ -1,6 +1,7 @@
 -- `list_where`: a node that passes is put behind those before it. Assumes nothing.
 use Rattle.std.proofs.Common.{◌≡◌, refl, sym, ◌∙◌, arith}
-use Rattle.passes.specs.ListedWhere.{where_start, where_yes, where_no}
+use Rattle.passes.specs.Sets.{Put}
+use Rattle.passes.specs.ListedWhere.{listed_where, where_start, where_yes, where_no}
 use Rattle.walks.proofs.lists.list_where.Goals as goal
 use Rattle.walks.proofs.lists.list_where.Goals.{then-passes, else-passes}
 
@@ -26,4 +27,5 @@ pub returns : goal.returns
 returns g c p told =
     let l = c.loop-i in
     let e : l.i ≡ c.args.records.now.n = omega (arith, c.loop-i-test.false) in
-    rw (← e) (l.invariant.1 p told)
+    let put : Put c.args.list.now 0 l.list l.m (listed_where p c.args.records.now.n) = rw (← e) (l.invariant.1 p told) in
+    put.list

@@ -18,4 +18,4 @@ pub returns : goal.returns
 returns c =
     let w = c.args.w.now in
     let step = stored_list w.lists.now w.edges.now in
-    c.join_region.ensures step (c.region-count.ensures.reached step c.requires.0.stored)
+    c.join_region.ensures step (c.region.ensures step c.requires.0.stored)

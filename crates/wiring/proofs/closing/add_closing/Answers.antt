@@ -1,6 +1,7 @@
 -- `add_closing`: by the opening word. Assumes nothing.
 use Rattle.std.proofs.Common.{rules, ◌≡◌, sym, refl, ◌∙◌}
 use Rattle.passes.specs.ClosingLaws.{ready_doif, ready_closer, closing_doif, closing-joined, closing-none}
+use Rattle.wiring.specs.OnLists.{closer_made}
 use Rattle.tables.specs.OneMore.{one_more}
 use Rattle.wiring.proofs.closing.add_closing.Goals as goal
 
@@ -16,12 +17,11 @@ returns-in-21 c =
       is = (closing_doif c.args.g.now.nodes.records.stmts.now c.args.g.now.nodes.falls.now c.args.g.now.frames.now c.args.i _ _ _ _ (sym c.word-word.ensures ∙ c.in-21.is) m.is.0, m.is.1);
     }
 
-pub add_closer-requires : goal.add_closer-requires
-add_closer-requires c = (c.requires.ready.0, ready_closer c.args.g.now.nodes.records.stmts.now c.args.g.now.nodes.falls.now c.args.g.now.frames.now c.args.i _ c.requires.ready.1 (one_more c.opener.result) c.opener.ensures)
-
 pub returns-in_default : goal.returns-in_default
 returns-in_default c =
-    let m = c.add_closer.ensures in
+    let g = c.args.g.now in
+    let x = one_more c.opener.result in
+    let m = closer_made g.nodes.falls.now g.frames.now x c.requires.ready.0 (ready_closer g.nodes.records.stmts.now g.nodes.falls.now g.frames.now c.args.i _ c.requires.ready.1 x c.opener.ensures) c.add_closer.ensures in
     record {
       same_reference = m.same_reference;
       size = m.size;

@@ -8,8 +8,8 @@ use Rattle.walks.proofs.spans.Calls.among.Goals as goal
 pub span_calls-requires : goal.span_calls-requires
 span_calls-requires c =
     let g = c.args.g.now in
-    let r = calls_ready c.requires.0 c.list_calls-count.ensures.list in
-    (targets_fit r.fit, omega (arith, ap length c.list_calls-count.ensures.list, where_few (is_call g.records.stmts.now) g.records.n, c.requires.0.few), c.requires.1)
+    let r = calls_ready c.requires.0 c.list_calls-list.ensures in
+    (targets_fit r.fit, omega (arith, ap length c.list_calls-list.ensures, where_few (is_call g.records.stmts.now) g.records.n, c.requires.0.few), c.requires.1)
 
 pub returns-clause-ready : goal.returns-clause-ready
-returns-clause-ready c = calls_ready c.requires.0 c.list_calls-count.ensures.list
+returns-clause-ready c = calls_ready c.requires.0 c.list_calls-list.ensures

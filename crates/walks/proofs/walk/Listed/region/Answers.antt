@@ -32,5 +32,6 @@ loop-done-preserved c =
 
 pub returns : goal.returns
 returns c =
-    region_listed (stored_in c.args.self.now) c.requires
-    (omega (arith, walk_few c.loop-done.invariant, c.loop-done.invariant.work_size)) (walk_end _ _ _ _ _ _ _ c.loop-done-test.false c.loop-done.invariant)
+    let listed = region_listed (stored_in c.args.self.now) c.requires
+    (omega (arith, walk_few c.loop-done.invariant, c.loop-done.invariant.work_size)) (walk_end _ _ _ _ _ _ _ c.loop-done-test.false c.loop-done.invariant) in
+    listed.reached

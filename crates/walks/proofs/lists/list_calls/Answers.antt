@@ -2,7 +2,7 @@
 use Rattle.std.proofs.Common.{rules}
 use Rattle.tables.specs.Columns.{word_of}
 use Rattle.passes.specs.Regions.{is_call}
-use Rattle.walks.proofs.spans.list_calls.Goals as goal
+use Rattle.walks.proofs.lists.list_calls.Goals as goal
 
 pub returns : goal.returns
 unfolding word_of
