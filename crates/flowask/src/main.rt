@@ -23,7 +23,7 @@ const MAX_TEXT: usize = 262144;
 const MAX_ANSWERS: usize = 2097152;
 
 // With tables that suffice at all limits.
-// Kept: a length, as `formatting::page::print_bytes` answers: it tells whether the answers are too long.
+// Kept: a length: where the answers are too long `out` is written again, so no slice of it can be kept.
 fn ask_at_limits(text: &[u8], out: &mut [u8]) -> usize
     ensures { Puts out.old 0 out.new result (ask_text limits text.now) }
 {

@@ -65,8 +65,10 @@ fn keeps_shared(word: u16, flag: bool) -> bool
 }
 
 impl FrameTables<'_> {
-    // The number of node i's opening word; 0 where the table ends before it. There the
-    // first argument is 0 too, and it falls nowhere.
+    // The number of node i's opening word; 0 where the table ends before it. So too its first argument and where it
+    // falls, by their own tables.
+    // Kept: 0 and no `Option`, as the definition reads it: it is asked of nodes alone whose rows `short_tables` has
+    // seen, so each caller would take the `Option` apart for nothing.
     #[tactic(auto, unfolding(tables::specs::Columns::word_of))]
     fn word(&self, i: usize) -> u16
         ensures { result ≡ word_of self.now.stmts.now i }

@@ -59,8 +59,8 @@ pub const PRED_START: usize = 2;
 
 pub const PRED_COUNT: usize = 3;
 
-// The build's own rows of frames: after the opener of the frame that a statement closes or joins, the closer of the
-// frame that it opens, and a DOIF's first ELSE or an ELSE's next one.
+// The frames of statements as clauses have them, one after the other: after the opener of the frame that a statement
+// closes or joins, the closer of the frame that it opens, and a DOIF's first ELSE or an ELSE's next one.
 pub const CLOSER: usize = 1;
 
 pub const ELSE_LINK: usize = 2;

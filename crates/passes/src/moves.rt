@@ -25,6 +25,7 @@ impl FrameMove {
 }
 
 // REPEAT and LOOP open, UNTIL and ENDLOOP close, EXIT and EXITIF join.
+// Kept: this and the next are two functions, as the definitions are two: no word stands in both.
 #[tactic(auto, unfolding(crate::specs::Frames::loop_move))]
 pub fn loop_move(word: u16) -> FrameMove
     ensures { move_of result ≡ loop_move word }

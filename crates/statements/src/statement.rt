@@ -41,6 +41,9 @@ struct Statements<'a> {
 
 impl<'a> Statements<'a> {
     // The number of node i's opening word.
+    // Kept: this and those below read one column each, of a node: by `tables::nodes::entry`, of any number (proved, six
+    // lines fewer), `flowask` took 9 % more instructions on its stored questions; an `entry` of their own, as `Records`
+    // has, would be a contract more.
     #[tactic(auto, unfolding(tables::specs::Columns::word_of))]
     fn word(&self, i: usize) -> u16
         requires { i < self.now.n }
@@ -58,6 +61,7 @@ impl<'a> Statements<'a> {
     }
 
     // One more than the IF that holds it, or 0.
+    // Kept: the number: `stands_at` compares it, `holder` alone takes it apart.
     fn held_by(&self, i: usize) -> usize
         requires { i < self.now.n }
         ensures { result ≡ holder_of self.now.stmts.now i }

@@ -1,7 +1,7 @@
 // The predecessor lists, by counting: how many each node has, where its list begins, then the lists in node order.
 // Kept: rows by their places: of what a slice holds behind `as_chunks_mut` std says its length alone.
-// Kept: `lists` and `nodes` one by one: a struct of both would be made in `write_predecessors` for five methods, each
-// of which would have to promise besides that `nodes` stays.
+// Kept: `lists` and `nodes` one by one: a struct of both would be made in `write_predecessors` for five methods, all
+// but the last of which would have to promise besides that `nodes` stays.
 ghost use Rattle.std.specs.Prelude.{◌*◌, ◌<◌, ◌≤◌, length};
 ghost use Rattle.tables.specs.Columns.{pred_count};
 ghost use Rattle.passes.specs.Counting.{sum_to};

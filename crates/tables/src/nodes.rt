@@ -86,7 +86,8 @@ impl<'a> Records<'a> {
         usize::from(self.entry(i, END))
     }
 
-    // The node where its second branch begins; 0 where it has none.
+    // The node behind the first branch of an IF, where a second one would begin.
+    // Kept: the number: it is asked of an IF alone, and tested there whether it stands behind the IF, not past its end.
     pub fn second(&self, i: usize) -> usize
         ensures { result ≡ get_or self.now.stmts.now (i * STMT_ENTRIES + SECOND) 0 }
     {

@@ -9,7 +9,8 @@ use tables::nodes::Records;
 
 // Clears the set of node i, where that is a RETURN.
 // Kept: here and below sets with their bound in the contract: a struct of them would be made in each of the three
-// public functions that have them lent to write (`clear_sets`, `region_return_edges`, `return_edges_by_rows`).
+// public functions that have them lent to write (`clear_sets`, `region_return_edges`, `return_edges_by_rows`), and what
+// is called there in a loop, or before another, would have to promise besides that the records stay.
 fn clear_set(records: &Records<'_>, i: usize, sets: &mut [u64])
     requires { (i < records.now.n) × (i * WORDS + WORDS ≤ length sets.old) }
     ensures { SetCleared records.now.stmts.now i sets.old sets.new }

@@ -21,7 +21,7 @@ fn row_copy(rows: &[u64], i: usize) -> [u64; WORDS]
 
 // Joins `row`, which is row k, into row i, where that has node k.
 // Kept: here and below rows with their bound in the contract: a struct of rows and n would be made for one call, that
-// of `close_rows`, and each of the three functions here would have to promise besides that n stays.
+// of `close_rows`, and the first two would have to promise besides that n stays.
 fn close_row(rows: &mut [u64], i: usize, k: usize, row: &[u64; WORDS])
     requires { (i < MAX_STMTS) × (i * WORDS + WORDS ≤ length rows.old) × (k < MAX_STMTS) }
     ensures { RowJoined k row.now i rows.old rows.new }

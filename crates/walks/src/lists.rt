@@ -11,8 +11,8 @@ use tables::calls::is_call;
 use tables::nodes::{Nodes, Records};
 
 // Those that pass.
-// Kept: a closure, and the `requires` that one needs, that it can be called. Tried: a trait with a ghost member, which
-// needs none; but each of the two tests, a line as a closure, becomes a struct and an `impl`, eleven lines.
+// Kept: a closure, and the `requires` that one needs, that it can be called: as a trait with a ghost member each of the
+// two tests, a line as a closure, becomes a struct and an `impl`, eleven lines (written, not proved).
 // Kept: a counter: `.filter(..).enumerate()` counts too, but its count ends with the loop.
 fn list_where<'b, F: Fn(usize) -> bool>(
     records: &Records<'_>,

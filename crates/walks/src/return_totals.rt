@@ -6,7 +6,7 @@ ghost use Rattle.tables.specs.Columns.{word_of};
 ghost use Rattle.passes.specs.ReturnTotals.{sum_where, return_size, return_total};
 
 use crate::readable::sets_fit;
-use crate::sets::{Sets, count_members};
+use crate::sets::{Sets, size_of};
 use layout::limits::MAX_STMTS;
 use layout::words::RETURN;
 use tables::nodes::Records;
@@ -14,7 +14,7 @@ use tables::nodes::Records;
 // How many edges node i has as a RETURN: none where it is no RETURN.
 // Kept: `handlers` says what the listing has, a word of the paper and of every definition here; an enum would be taken
 // apart at each clause.
-#[tactic(auto, unfolding(passes::specs::ReturnTotals::return_size, tables::specs::Columns::word_of, passes::specs::ReturnSets::set_of))]
+#[tactic(auto, unfolding(passes::specs::ReturnTotals::return_size, tables::specs::Columns::word_of, passes::specs::ReturnSets::set_of, passes::specs::Sets::size_of))]
 fn return_size(handlers: bool, sets: &Sets<'_>, i: usize, targets: usize) -> usize
     requires { i < sets.now.records.n }
     ensures { result ≡ pick (eqb (word_of sets.now.records.stmts.now i) return_word) (return_size handlers targets sets.now.words.now i) 0 }
@@ -25,7 +25,7 @@ fn return_size(handlers: bool, sets: &Sets<'_>, i: usize, targets: usize) -> usi
     if handlers {
         return targets;
     }
-    count_members(sets.of(i))
+    size_of(sets.of(i))
 }
 
 // How many edges all RETURNs have together.

@@ -14,9 +14,10 @@ use tables::nodes::Records;
 pub const WORD_BITS: usize = u64::BITS as usize;
 
 // The words of a set: a bit for each statement that there may be. A row of arguments has as many entries.
-// Kept: a set that is lent is a slice of so many words, and no array: it stands in a row of a lent table, which
-// definitions read flat (`set_of`); over rows of `as_chunks` each clause would flatten them again, as at the wiring's
-// `Entries`.
+// Kept: a set that is lent is a slice, and no array of so many words: it stands in a row of a lent table, which
+// definitions read flat (`set_of`); rows would have to be made of it, by `as_chunks`, wherever it is lent, and be read
+// flat again in clauses. `size_of` and `members` go over to the array (`as_array`), and what they call takes it;
+// `has_bit`, `insert` and `join_set` answer for a set of any length.
 pub const WORDS: usize = MAX_STMTS / WORD_BITS;
 
 // The set of node i, of a table with one for each node; where the table ends before it has them all, what there is
@@ -32,8 +33,8 @@ pub fn set_at(sets: &[u64], i: usize) -> &[u64]
 
 // Where the words of node i's set stand in a table with one for each node.
 // Kept: beside `tables::nodes::words_of`, which another crate calls and so answers for any number, with care at the
-// product and the sum: here i is a node, and the closure asks n * n times. That one was not measured here; by `set_at`,
-// with two `min`s more, 4,096 ANYs took 1.95 times the instructions.
+// product and the sum: here i is a node, and the closure asks n * n times. By that one (proved) 4,088 ANYs took 1.97
+// times the instructions.
 pub(crate) fn words_of(i: usize) -> Range<usize>
     requires { i < MAX_STMTS }
     ensures { (result.start ≡ i * WORDS) × (result.end ≡ i * WORDS + WORDS) }
@@ -117,8 +118,7 @@ pub fn join_set(set: &mut [u64], more: &[u64])
 }
 
 // How many members the set has.
-pub(crate) fn count_members(set: &[u64]) -> usize
-    requires { length set.now ≤ WORDS }
+fn count_members(set: &[u64; WORDS]) -> usize
     ensures { result ≡ length (members_of set.now) }
 {
     set.iter().map(|word| word.count_ones()).sum::<u32>() as usize
@@ -131,10 +131,7 @@ pub(crate) fn count_members(set: &[u64]) -> usize
 pub fn size_of(set: &[u64]) -> usize
     ensures { result ≡ size_of set.now }
 {
-    if set.len() != WORDS {
-        return 0;
-    }
-    count_members(set)
+    set.as_array().map_or(0, count_members)
 }
 
 // Puts the members of a word, whose lowest bit is the id `base`, behind n.
@@ -159,8 +156,8 @@ fn put_word(part: &mut [u16], n: usize, base: usize, word: u64) -> usize
 }
 
 // Writes the members, ascending, and answers how many; the rest of the part stays.
-pub(crate) fn put_members(set: &[u64], part: &mut [u16]) -> usize
-    requires { (length set.now ≡ WORDS) × (length (members_of set.now) ≤ length part.old) }
+pub(crate) fn put_members(set: &[u64; WORDS], part: &mut [u16]) -> usize
+    requires { length (members_of set.now) ≤ length part.old }
     ensures { Put part.old 0 part.new result (members_of set.now) }
 {
     let mut n: usize = 0;
@@ -176,8 +173,8 @@ pub(crate) fn put_members(set: &[u64], part: &mut [u16]) -> usize
 pub fn members(set: &[u64], part: &mut [u16]) -> usize
     ensures { Put part.old 0 part.new result (members_within set.now (length part.old)) }
 {
-    if set.len() != WORDS || part.len() < count_members(set) {
-        return 0;
+    match set.as_array() {
+        Some(words) if count_members(words) <= part.len() => put_members(words, part),
+        _ => 0,
     }
-    put_members(set, part)
 }

@@ -13,6 +13,7 @@ pub mod Branches
 pub mod Limits
 pub mod LineStarts
 pub mod CameBefore
+pub mod FrameRows
 pub mod FrameWords
 pub mod Places
 pub mod NotedFors

@@ -4,6 +4,7 @@
 // the order of the ELSEs `add_elses` would not end.
 ghost use Rattle.std.specs.Prelude.{◌≡◌, length, ◌<◌};
 ghost use Rattle.passes.specs.Closing.{ElsesFit, DoifFits, joins_word, closer_from, ClosingReady};
+ghost use Rattle.wiring.specs.FromLeads.{frames_of};
 ghost use Rattle.wiring.specs.OnLists.{Fits, ElsesMade, DoifMade, ClosingMade};
 ghost use Rattle.storing.specs.NodeLists.{AddedTo};
 ghost use Rattle.tables.specs.OneMore.{one_more};
@@ -16,8 +17,8 @@ use storing::growing::NodeList;
 // Kept: a `while let`; tried as a `for` over `std::iter::successors`: its proof has to show first that no later call of
 // the closure can fail, and nothing reads plainer.
 fn add_elses(list: &mut NodeList<'_>, g: &Leads<'_, '_>, first: Option<usize>)
-    requires { Fits list.old × ElsesFit g.now.frames.now g.now.nodes.falls.now (length list.old.part.now) (one_more first) }
-    ensures { ElsesMade g.now.nodes.falls.now g.now.frames.now (one_more first) list.old list.new }
+    requires { Fits list.old × ElsesFit (frames_of g.now) g.now.nodes.falls.now (length list.old.part.now) (one_more first) }
+    ensures { ElsesMade g.now.nodes.falls.now (frames_of g.now) (one_more first) list.old list.new }
 {
     let mut next = first;
     while let Some(j) = next {
@@ -28,8 +29,8 @@ fn add_elses(list: &mut NodeList<'_>, g: &Leads<'_, '_>, first: Option<usize>)
 
 // A DOIF goes to where its ELSEs fall; where its DONE falls if it has none.
 fn add_doif(list: &mut NodeList<'_>, g: &Leads<'_, '_>, i: usize)
-    requires { Fits list.old × DoifFits g.now.nodes.falls.now g.now.frames.now (length list.old.part.now) i }
-    ensures { DoifMade g.now.nodes.falls.now g.now.frames.now i list.old list.new }
+    requires { Fits list.old × DoifFits g.now.nodes.falls.now (frames_of g.now) (length list.old.part.now) i }
+    ensures { DoifMade g.now.nodes.falls.now (frames_of g.now) i list.old list.new }
 {
     match g.next_else(i) {
         None => list.add_edge(g.fall_of(g.closer(i))),
@@ -39,7 +40,7 @@ fn add_doif(list: &mut NodeList<'_>, g: &Leads<'_, '_>, i: usize)
 
 // Where the closer of the frame of that opener falls, if there is one.
 fn add_closer(list: &mut NodeList<'_>, g: &Leads<'_, '_>, opener: Option<usize>)
-    ensures { AddedTo list.old list.new (closer_from g.now.nodes.falls.now g.now.frames.now (one_more opener)) }
+    ensures { AddedTo list.old list.new (closer_from g.now.nodes.falls.now (frames_of g.now) (one_more opener)) }
 {
     if let Some(o) = opener {
         list.add_edge(g.fall_of(g.closer(o)));
@@ -59,8 +60,8 @@ fn joins_frame(word: u16) -> bool
 // Adds what later nodes add to node i's list.
 pub(crate) fn add_closing(list: &mut NodeList<'_>, g: &Leads<'_, '_>, i: usize)
     requires in_bounds { i < g.now.nodes.records.n }
-    requires ready { Fits list.old × ClosingReady g.now.nodes.records.stmts.now g.now.nodes.falls.now g.now.frames.now i (length list.old.part.now) }
-    ensures { ClosingMade g.now.nodes.records.stmts.now g.now.nodes.falls.now g.now.frames.now i list.old list.new }
+    requires ready { Fits list.old × ClosingReady g.now.nodes.records.stmts.now g.now.nodes.falls.now (frames_of g.now) i (length list.old.part.now) }
+    ensures { ClosingMade g.now.nodes.records.stmts.now g.now.nodes.falls.now (frames_of g.now) i list.old list.new }
 {
     let word = g.nodes.records.word(i);
     match word {

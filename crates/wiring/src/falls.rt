@@ -32,7 +32,8 @@ impl From<NotFound> for Refusal {
 
 // Where a statement falls that ends at e, in a list that ends at `end` and then comes to `next`.
 // Kept: `next`, here and below, is the number that a row of falls holds: all that hands it on ends in `put_falls`.
-// Kept: `end` and `next` one by one: four of the nine calls pair them anew, and a struct would be made at each of these.
+// Kept: `end` and `next` one by one: four of the nine calls pair them anew, and a struct would be made at each of
+// these.
 fn target_of(e: usize, end: usize, next: u16) -> u16
     requires { e < 65535 }
     ensures { result ≡ target_of e end next }

@@ -33,8 +33,8 @@ fn jump_count(word: u16, count: usize) -> usize
 // The entry of the line that an argument names; a number above 65535 is no line's.
 // Kept: functions here, no methods of `Entries` and `Rows`, as at `Leads`: an `impl` of either more, for what this
 // module alone does. The number, as `Entries::entry_of`.
-// Kept: a `match`; tried as `map_or`: of the entry, which `EntryFound` tells for any entries, the check infers nothing
-// for the closure, and with a clause of its own that is longer than the `match`.
+// Kept: a `match`; tried as `map_or`: the check infers nothing of the closure, since `EntryFound` is no equation; with
+// a clause of its own it is longer than the `match`.
 fn entry_of_argument(w: &Entries<'_>, number: u64) -> u16
     ensures { EntryFound w.now.rows.now w.now.count number result }
 {

@@ -4,9 +4,9 @@ ghost use Rattle.graph.specs.Lists.{each};
 ghost use Rattle.graph_laws.specs.Adding.{decode};
 ghost use Rattle.passes.specs.AddRoom.{RoomToAdd};
 ghost use Rattle.passes.specs.EntryOrder.{Rises, EntryRoom};
-ghost use Rattle.passes.specs.NodeList.{run_edges, next_edges, until_edges, falls_word, block_edges, own_edges, OwnRoom};
+ghost use Rattle.passes.specs.NodeList.{run_edges, next_edges, until_edges, block_edges, own_edges, OwnRoom};
 ghost use Rattle.storing.specs.NodeLists.{AddedTo, Grew};
-ghost use Rattle.wiring.specs.FromLeads.{ListMadeFrom, ListReadyFrom, nodes_from};
+ghost use Rattle.wiring.specs.FromLeads.{frames_of, ListMadeFrom, ListReadyFrom, nodes_from};
 ghost use Rattle.wiring.specs.OnLists.{EntryMade};
 
 use crate::closing::add_closing;
@@ -83,7 +83,7 @@ fn add_next(list: &mut NodeList<'_>, g: &Leads<'_, '_>, i: usize)
 
 // An UNTIL that closes a frame goes to its body, then it falls; any other adds nothing.
 fn add_until(list: &mut NodeList<'_>, g: &Leads<'_, '_>, i: usize)
-    ensures { AddedTo list.old list.new (until_edges g.now.nodes.falls.now g.now.frames.now i) }
+    ensures { AddedTo list.old list.new (until_edges g.now.nodes.falls.now (frames_of g.now) i) }
 {
     if let Some(o) = g.opener(i) {
         list.add_edge(g.nodes.fall(o));
@@ -91,32 +91,23 @@ fn add_until(list: &mut NodeList<'_>, g: &Leads<'_, '_>, i: usize)
     }
 }
 
-// The words that do not fall are these three.
-// Kept: a test of its own, since `block_edges` goes by `falls_word`.
-#[tactic(auto, using(std::proofs::lemmas::Bool::Decides::nat_tests), unfolding(passes::specs::NodeList::falls_word))]
-fn falls_on(word: u16) -> bool
-    ensures { result ≡ falls_word word }
-{
-    !matches!(word, EXIT | ELSE | STOP)
-}
-
-// The words that are no jump: an ENDLOOP goes to the body of its frame, most others fall.
+// The words that are no jump: an ENDLOOP goes to the body of its frame; an EXIT, an ELSE and a STOP do not fall.
 fn add_block(list: &mut NodeList<'_>, g: &Leads<'_, '_>, word: u16, i: usize)
-    ensures { AddedTo list.old list.new (block_edges word g.now.nodes.falls.now g.now.frames.now i) }
+    ensures { AddedTo list.old list.new (block_edges word g.now.nodes.falls.now (frames_of g.now) i) }
 {
     match word {
         ENDLOOP => list.add_edge(g.fall_of(g.opener(i))),
         UNTIL => add_until(list, g, i),
-        _ if falls_on(word) => list.add_edge(g.nodes.fall(i)),
-        _ => {}
+        EXIT | ELSE | STOP => {}
+        _ => list.add_edge(g.nodes.fall(i)),
     }
 }
 
 // What the statement of node i adds to its own list, which is empty.
 fn add_own(list: &mut NodeList<'_>, g: &Leads<'_, '_>, i: usize)
     requires in_bounds { i < g.now.nodes.records.n }
-    requires ready { OwnRoom g.now.nodes.records.stmts.now g.now.entries.rows.now g.now.nodes.falls.now g.now.nodes.links.now g.now.frames.now g.now.entries.count i list.old.part.now list.old.n }
-    ensures { Grew list.old list.new (own_edges g.now.nodes.records.stmts.now g.now.entries.rows.now g.now.nodes.falls.now g.now.nodes.links.now g.now.frames.now g.now.entries.count i) }
+    requires ready { OwnRoom g.now.nodes.records.stmts.now g.now.entries.rows.now g.now.nodes.falls.now g.now.nodes.links.now (frames_of g.now) g.now.entries.count i list.old.part.now list.old.n }
+    ensures { Grew list.old list.new (own_edges g.now.nodes.records.stmts.now g.now.entries.rows.now g.now.nodes.falls.now g.now.nodes.links.now (frames_of g.now) g.now.entries.count i) }
 {
     let word = g.nodes.records.word(i);
     match word {

@@ -6,7 +6,6 @@ ghost use Rattle.reader.specs.Inputs.{is_program, bytes_of};
 
 use layout::columns::{ARG_ENTRIES, STMT_ENTRIES};
 use layout::refusals::Refusal;
-use layout::zeroing::fill_behind;
 use reader::listing::{Accepted, Input, read_input};
 
 // What stands behind the front parts becomes zero.
@@ -25,9 +24,9 @@ pub(crate) fn read_fitting(
 {
     let stmt_end = stmt_room * STMT_ENTRIES;
     let arg_end = stmt_room * ARG_ENTRIES;
-    fill_behind(lines, line_room, 0);
-    fill_behind(stmts, stmt_end, 0);
-    fill_behind(args, arg_end, 0);
+    lines[line_room..].fill(0);
+    stmts[stmt_end..].fill(0);
+    args[arg_end..].fill(0);
     read_input(
         input,
         counts,

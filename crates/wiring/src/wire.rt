@@ -5,7 +5,7 @@ ghost use Rattle.wiring.specs.FromLeads.{CountReadyFrom, CountedFrom, FramesIn, 
 use crate::by_rows::return_edges_by_filled_rows;
 use crate::entries::Entries;
 use crate::frames::stack_frames;
-use crate::leads::{FRAMES, Leads};
+use crate::leads::{Frame, Leads};
 use crate::return_targets::list_return_targets;
 use crate::skip_lists::{SCRATCH, store_skip_lists};
 use layout::limits::{MAX_EDGES, MAX_STMTS};
@@ -137,8 +137,9 @@ fn wire_lists(
 }
 
 // The lists of all nodes. Their frames and dispatched FORs are in arrays of its own, since nothing else reads them.
-// Kept: tables that are written go one by one, as above; the four that are read, since the borrow checker does not
-// cover a `Nodes` that the caller makes (tried): its records and its tables are lent there for lifetimes of their own.
+// Kept: tables that are written go one by one, as above; of the four that are read, three would be a `Nodes`, which the
+// borrow checker does not cover where the caller makes it (tried): its records and its tables are lent there for
+// lifetimes of their own.
 // Kept: `handlers`, as above.
 pub(crate) fn wire_graph<'a>(
     r: &Records<'a>,
@@ -156,7 +157,7 @@ pub(crate) fn wire_graph<'a>(
     requires { WireReady handlers w.now.count r.now.n counts.old r.now.stmts.now args.old w.now.rows.now falls.now links.now lists.old returns.old succ.old pred.old }
     ensures { WiredTo handlers w.now.count r.now.n r.now.stmts.now args.old w.now.rows.now falls.now links.now counts.old succ.old pred.old counts.new args.new lists.new returns.new succ.new pred.new result }
 {
-    let mut frames = all_of::<u16, FRAMES>(0);
+    let mut frames = all_of::<Frame, MAX_STMTS>(Frame::default());
     let mut buffer = all_of::<u16, MAX_STMTS>(0);
     stack_frames(r, &mut frames);
     let records = *r;

@@ -1,12 +1,11 @@
 -- `list_row`: the members of that set. Assumes nothing.
-use borrow.Author.Rules.{rules}
 use native.Mathlib.Omega.{arith}
 use Rattle.passes.specs.ReturnTotals.{members_few}
 use Rattle.passes.specs.ClosureLaws.{row_listed}
 use Rattle.walks.proofs.closure.list_row.Goals as goal
 
 pub put_members-n-requires : goal.put_members-n-requires
-put_members-n-requires c = (search rules, omega (arith, members_few c.row_region-set.result))
+put_members-n-requires c = omega (arith, members_few c.row_region-set.result)
 
 pub returns : goal.returns
 returns c =

@@ -3,6 +3,7 @@ use Rattle.std.proofs.Common.{refl}
 use Rattle.passes.specs.ChainLaws.{doif_closer}
 use Rattle.wiring.specs.OnLists.{fall_made}
 use Rattle.tables.specs.OneMore.{one_more}
+use Rattle.wiring.specs.FromLeads.{frames_of}
 use Rattle.wiring.proofs.closing.add_doif.Goals as goal
 
 pub returns-in-None : goal.returns-in-None
@@ -13,5 +14,5 @@ returns-in-None c =
     record {
       same_reference = m.same_reference;
       size = m.size;
-      is = (doif_closer g.nodes.falls.now g.frames.now c.args.i _ _ _ _ (one_more c.next_else.result) c.next_else.ensures k (rw c.in-None.is refl) c.closer.ensures m.is.0, m.is.1);
+      is = (doif_closer g.nodes.falls.now (frames_of g) c.args.i _ _ _ _ (one_more c.next_else.result) c.next_else.ensures k (rw c.in-None.is refl) c.closer.ensures m.is.0, m.is.1);
     }

@@ -5,6 +5,7 @@ use Rattle.passes.specs.ChainLaws.{walk_start, walk_visit, walk_next, walk_end}
 use Rattle.passes.specs.FitLaws.{fits_room, fits_next}
 use Rattle.storing.specs.NodeLists.{grew_one}
 use Rattle.tables.specs.OneMore.{one_more}
+use Rattle.wiring.specs.FromLeads.{frames_of}
 use Rattle.wiring.proofs.closing.add_elses.Goals as goal
 
 pub loop-next-init : goal.loop-next-init
@@ -13,7 +14,7 @@ loop-next-init c = record { same_reference = refl; size = refl; is = walk_start 
 pub loop-next-preserved : goal.loop-next-preserved
 loop-next-preserved c =
     let fs = c.args.g.now.nodes.falls.now in
-    let fr = c.args.g.now.frames.now in
+    let fr = frames_of c.args.g.now in
     let p = c.loop-next.list in
     let q = c.add_edge.new.self in
     let j = c.in-Some.j in
@@ -33,7 +34,7 @@ loop-next-preserved c =
 pub loop-next-smaller : goal.loop-next-smaller
 loop-next-smaller c =
     let fs = c.args.g.now.nodes.falls.now in
-    let fr = c.args.g.now.frames.now in
+    let fr = frames_of c.args.g.now in
     let p = c.loop-next.list in
     let j = c.in-Some.j in
     let v = walk_visit fs fr (one_more c.args.first) c.args.list.now.part.now c.args.list.now.n p.part.now p.n (suc j) (omega arith) (rw c.in-Some.is at c.loop-next.invariant.is) in
@@ -48,5 +49,5 @@ returns c =
     record {
       same_reference = v.same_reference;
       size = v.size;
-      is = (walk_end c.args.g.now.nodes.falls.now c.args.g.now.frames.now (one_more c.args.first) c.args.list.now.part.now c.args.list.now.n p.part.now p.n 0 refl w, v.is.fits);
+      is = (walk_end c.args.g.now.nodes.falls.now (frames_of c.args.g.now) (one_more c.args.first) c.args.list.now.part.now c.args.list.now.n p.part.now p.n 0 refl w, v.is.fits);
     }

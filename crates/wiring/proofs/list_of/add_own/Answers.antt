@@ -6,6 +6,7 @@ use Rattle.passes.specs.AddRoom.{room_as}
 use Rattle.passes.specs.NodeListLaws.{own_branches, own-run, own_jump, own_next, own_any, own_block_lem}
 use Rattle.storing.specs.AddWithin.{fits_jump, jump_is}
 use Rattle.storing.specs.NodeLists.{added_as, grew_within}
+use Rattle.wiring.specs.FromLeads.{frames_of}
 use Rattle.wiring.proofs.list_of.add_own.Goals as goal
 
 pub returns-in-0-to-6 : goal.returns-in-0-to-6
@@ -30,7 +31,7 @@ pub returns-in-26 : goal.returns-in-26
 returns-in-26 c =
     let g = c.args.g.now in
     let e = sym c.word-word.ensures ∙ c.in-26.is in
-    rw (own_any g.nodes.records.stmts.now g.entries.rows.now g.nodes.falls.now g.nodes.links.now g.frames.now g.entries.count c.args.i (omega arith) (omega arith) (omega arith) e) at c.all_line_entry_nodes.ensures
+    rw (own_any g.nodes.records.stmts.now g.entries.rows.now g.nodes.falls.now g.nodes.links.now (frames_of g) g.entries.count c.args.i (omega arith) (omega arith) (omega arith) e) at c.all_line_entry_nodes.ensures
 
 pub returns-in_default : goal.returns-in_default
 returns-in_default c = grew_within c.requires.ready.room (added_as (own_block_lem _ _ _ _ _ _ _ (search rules) (search rules) (search rules) (search rules) (search rules)) (rw c.word-word.ensures at c.add_block.ensures))

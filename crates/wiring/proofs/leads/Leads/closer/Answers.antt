@@ -1,0 +1,8 @@
+-- `closer`: the field of frame i, an entry of the flat list. Assumes nothing.
+use Rattle.std.proofs.Common.{ap, ◌∙◌}
+use Rattle.wiring.specs.Places.{one_less}
+use Rattle.wiring.specs.FrameRows.{closer_at}
+use Rattle.wiring.proofs.leads.Leads.closer.Goals as goal
+
+pub returns : goal.returns
+returns c = one_less _ _ c.checked_sub.ensures ∙ c.from.ensures ∙ ap (λ f. f.closer) c.frame.ensures ∙ closer_at c.args.self.now.frames.now c.args.i
