@@ -1,7 +1,8 @@
 -- What a statement's first byte and the bytes behind it make of it, case by case. Assumes nothing.
-use Rattle.std.specs.Prelude.{ℕ, ◌<◌, ◌≡◌, refl, List, [], ◌∷◌, map, Bool, true, false, ◌&&◌, ◌||◌, ◌⊎◌, not, eqb, length, Result, Ok, Err}
+use Rattle.std.specs.Prelude.{ℕ, ◌<◌, ◌≡◌, refl, List, [], ◌∷◌, map, Bool, true, false, ◌&&◌, ◌||◌, ◌⊎◌, not, eqb, length, Result, Ok, Err, IfOk}
 use Rattle.std.proofs.Common.{sym, ◌∙◌, ap, arith, inl, inr, eq-eqb}
 use Rattle.std.proofs.lemmas.List.{length-map}
+use Rattle.std.proofs.lemmas.Result.{IfOk-equal, IfOk-from_err}
 use Rattle.std.proofs.Math.Bool.{or-true}
 use Rattle.std.proofs.Math.Option.{none, some}
 use borrow.Author.Tests.{ne_eqb}
@@ -14,10 +15,10 @@ use Rattle.listings.specs.Records.{name_key, slot_key, args_of}
 use Rattle.program_files.specs.Program as definition
 use Rattle.program_files.specs.Program.{Placed, Found, found, lacks, map_found, line_number, name, several, ends, seek, branch, if_action, on_action, next_action, run_action, action, pass_over}
 use Rattle.basic.specs.Found.{found_by}
-use Rattle.basic.specs.Items.{item, items_from, values_in}
+use Rattle.basic.specs.Items.{item, items_from, values_in, put_front}
 use Rattle.basic.specs.Fuel.{rest_shorter, seek_shorter, several_more, number_shortens}
-use Rattle.basic.specs.ItemLaws.{map-map, map-same, several-map}
-use Rattle.basic.specs.Actions.{coded, one_in, args_in}
+use Rattle.basic.specs.ItemLaws.{map-map, map-same, several-map, put_none}
+use Rattle.basic.specs.Actions.{coded, IsList, one_in, args_in}
 use Rattle.basic.specs.declared.actions.Action.{Action}
 use Rattle.basic.specs.declared.actions.Action.TheVariants.{Does, Jumps}
 use Rattle.basic.specs.declared.cursors.Cursor.{Cursor}
@@ -203,10 +204,6 @@ pub on_args : (l : List Placed) (b : ℕ) (r : List Placed) → seek 137 141 l �
 unfolding args_of
 on_args l b r e = ap args_in (on_found l b r e) ∙ on_args_any (on (pick (eqb b 137) ongoto ongosub)) (λ ns. refl) (items_from item_kind.Number r)
 
-pub on_no_args : (k : ℕ) (l : List Placed) (p : ℕ) → seek 137 141 l ≡ lacks p → args_in (on_action k l) ≡ []
-unfolding args_in
-on_no_args k l p e = ap args_in (on_lacks k l p e)
-
 -- ---- NEXT
 
 -- keys are those of the names
@@ -248,6 +245,27 @@ module _ (l : List Placed) (p b : ℕ) (m : List Placed) (is : l ≡ (p, b) ∷ 
   pub slots_star : is_capital b ≡ false → (k : ℕ) → args_in (next_action k l) ≡ 0 ∷ []
   unfolding args_in args_of slot_key
   slots_star h k = ap args_in (next_is_star h k)
+
+-- ---- what is put
+
+-- of equal arguments
+pub put_as : (a b : List ℕ) (r : Result (read.Found Action) Lack) (t t' : List ℕ) → a ≡ b → IfOk r (λ (x : read.Found Action). t' ≡ put_front a t)
+    → IfOk r (λ (x : read.Found Action). t' ≡ put_front b t)
+put_as a b r t t' e h = IfOk-equal r t' (put_front a t) (put_front b t) h (ap (λ (vs : List ℕ). put_front vs t) e)
+
+-- no arguments
+pub none_put : (a : List ℕ) (r : Result (read.Found Action) Lack) (t : List ℕ) → a ≡ [] → IfOk r (λ (x : read.Found Action). t ≡ put_front a t)
+none_put a (Ok x) t e = sym (ap (λ (vs : List ℕ). put_front vs t) e ∙ put_none t)
+none_put a (Err p) t e = IfOk-from_err (Err p) (λ (x : read.Found Action). t ≡ put_front a t) refl
+
+-- those of a list
+pub list_put : (a : List ℕ) (w : ℕ) (n : Result (read.Found ℕ) Lack) (r : Result (read.Found Action) Lack) (t t' : List ℕ) → IsList w n r → IfOk n (λ (x : read.Found ℕ). t' ≡ put_front a t)
+    → IfOk r (λ (x : read.Found Action). t' ≡ put_front a t)
+unfolding map_found
+list_put a w (Ok x) (Ok y) t t' e h = h
+list_put a w (Ok x) (Err p) t t' e h = let q = e (λ (c : Cursor). []) in absurd cc
+list_put a w (Err p) (Ok y) t t' e h = let q = e (λ (c : Cursor). []) in absurd cc
+list_put a w (Err q) (Err p) t t' e h = h
 
 -- ---- one number or one name
 
@@ -370,6 +388,9 @@ module _ (k b : ℕ) (l : List Placed) where
   pub action-if : b ≡ 139 → action k b l ≡ if_action l
   unfolding action
   action-if e = rw e
+
+  pub args-if : b ≡ 139 → args_in (action k b l) ≡ []
+  args-if e = ap args_in (action-if e) ∙ if_args l
 
   pub action_on : b ≡ 145 → action k b l ≡ on_action k l
   unfolding action

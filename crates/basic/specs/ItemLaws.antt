@@ -1,23 +1,14 @@
 -- Lists of numbers and of keys, item by item. Assumes nothing.
-use Rattle.std.specs.Prelude.{ℕ, zero, suc, ◌+◌, ◌-◌, ◌≤◌, ◌<◌, ◌≡◌, ◌⊎◌, ◌++◌, refl, List, [], ◌∷◌, map, Bool, true, false, eqb, length, get_or, take, drop, Result, Ok, Err}
-use Rattle.std.specs.Result.{IsOk}
-use Rattle.std.proofs.Common.{inl, inr, sym, ◌∙◌, ap, arith, not-suc-le-zero, add-one, length-drop, drop-cons}
+use Rattle.std.specs.Prelude.{ℕ, zero, suc, ◌+◌, ◌≤◌, ◌<◌, ◌≡◌, ◌⊎◌, ◌++◌, refl, List, [], ◌∷◌, map, Bool, true, false, eqb, length, take, drop}
+use Rattle.std.proofs.Common.{inl, inr, sym, ◌∙◌, ap, arith, not-suc-le-zero, append_assoc, length-append, take_at, take_all}
 use Rattle.std.proofs.Math.ListN.{set}
-use borrow.Author.Tests.{ne_eqb, eqb-true}
-use Rattle.std.proofs.lemmas.Bool.{eqb-false}
+use borrow.Author.Tests.{ne_eqb}
 use Rattle.listings.specs.Bytes.{pick}
 use Rattle.listings.specs.Records.{name_key}
 use Rattle.program_files.specs.Program.{Placed, Found, found, lacks, map_found, name, after_comma, several}
-use Rattle.basic.specs.Cursors.{ahead, IsNext}
-use Rattle.basic.specs.declared.cursors.Cursor.{Cursor}
-use Rattle.basic.specs.declared.cursors.Token.{Token}
-use Rattle.basic.specs.declared.found.Found as declared
-use Rattle.basic.specs.declared.found.Lack.{Lack}
 use Rattle.basic.specs.declared.items.Item.{Item}
 use Rattle.basic.specs.declared.items.Item.TheVariants.{Number, Name}
-use Rattle.basic.specs.Found.{found_by}
-use Rattle.basic.specs.Tokens.{next_is}
-use Rattle.basic.specs.Items.{item, items_from, values_in, put_front, Counts}
+use Rattle.basic.specs.Items.{item, items_from, values_in, put_front}
 use Rattle.basic.specs.Fuel.{rest_shorter, map_shorter, Shortens, number_shortens, name_shortens, several_more}
 
 -- ---- what is found, mapped
@@ -98,35 +89,6 @@ module _ (b : Item) (l : List Placed) (v : ℕ) (r : List Placed) (is : item b l
           let s : length r < suc (length k) = rest_shorter (suc (length k)) e ((item_shortens b).shorter (c ∷ k)) in
           items_step b c k (found v r) e ∙ rw (rest, h) (ap (map_found (λ vs. v ∷ vs)) (several_more (item b) (item_shortens b) (length k) (length m) m (omega (arith, ap length rest)) (omega arith)))
 
--- ---- counted
-
-abbrev pub Counting : ℕ → Found (List ℕ) → Found ℕ → Type 0
-Counting n x y = map_found (λ vs. n + length vs) x ≡ y
-
-pub counting_start : (x : Found (List ℕ)) → Counting 0 x (map_found length x)
-counting_start x = map-same (λ vs. 0 + length vs) length (λ vs. omega arith) x
-
-pub counting_more : (n v : ℕ) (x : Found (List ℕ)) (y : Found ℕ) → Counting n (map_found (λ vs. v ∷ vs) x) y → Counting (n + 1) x y
-counting_more n v x y h = map-same (λ vs. n + 1 + length vs) (λ vs. n + length (v ∷ vs)) (λ vs. omega arith) x ∙ sym (map-map (λ vs. n + length vs) (λ vs. v ∷ vs) x) ∙ h
-
-pub counting_last : (n v : ℕ) (r : List Placed) (y : Found ℕ) → Counting n (found (v ∷ []) r) y → found (n + 1) r ≡ y
-unfolding map_found
-counting_last n v r y h = h
-
-pub counting_lacking : (n p : ℕ) (y : Found ℕ) → Counting n (lacks p) y → lacks p ≡ y
-unfolding map_found
-counting_lacking n p y h = h
-
-pub counts_of_lem : (n : ℕ) (r : List Placed) (x : Found (List ℕ)) → found n r ≡ map_found length x → Counts n x
-unfolding map_found
-counts_of_lem n r (found vs q) h = cc
-counts_of_lem n r (lacks p) h = cc
-
-pub lacks_of : (p : ℕ) (x : Found (List ℕ)) → lacks p ≡ map_found length x → values_in x ≡ []
-unfolding map_found
-lacks_of p (found vs q) h = cc
-lacks_of p (lacks n) h = refl
-
 -- ---- written at the front
 
 pub put_none : (t : List ℕ) → put_front [] t ≡ t
@@ -134,115 +96,76 @@ unfolding put_front
 put_none [] = refl
 put_none (x ∷ t) = refl
 
-put_nowhere : (vs : List ℕ) → put_front vs [] ≡ []
+-- one value more behind those that are put, where there is room for it and where there is none
+put_more : (vs t : List ℕ) (v : ℕ) → length vs < length t → set (put_front vs t) (length vs) v ≡ put_front (vs ++ v ∷ []) t
 unfolding put_front
-put_nowhere [] = refl
-put_nowhere (v ∷ vs) = refl
+put_more [] [] v h = absurd (not-suc-le-zero h)
+put_more [] (x ∷ t) v h = ap (λ (l : List ℕ). v ∷ l) (sym (put_none t))
+put_more (u ∷ vs) [] v h = absurd (not-suc-le-zero h)
+put_more (u ∷ vs) (x ∷ t) v h = ap (λ (l : List ℕ). u ∷ l) (put_more vs t v (omega arith))
 
-pub put_next : (vs t : List ℕ) (i : ℕ) → i < length vs → i < length t → set (put_front (take i vs) t) i (get_or vs i 0) ≡ put_front (take (suc i) vs) t
+put_past : (vs t : List ℕ) (v : ℕ) → length t ≤ length vs → put_front vs t ≡ put_front (vs ++ v ∷ []) t
 unfolding put_front
-put_next [] t i h g = absurd (not-suc-le-zero h)
-put_next (v ∷ vs) [] i h g = absurd (not-suc-le-zero g)
-put_next (v ∷ vs) (x ∷ t) zero h g = ap (λ (l : List ℕ). v ∷ l) (sym (put_none t))
-put_next (v ∷ vs) (x ∷ t) (suc i) h g = ap (λ (l : List ℕ). v ∷ l) (put_next vs t i (omega arith) (omega arith))
-
-pub put_full : (vs t : List ℕ) (i : ℕ) → length t ≤ i → put_front (take i vs) t ≡ put_front (take (suc i) vs) t
-unfolding put_front
-put_full vs [] i h = put_nowhere (take i vs) ∙ sym (put_nowhere (take (suc i) vs))
-put_full vs (x ∷ t) zero h = absurd (omega arith)
-put_full [] (x ∷ t) (suc i) h = refl
-put_full (v ∷ vs) (x ∷ t) (suc i) h = ap (λ (l : List ℕ). v ∷ l) (put_full vs t i (omega arith))
-
--- behind i values that are written
-module _ (vs old part : List ℕ) (i : ℕ) (written : part ≡ put_front (take i vs) old) (same-length : length part ≡ length old) where
-  pub written_next : (v : ℕ) → v ≡ get_or vs i 0 → i < length vs → i < length part → set part i v ≡ put_front (take (i + 1) vs) old
-  written_next v e h g = rw (written, e, add-one) (put_next vs old i h (omega arith))
-
--- all that it has room for
-pub put_room : (vs t : List ℕ) (i : ℕ) → length t ≤ i → put_front (take i vs) t ≡ put_front vs t
-unfolding put_front
-put_room vs [] i h = put_nowhere (take i vs) ∙ sym (put_nowhere vs)
-put_room vs (x ∷ t) zero h = absurd (omega arith)
-put_room [] (x ∷ t) (suc i) h = refl
-put_room (v ∷ vs) (x ∷ t) (suc i) h = ap (λ (l : List ℕ). v ∷ l) (put_room vs t i (omega arith))
-
--- at the front of a part that has room for no more of them than there are, and for all where more room follows
-pub put_joined : (vs t : List ℕ) (n : ℕ) → n ≤ length t → n ≤ length vs → (length vs ≤ n) ⊎ (length t ≤ n) → put_front vs (take n t) ++ drop n t ≡ put_front vs t
-unfolding put_front
-put_joined [] t zero h g k = sym (put_none t)
-put_joined (v ∷ vs) [] zero h g k = refl
-put_joined (v ∷ vs) (x ∷ t) zero h g (inl k) = absurd (omega arith)
-put_joined (v ∷ vs) (x ∷ t) zero h g (inr k) = absurd (omega arith)
-put_joined [] t (suc n) h g k = absurd (omega arith)
-put_joined (v ∷ vs) [] (suc n) h g k = absurd (omega arith)
-put_joined (v ∷ vs) (x ∷ t) (suc n) h g (inl k) = ap (λ (l : List ℕ). v ∷ l) (put_joined vs t n (omega arith) (omega arith) (inl (omega arith)))
-put_joined (v ∷ vs) (x ∷ t) (suc n) h g (inr k) = ap (λ (l : List ℕ). v ∷ l) (put_joined vs t n (omega arith) (omega arith) (inr (omega arith)))
+put_past [] [] v h = refl
+put_past [] (x ∷ t) v h = absurd (not-suc-le-zero h)
+put_past (u ∷ vs) [] v h = refl
+put_past (u ∷ vs) (x ∷ t) v h = ap (λ (l : List ℕ). u ∷ l) (put_past vs t v (omega arith))
 
 -- one value
 pub put_one_front : (v : ℕ) (t : List ℕ) → 0 < length t → set t 0 v ≡ put_front (v ∷ []) t
-put_one_front v t h = ap (λ (l : List ℕ). set l 0 v) (sym (put_none t)) ∙ put_next (v ∷ []) t 0 (omega arith) h
+put_one_front v t h = ap (λ (l : List ℕ). set l 0 v) (sym (put_none t)) ∙ put_more [] t v h
 
 pub put_one_full : (v : ℕ) (t : List ℕ) → length t ≤ 0 → t ≡ put_front (v ∷ []) t
-put_one_full v t h = sym (put_none t) ∙ put_full (v ∷ []) t 0 h
+put_one_full v t h = sym (put_none t) ∙ put_past [] t v h
 
--- ---- stored
+-- so many values at the front of a list that has room for them
+pub front_args : (vs t : List ℕ) → length vs ≤ length t → take (length vs) (put_front vs t) ≡ vs
+unfolding put_front
+front_args vs t h = ap (λ (l : List ℕ). take (length vs) (l ++ drop (length vs) t)) (take_all (length t) vs h) ∙ take_at vs (drop (length vs) t) (length vs) refl
 
--- the list vs was found
-abbrev pub IsListed : List ℕ → Found (List ℕ) → Type 0
-IsListed vs (found ws r) = vs ≡ ws
-IsListed vs (lacks p) = ⊥
+-- ---- put
 
-pub listed-all : (n : ℕ) (x : Found (List ℕ)) → Counts n x → IsListed (drop 0 (values_in x)) x
-listed-all n (found ws r) h = refl
-listed-all n (lacks p) h = absurd h
+-- n values, `front`, stand in t' where t stood at first; they and those of x are all of y
+pub record Putting (n : ℕ) (x y : Found (List ℕ)) (t t' : List ℕ) : Type 0 where
+  pub front : List ℕ
+  pub many : n ≡ length front
+  pub put : t' ≡ put_front front t
+  pub whole : y ≡ map_found (λ ws. front ++ ws) x
 
-pub listed-count : (n : ℕ) (x : Found (List ℕ)) → Counts n x → n ≡ length (values_in x)
-listed-count n (found ws r) h = h
-listed-count n (lacks p) h = absurd h
+-- t'': a value more, where t' had room for it
+abbrev pub NextPut : ℕ → ℕ → List ℕ → List ℕ → Type 0
+NextPut n v t' t'' = (n < length t' × t'' ≡ set t' n v) ⊎ (length t' ≤ n × t'' ≡ t')
 
-pub listed-lacking : (vs : List ℕ) (x : Found (List ℕ)) (p : ℕ) → IsListed vs x → x ≡ lacks p → ⊥
-listed-lacking vs x p h e = rw e at h
+pub putting_start : (x : Found (List ℕ)) (t : List ℕ) → Putting 0 x x t t
+unfolding map_found
+putting_start (found vs r) t = record { front = []; many = refl; put = sym (put_none t); whole = refl }
+putting_start (lacks p) t = record { front = []; many = refl; put = sym (put_none t); whole = refl }
 
--- an item of those is found
-pub listed_found : (vs : List ℕ) (b : Item) (T : Cursor → List Placed) (l : List Placed) (r : Result (declared.Found ℕ) Lack) → found_by T r ≡ item b l → IsListed vs (items_from b l) → IsOk r
-listed_found vs b T l (Ok f) e h = refl
-listed_found vs b T l (Err q) e h = absurd (listed-lacking vs (items_from b l) q.place h (items_lacking b l q.place (sym e)))
+next_put : (n v : ℕ) (front t t' t'' : List ℕ) → n ≡ length front → t' ≡ put_front front t → length t' ≡ length t → NextPut n v t' t'' → t'' ≡ put_front (front ++ v ∷ []) t
+next_put n v front t t' t'' e p g (inl h) = h.1 ∙ rw (p, e) (put_more front t v (omega (arith, h.0)))
+next_put n v front t t' t'' e p g (inr h) = h.1 ∙ p ∙ put_past front t v (omega (arith, h.0))
 
--- vs: all that were found at first, of which those from i on are found now
-module _ (vs : List ℕ) (i : ℕ) (inside : i < length vs) (x : Found (List ℕ)) (h : IsListed (drop i vs) x) (v : ℕ) where
-  listed_last_all : (r : List Placed) → x ≡ found (v ∷ []) r → drop i vs ≡ v ∷ []
-  listed_last_all r e = rw e at h
+-- one of several
+pub putting_more : (n v : ℕ) (x y : Found (List ℕ)) (t t' t'' : List ℕ) → length t' ≡ length t → NextPut n v t' t'' → Putting n (map_found (λ vs. v ∷ vs) x) y t t' → Putting (n + 1) x y t t''
+putting_more n v x y t t' t'' g s h =
+    record {
+      front = h.front ++ v ∷ [];
+      many = omega (arith, h.many, length-append h.front (v ∷ []));
+      put = next_put n v h.front t t' t'' h.many h.put g s;
+      whole = h.whole ∙ map-map (λ ws. h.front ++ ws) (λ vs. v ∷ vs) x ∙ map-same (λ vs. h.front ++ v ∷ vs) (λ vs. (h.front ++ v ∷ []) ++ vs) (λ vs. sym (append_assoc h.front (v ∷ []) vs)) x;
+    }
 
-  -- the last
-  pub listed_last_value : (r : List Placed) → x ≡ found (v ∷ []) r → v ≡ get_or vs i 0
-  listed_last_value r e = let q = listed_last_all r e in let s = drop-cons vs i 0 inside in cc
+-- the last
+pub putting_last : (n v : ℕ) (r : List Placed) (y : Found (List ℕ)) (t t' t'' : List ℕ) → length t' ≡ length t → NextPut n v t' t'' → Putting n (found (v ∷ []) r) y t t' → t'' ≡ put_front (values_in y) t
+unfolding map_found
+putting_last n v r y t t' t'' g s h = next_put n v h.front t t' t'' h.many h.put g s ∙ ap (λ (vs : List ℕ). put_front vs t) (sym (ap values_in h.whole))
 
-  pub listed_last : (r : List Placed) → x ≡ found (v ∷ []) r → length vs ≤ i + 1
-  listed_last r e = let q : length vs - i ≡ 1 = sym (length-drop i vs) ∙ ap length (listed_last_all r e) in omega arith
+-- and how many they are, or that one is lacking
+pub putting_counts : (n v : ℕ) (r : List Placed) (y : Found (List ℕ)) (t t' : List ℕ) → Putting n (found (v ∷ []) r) y t t' → found (n + 1) r ≡ map_found length y
+unfolding map_found
+putting_counts n v r y t t' h =
+    ap (λ (k : ℕ). found k r) (omega (arith, h.many, length-append h.front (v ∷ []))) ∙ sym (ap (map_found length) h.whole)
 
-  -- one of several
-  pub listed_more : (y : Found (List ℕ)) → x ≡ map_found (λ ws. v ∷ ws) y → (v ≡ get_or vs i 0) × IsListed (drop (i + 1) vs) y
-  unfolding map_found
-  listed_more (found ws r) e =
-      let q : drop i vs ≡ v ∷ ws = rw e at h in
-      let s = drop-cons vs i 0 inside in
-      let t : drop (suc i) vs ≡ ws = cc in
-      (cc, rw add-one t)
-  listed_more (lacks p) e = absurd (rw e at h)
-
--- one item of those, behind which t stands: it is the next of vs, and those that follow it are listed behind t
-pub step_next : (vs : List ℕ) (i : ℕ) → i < length vs → (b : Item) (T : Cursor → List Placed) (c : Cursor) (v : ℕ) (n : Cursor) → item b (T c) ≡ found v (T n)
-    → (t : Token) → IsNext T n t → IsListed (drop i vs) (items_from b (T c))
-    → (v ≡ get_or vs i 0) × (i + 1 < length vs → IsListed (drop (i + 1) vs) (items_from b (T t.next)))
-step_next vs i inside b T c v n is t next h = go (eqb t.byte 44) refl
-  where
-    go : (x : Bool) → eqb t.byte 44 ≡ x → (v ≡ get_or vs i 0) × (i + 1 < length vs → IsListed (drop (i + 1) vs) (items_from b (T t.next)))
-    go true e =
-        let comma : t.byte ≡ 44 = eqb-true t.byte 44 e in
-        let m = items_more b (T c) v (T n) is (t.place, t.byte) (T t.next) (next_is T n t next (λ z. omega arith)) comma in
-        let q = listed_more vs i inside (items_from b (T c)) h v (items_from b (T t.next)) m in
-        (q.0, λ g. q.1)
-    go false e =
-        let m = items_last b (T c) v (T n) is (t.place, t.byte) (ahead T t) next (eqb-false t.byte 44 e) in
-        let k = listed_last vs i inside (items_from b (T c)) h v (T n) m in
-        (listed_last_value vs i inside (items_from b (T c)) h v (T n) m, λ g. absurd (omega arith))
+pub putting_lacks : (n p : ℕ) (y : Found (List ℕ)) (t t' : List ℕ) → Putting n (lacks p) y t t' → lacks p ≡ map_found length y
+unfolding map_found
+putting_lacks n p y t t' h = sym (ap (map_found length) h.whole)

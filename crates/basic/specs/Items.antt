@@ -1,5 +1,5 @@
 -- Lists of numbers and of names' keys in a line. Assumes nothing.
-use Rattle.std.specs.Prelude.{◌≡◌, ℕ, List, [], ◌++◌, length, take, drop}
+use Rattle.std.specs.Prelude.{ℕ, List, [], ◌++◌, length, take, drop}
 use Rattle.listings.specs.Records.{name_key}
 use Rattle.program_files.specs.Program as definition
 use Rattle.program_files.specs.Program.{Placed, map_found, line_number, name, several}
@@ -19,11 +19,6 @@ items_from i l = several (item i) (length l) l
 abbrev pub values_in : definition.Found (List ℕ) → List ℕ
 values_in (definition.found vs r) = vs
 values_in (definition.lacks p) = []
-
--- n of them were found
-abbrev pub Counts : ℕ → definition.Found (List ℕ) → Type 0
-Counts n (definition.found vs r) = n ≡ length vs
-Counts n (definition.lacks p) = ⊥
 
 -- vs at the front of a slice, as far as it goes
 unfoldable pub put_front : List ℕ → List ℕ → List ℕ

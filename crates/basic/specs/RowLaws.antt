@@ -1,6 +1,6 @@
 -- Laws of the rows that a file gives: which come first and what follows, and that more fuel than there are bytes
 -- changes nothing. Assumes nothing.
-use Rattle.std.specs.Prelude.{◌≡◌, refl, ℕ, zero, suc, ◌+◌, ◌*◌, ◌≤◌, ◌<◌, Bool, true, false, ◌&&◌, List, [], ◌∷◌, ◌++◌, eqb, length, get_or, drop, Some}
+use Rattle.std.specs.Prelude.{◌≡◌, refl, ℕ, zero, suc, ◌+◌, ◌*◌, ◌≤◌, ◌<◌, Bool, true, false, ◌&&◌, List, [], ◌∷◌, ◌++◌, eqb, length, get_or, take, drop, Some}
 use Rattle.std.proofs.Common.{sym, ap, ◌∙◌, subst, append_assoc, add-one, arith, ne_eqb, eqb-true, get_or-drop, length-drop, drop-drop, drop-cons}
 use Rattle.std.proofs.Math.Decide.{dec_le}
 use Rattle.listings.specs.Bytes.{pick}
@@ -16,15 +16,18 @@ use Rattle.basic.specs.Cursors.{tokens_at, ahead, IsNext, next_more, join-length
 use Rattle.basic.specs.Lines.{word_at}
 use Rattle.basic.specs.declared.actions.Action.TheVariants as code
 use Rattle.basic.specs.Actions.{coded, fuel, args_in}
+use Rattle.basic.specs.Items.{put_front}
+use Rattle.basic.specs.ItemLaws.{front_args}
 use Rattle.basic.specs.Fuel.{Shorter, action_shorter, action_more, pass_shorter}
 use Rattle.basic.specs.Rests.{Rest, whole, past, rest-zero, action-rest, pass_rest, zero_at, tokens_zero, Ordered, ordered_lower, ordered_head, rest_ordered, tokens_ordered, action_plain}
-use Rattle.basic.specs.Rows.{ends_then, emits, IsDue, line_rows, lines_at, lines_behind, statements_at, contents_from, rows_by, action_rows, FirstOf, Yields}
+use Rattle.basic.specs.Rows.{ends_then, emits, IsDue, line_rows, lines_at, lines_behind, statements_at, contents_from, rows_by, action_rows, SimpleIs, FirstOf, Yields}
 use Rattle.basic.specs.declared.cursors.Cursor.{Cursor}
 use Rattle.basic.specs.declared.cursors.Token.{Token}
 use Rattle.basic.specs.declared.cover.Cover.TheVariants as Cover
 use Rattle.basic.specs.declared.sources.Stage.TheVariants as stage
 use Rattle.basic.specs.declared.sources.Source.{Source}
 use Rattle.basic.specs.declared.sources.FileRow.TheVariants as row
+use Rattle.basic.specs.declared.sources.Simple as code_row
 use Rattle.basic.specs.declared.sources.Sourced.{Sourced}
 
 -- ---- statements
@@ -265,21 +268,25 @@ pub due_ended : (f : List ℕ) (s : Source) → s.stage ≡ stage.Ended → cont
 unfolding contents_from
 due_ended f s e = rw e refl
 
-pub first_rw : (f : List ℕ) (ds es : List Content) (r : Sourced) → ds ≡ es → FirstOf f es r → FirstOf f ds r
+-- a statement's arguments, at the front of a part that has room for them
+pub args_stand : {z z' : List ℕ} {d : Content} {s : code_row.Simple} (h : SimpleIs z z' d s) → length (args_of h.simple) ≤ length z → take s.count z' ≡ args_of h.simple
+args_stand {z} {s = s} h few = ap (take s.count) h.args ∙ ap (λ (k : ℕ). take k (put_front (args_of h.simple) z)) h.count ∙ front_args (args_of h.simple) z few
+
+pub first_rw : {z z' : List ℕ} (f : List ℕ) (ds es : List Content) (r : Sourced) → ds ≡ es → FirstOf f z z' es r → FirstOf f z z' ds r
 first_rw f ds es r e h = record { content = h.content; says = h.says; behind = e ∙ h.behind }
 
 -- a row that the stage alone says
-pub module_first : (f : List ℕ) (s t : Source) → s.stage ≡ stage.Module → t ≡ record s { stage = stage.Line } → FirstOf f (contents_from f s) (record { row = row.Module; next = t })
+pub module_first : {z z' : List ℕ} (f : List ℕ) (s t : Source) → s.stage ≡ stage.Module → t ≡ record s { stage = stage.Line } → FirstOf f z z' (contents_from f s) (record { row = row.Module; next = t })
 unfolding contents_from
 module_first f s t e g =
     record { content = module_row false; says = refl; behind = due_module f s e ∙ ap (λ (l : List Content). module_row false ∷ l) (sym (ap (contents_from f) g)) }
 
-pub to_first : (f : List ℕ) (s t : Source) (n : ℕ) → s.stage ≡ stage.To n → t ≡ record s { stage = stage.Ends } → FirstOf f (contents_from f s) (record { row = row.To n; next = t })
+pub to_first : {z z' : List ℕ} (f : List ℕ) (s t : Source) (n : ℕ) → s.stage ≡ stage.To n → t ≡ record s { stage = stage.Ends } → FirstOf f z z' (contents_from f s) (record { row = row.To n; next = t })
 unfolding contents_from
 to_first f s t n e g =
     record { content = to_row (parsed n); says = refl; behind = due_to f s n e ∙ ap (λ (l : List Content). to_row (parsed n) ∷ l) (sym (ap (contents_from f) g)) }
 
-pub stmts_first : (f : List ℕ) (s t : Source) → s.stage ≡ stage.Stmts → t ≡ record s { stage = stage.Statements } → FirstOf f (contents_from f s) (record { row = row.Stmts; next = t })
+pub stmts_first : {z z' : List ℕ} (f : List ℕ) (s t : Source) → s.stage ≡ stage.Stmts → t ≡ record s { stage = stage.Statements } → FirstOf f z z' (contents_from f s) (record { row = row.Stmts; next = t })
 unfolding contents_from
 stmts_first f s t e g = record { content = stmts_row; says = refl; behind = due_stmts f s e ∙ ap (λ (l : List Content). stmts_row ∷ l) (sym (ap (contents_from f) g)) }
 
@@ -308,34 +315,35 @@ pub holds_ordered : (f : List ℕ) (b : ℕ) (at c : Cursor) (p n : ℕ) → fou
 holds_ordered f b at c p n h o = left_ordered (fuel f at) b (tokens_at f at) (tokens_at f c) holds p n (coded-holds (action (fuel f at) b (tokens_at f at)) (tokens_at f c) h) o
 
 module _ (f : List ℕ) (b : ℕ) (at : Cursor) (s : Source) (line : zero_at (tokens_at f at) ≡ zero_at (tokens_at f s.at)) where
-  pub lacks-first : (p : ℕ) (r : Sourced) → lacks p ≡ map_found coded (action (fuel f at) b (tokens_at f at)) → FirstOf f (ends_then s.ends (lines_behind f s.at)) r → FirstOf f (action_rows f b at s) r
+  pub lacks-first : {z z' : List ℕ} (p : ℕ) (r : Sourced) → lacks p ≡ map_found coded (action (fuel f at) b (tokens_at f at)) → FirstOf f z z' (ends_then s.ends (lines_behind f s.at)) r → FirstOf f z z' (action_rows f b at s) r
   unfolding rows_by
   lacks-first p r h g =
       let e : action (fuel f at) b (tokens_at f at) ≡ lacks p = coded-lacks (action (fuel f at) b (tokens_at f at)) p h in
       let q : action_rows f b at s ≡ ends_then s.ends (lines_behind f s.at) = rw e refl in
       first_rw f (action_rows f b at s) (ends_then s.ends (lines_behind f s.at)) r q g
 
-  pub does_first : (c e : Cursor) (w n : ℕ) (t : Source) → found (code.Does w n) (tokens_at f c) ≡ map_found coded (action (fuel f at) b (tokens_at f at)) → tokens_at f e ≡ pass_over (tokens_at f c)
-      → IsDue f stage.Statements e (s.ends + 0) t → FirstOf f (action_rows f b at s) (record { row = row.Simple (record { word = w; count = n; byte = b; at = at }); next = t })
+  pub does_first : {z z' : List ℕ} (c e : Cursor) (w n : ℕ) (t : Source) → found (code.Does w n) (tokens_at f c) ≡ map_found coded (action (fuel f at) b (tokens_at f at)) → tokens_at f e ≡ pass_over (tokens_at f c)
+      → IsDue f stage.Statements e (s.ends + 0) t → z' ≡ put_front (args_in (action (fuel f at) b (tokens_at f at))) z
+      → FirstOf f z z' (action_rows f b at s) (record { row = row.Simple (record { word = w; count = n }); next = t })
   unfolding rows_by args_in
-  does_first c e w n t h g u =
+  does_first {z} c e w n t h g u a =
       let k = fuel f at in
       let r = tokens_at f c in
       let d = coded_does (action k b (tokens_at f at)) w n r h in
       let p : detail_of d.simple ≡ 0 = rw d.is at (action_plain k b (tokens_at f at)) in
-      let z : zero_at (pass_over r) ≡ zero_at (tokens_at f s.at) = rest-zero (pass_rest r) ∙ (left-zero k b (tokens_at f at) r (does d.simple) d.is ∙ line) in
+      let left : zero_at (pass_over r) ≡ zero_at (tokens_at f s.at) = rest-zero (pass_rest r) ∙ (left-zero k b (tokens_at f at) r (does d.simple) d.is ∙ line) in
       let m : length (pass_over r) ≤ k = omega (arith, pass_shorter r, left-length k b (tokens_at f at) r (does d.simple) d.is) in
       let n : t.ends ≡ s.ends = omega (arith, u.ends) in
       let y : contents_from f t ≡ emits k (pass_over r) ++ ends_then s.ends (lines_behind f s.at) =
-      due_statements f t u.stage ∙ (statements_are f s.at t.at k t.ends (pass_over r) (u.same ∙ g) m z ∙ ap (λ (i : ℕ). emits k (pass_over r) ++ ends_then i (lines_behind f s.at)) n) in
+      due_statements f t u.stage ∙ (statements_are f s.at t.at k t.ends (pass_over r) (u.same ∙ g) m left ∙ ap (λ (i : ℕ). emits k (pass_over r) ++ ends_then i (lines_behind f s.at)) n) in
       record {
         content = simple_row (parsed (d.simple, listed d.simple));
-        says = record { simple = d.simple; content = refl; word = d.word; count = d.count; detail = p; args = ap args_in d.is };
+        says = record { simple = d.simple; content = refl; word = d.word; count = d.count; detail = p; args = a ∙ ap (λ (x : Found Action). put_front (args_in x) z) d.is };
         behind = ap (λ (x : Found Action). rows_by k x ++ ends_then s.ends (lines_behind f s.at)) d.is ∙ ap (λ (l : List Content). simple_row (parsed (d.simple, listed d.simple)) ∷ l) (sym y);
       }
 
-  pub jumps-first : (c : Cursor) (n : ℕ) (t : Source) → found (code.Jumps n) (tokens_at f c) ≡ map_found coded (action (fuel f at) b (tokens_at f at))
-      → IsDue f (stage.To n) c (s.ends + 1) t → FirstOf f (action_rows f b at s) (record { row = row.If; next = t })
+  pub jumps-first : {z z' : List ℕ} (c : Cursor) (n : ℕ) (t : Source) → found (code.Jumps n) (tokens_at f c) ≡ map_found coded (action (fuel f at) b (tokens_at f at))
+      → IsDue f (stage.To n) c (s.ends + 1) t → FirstOf f z z' (action_rows f b at s) (record { row = row.If; next = t })
   unfolding rows_by
   jumps-first c n t h u =
       let k = fuel f at in
@@ -350,8 +358,8 @@ module _ (f : List ℕ) (b : ℕ) (at : Cursor) (s : Source) (line : zero_at (to
         behind = ap (λ (x : Found Action). rows_by k x ++ ends_then s.ends (lines_behind f s.at)) x ∙ ap (λ (l : List Content). cond_row if ∷ l) (sym y);
       }
 
-  pub holds-first : (c : Cursor) (t : Source) → found code.Holds (tokens_at f c) ≡ map_found coded (action (fuel f at) b (tokens_at f at))
-      → IsDue f stage.Stmts c (s.ends + 2) t → FirstOf f (action_rows f b at s) (record { row = row.If; next = t })
+  pub holds-first : {z z' : List ℕ} (c : Cursor) (t : Source) → found code.Holds (tokens_at f c) ≡ map_found coded (action (fuel f at) b (tokens_at f at))
+      → IsDue f stage.Stmts c (s.ends + 2) t → FirstOf f z z' (action_rows f b at s) (record { row = row.If; next = t })
   unfolding rows_by
   holds-first c t h u =
       let k = fuel f at in
@@ -382,7 +390,7 @@ pub passed_none : (f : List ℕ) (s : Source) → Passed f s s.at
 passed_none f s = record { rows = refl; line = refl; later = tokens_ordered f s.at }
 
 module _ (f : List ℕ) (s : Source) (c : Cursor) (t : Token) (h : Passed f s c) (e : IsNext (tokens_at f) c t) where
-  pub passed_end : (r : Sourced) → t.byte ≡ 0 → FirstOf f (ends_then s.ends (lines_behind f s.at)) r → FirstOf f (statements_at f s.at s.ends) r
+  pub passed_end : {z z' : List ℕ} (r : Sourced) → t.byte ≡ 0 → FirstOf f z z' (ends_then s.ends (lines_behind f s.at)) r → FirstOf f z z' (statements_at f s.at s.ends) r
   passed_end r z g =
       let x : emits (fuel f c) (tokens_at f c) ≡ [] = ap (emits (fuel f c)) e ∙ emits_end (fuel f c) (t.place, t.byte) (ahead (tokens_at f) t) z in
       first_rw f (statements_at f s.at s.ends) (ends_then s.ends (lines_behind f s.at)) r (ap (λ (l : List Content). l ++ ends_then s.ends (lines_behind f s.at)) (h.rows ∙ x)) g
@@ -410,7 +418,7 @@ module _ (f : List ℕ) (s : Source) (c : Cursor) (t : Token) (h : Passed f s c)
         ap (λ (l : List Placed). emits (length l) l) next_is ∙ emits_colon (fuel f t.next) (t.place, t.byte) (tokens_at f t.next) z in
         record { rows = h.rows ∙ q; line = next_line; later = ordered_lower (omega arith) next_later }
 
-    pub passed_first : (r : Sourced) → (t.byte ≡ 58 → ⊥) → FirstOf f (action_rows f t.byte t.next s) r → FirstOf f (statements_at f s.at s.ends) r
+    pub passed_first : {z z' : List ℕ} (r : Sourced) → (t.byte ≡ 58 → ⊥) → FirstOf f z z' (action_rows f t.byte t.next s) r → FirstOf f z z' (statements_at f s.at s.ends) r
     passed_first r z g =
         let q : emits (fuel f c) (tokens_at f c) ≡ rows_by (fuel f t.next) (action (fuel f t.next) t.byte (tokens_at f t.next)) =
         ap (λ (l : List Placed). emits (length l) l) next_is ∙ emits-action (fuel f t.next) (t.place, t.byte) (tokens_at f t.next) more z in
@@ -418,5 +426,5 @@ module _ (f : List ℕ) (s : Source) (c : Cursor) (t : Token) (h : Passed f s c)
 
 -- ---- a row that was found is the first
 
-pub due_yields : (f : List ℕ) (s : Source) (ds : List Content) (r : Sourced) → contents_from f s ≡ ds → FirstOf f ds r → Yields f s (Some r)
+pub due_yields : {z z' : List ℕ} (f : List ℕ) (s : Source) (ds : List Content) (r : Sourced) → contents_from f s ≡ ds → FirstOf f z z' ds r → Yields f z z' s (Some r)
 due_yields f s ds r e h = first_rw f (contents_from f s) ds r e h

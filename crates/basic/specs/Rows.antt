@@ -12,7 +12,8 @@ use Rattle.listings.specs.Scan.{index_of}
 use Rattle.program_files.specs.Program as definition
 use Rattle.program_files.specs.Program.{Placed, uncovered, counted, join_go, action, pass_over}
 use Rattle.basic.specs.Cursors.{tokens_at}
-use Rattle.basic.specs.Actions.{fuel, args_in}
+use Rattle.basic.specs.Actions.{fuel}
+use Rattle.basic.specs.Items.{put_front}
 use Rattle.basic.specs.declared.cursors.Cursor.{Cursor}
 use Rattle.basic.specs.declared.sources.Stage.{Stage}
 use Rattle.basic.specs.declared.sources.Stage.TheVariants as stage
@@ -85,38 +86,38 @@ contents_from f s = elim s.stage [
   | stage.Ended ↦ []
 ]
 
--- a statement's row, by what the code has of it
-pub record SimpleIs (f : List ℕ) (d : Content) (s : code.Simple) : Type 0 where
+-- a statement's row, by what the code has of it; z: a part before its arguments were put, t: the same part afterwards
+pub record SimpleIs (z t : List ℕ) (d : Content) (s : code.Simple) : Type 0 where
   pub simple : Simple
   pub content : d ≡ simple_row (parsed (simple, listed simple))
   pub word : s.word ≡ word_index (simple_word simple)
   pub count : s.count ≡ length (args_of simple)
   pub detail : detail_of simple ≡ 0
-  pub args : args_in (action (fuel f s.at) s.byte (tokens_at f s.at)) ≡ args_of simple
+  pub args : t ≡ put_front (args_of simple) z
 
 -- what the row says
-abbrev pub RowIs : List ℕ → Content → FileRow → Type 0
-RowIs f d row.Module = d ≡ module_row false
-RowIs f d (row.Line n) = d ≡ line_row (parsed n)
-RowIs f d (row.Simple s) = SimpleIs f d s
-RowIs f d row.If = d ≡ cond_row if
-RowIs f d (row.To n) = d ≡ to_row (parsed n)
-RowIs f d row.Stmts = d ≡ stmts_row
-RowIs f d row.End = d ≡ end_row
+abbrev pub RowIs : List ℕ → List ℕ → Content → FileRow → Type 0
+RowIs z t d row.Module = d ≡ module_row false
+RowIs z t d (row.Line n) = d ≡ line_row (parsed n)
+RowIs z t d (row.Simple s) = SimpleIs z t d s
+RowIs z t d row.If = d ≡ cond_row if
+RowIs z t d (row.To n) = d ≡ to_row (parsed n)
+RowIs z t d row.Stmts = d ≡ stmts_row
+RowIs z t d row.End = d ≡ end_row
 
 -- of the contents ds, the first, and the others as what is due behind it
-pub record FirstOf (f : List ℕ) (ds : List Content) (r : Sourced) : Type 0 where
+pub record FirstOf (f z t : List ℕ) (ds : List Content) (r : Sourced) : Type 0 where
   pub content : Content
-  pub says : RowIs f content r.row
+  pub says : RowIs z t content r.row
   pub behind : ds ≡ content ∷ contents_from f r.next
 
 -- the first of what is due from s on
-abbrev pub First : List ℕ → Source → Sourced → Type 0
-First f s r = FirstOf f (contents_from f s) r
+abbrev pub First : List ℕ → List ℕ → List ℕ → Source → Sourced → Type 0
+First f z t s r = FirstOf f z t (contents_from f s) r
 
-abbrev pub Yields : List ℕ → Source → Option Sourced → Type 0
-Yields f s None = contents_from f s ≡ []
-Yields f s (Some r) = First f s r
+abbrev pub Yields : List ℕ → List ℕ → List ℕ → Source → Option Sourced → Type 0
+Yields f z t s None = contents_from f s ≡ []
+Yields f z t s (Some r) = First f z t s r
 
 -- r: that stage is due at a cursor's tokens, with so many rows `)`
 pub record IsDue (f : List ℕ) (g : Stage) (c : Cursor) (n : ℕ) (r : Source) : Type 0 where

@@ -1,5 +1,5 @@
-// A statement by its first byte: what it does, and where what follows begins.
-ghost use Rattle.std.specs.Prelude.{◌≡◌, [], ◌∷◌, length};
+// A statement by its first byte: what it does, its arguments, and where what follows begins.
+ghost use Rattle.std.specs.Prelude.{◌≡◌, ◌∷◌, [], length, IfOk};
 ghost use Rattle.program_files.specs.Program.{map_found, line_number, seek, branch, if_action, on_action, next_action, run_action, action, pass_over};
 ghost use Rattle.basic.specs.Cursors.{tokens_at};
 ghost use Rattle.basic.specs.Found.{found_by};
@@ -9,7 +9,7 @@ ghost use Rattle.basic.specs.Actions.{coded, IsOne, IsList, one_in, args_in, fue
 use super::codes;
 use super::cursors::{Cursor, token_at};
 use super::found::{Found, Lack};
-use super::items::{Item, count_items, put_items};
+use super::items::{Item, read_items};
 use super::names::key_at;
 use super::numbers::line_number;
 use layout::words::{CLR, FOR, GOSUB, GOTO, NEXT, ONGOSUB, ONGOTO, PLAIN, RETURN, RUN, STOP};
@@ -65,13 +65,26 @@ pub(crate) fn pass_over(file: &[u8], c: Cursor) -> Cursor
     }
 }
 
-// A word with one number or one name.
+// One argument at the front of `part`, if it has room.
+#[tactic(auto, using(crate::specs::ItemLaws::put_one_front, crate::specs::ItemLaws::put_one_full))]
+fn put_first(value: u64, part: &mut [u64])
+    ensures { part.new ≡ put_front (value ∷ []) part.old }
+{
+    if let Some(first) = part.first_mut() {
+        *first = value;
+    }
+}
+
+// A word with one number or one name, which is put.
 // Kept: takes what was found or is lacking, as `list_at` does: with `?` in the arms of `action_at` each would name what
 // was found only to hand its cursor on.
-fn one_at(word: u16, f: Result<Found<u64>, Lack>) -> Result<Found<Action>, Lack>
-    ensures { IsOne word f result }
+fn one_at(word: u16, f: Result<Found<u64>, Lack>, part: &mut [u64]) -> Result<Found<Action>, Lack>
+    ensures told { IsOne word f result }
+    ensures put { IfOk result (λ r. part.new ≡ put_front (one_in f) part.old) }
 {
-    f.map(|one| one.with(Action::Does { word, count: 1 }))
+    let one = f?;
+    put_first(one.value, part);
+    Ok(one.with(Action::Does { word, count: 1 }))
 }
 
 // A word with as many items.
@@ -130,8 +143,9 @@ fn if_at(file: &[u8], c: Cursor) -> Result<Found<Action>, Lack>
 }
 
 // "ON has GOTO or GOSUB after its expression"
-fn on_at(file: &[u8], c: Cursor) -> Result<Found<Action>, Lack>
-    ensures { found_by (tokens_at file.now) result ≡ map_found coded (on_action (fuel file.now c) (tokens_at file.now c)) }
+fn on_at(file: &[u8], c: Cursor, part: &mut [u64]) -> Result<Found<Action>, Lack>
+    ensures told { found_by (tokens_at file.now) result ≡ map_found coded (on_action (fuel file.now c) (tokens_at file.now c)) }
+    ensures put { IfOk result (λ r. part.new ≡ put_front (args_in (on_action (fuel file.now c) (tokens_at file.now c))) part.old) }
 {
     let jump = seek_at(file, c, codes::GOTO, codes::GOSUB)?;
     let word = if jump.value == codes::GOTO {
@@ -139,115 +153,53 @@ fn on_at(file: &[u8], c: Cursor) -> Result<Found<Action>, Lack>
     } else {
         ONGOSUB
     };
-    list_at(word, count_items(file, jump.next, Item::Number))
+    list_at(word, read_items(file, jump.next, Item::Number, part))
 }
 
 // "NEXT with no name first has the one slot `*`."
-// Kept: the test of `put_slots`, as RUN's is that of `put_run` and ON's search that of `put_targets`: what stands there
-// is counted here and stored there, and a routine for both would take a closure for each and be no shorter.
-fn next_at(file: &[u8], c: Cursor) -> Result<Found<Action>, Lack>
-    ensures { found_by (tokens_at file.now) result ≡ map_found coded (next_action (fuel file.now c) (tokens_at file.now c)) }
+// Kept: `*` is 0, here and where keys are stored, since it is an entry of the lent table; no name has that key.
+fn next_at(file: &[u8], c: Cursor, part: &mut [u64]) -> Result<Found<Action>, Lack>
+    ensures told { found_by (tokens_at file.now) result ≡ map_found coded (next_action (fuel file.now c) (tokens_at file.now c)) }
+    ensures put { IfOk result (λ r. part.new ≡ put_front (args_in (next_action (fuel file.now c) (tokens_at file.now c))) part.old) }
 {
     let t = token_at(file, c);
     if is_capital(t.byte) {
-        return list_at(NEXT, count_items(file, c, Item::Name));
+        return list_at(NEXT, read_items(file, c, Item::Name, part));
     }
+    put_first(0, part);
     does_at(NEXT, 1, c)
 }
 
 // RUN with a number or without.
-fn run_at(file: &[u8], c: Cursor) -> Result<Found<Action>, Lack>
-    ensures { found_by (tokens_at file.now) result ≡ map_found coded (run_action (tokens_at file.now c)) }
+fn run_at(file: &[u8], c: Cursor, part: &mut [u64]) -> Result<Found<Action>, Lack>
+    ensures told { found_by (tokens_at file.now) result ≡ map_found coded (run_action (tokens_at file.now c)) }
+    ensures put { IfOk result (λ r. part.new ≡ put_front (args_in (run_action (tokens_at file.now c))) part.old) }
 {
     let t = token_at(file, c);
     if is_digit(t.byte) {
-        return one_at(RUN, line_number(file, c));
+        return one_at(RUN, line_number(file, c), part);
     }
     does_at(RUN, 0, c)
 }
 
-// The statement whose first byte is b; c stands behind it.
-// Kept: a byte and a cursor, not a `Token`: its place is not asked, and `put_args`, which is told the same, has the two
-// from a row's `Simple`, which keeps none.
-pub fn action_at(file: &[u8], b: u8, c: Cursor) -> Result<Found<Action>, Lack>
-    ensures { found_by (tokens_at file.now) result ≡ map_found coded (action (fuel file.now c) b (tokens_at file.now c)) }
+// The statement whose first byte is b; c stands behind it. Its arguments at the front of `part`, as far as it goes:
+// numbers, names' keys, 0 for `*`. Where something is lacking, nothing is said of what `part` then holds.
+// Kept: a byte and a cursor, not a `Token`: its place is not asked.
+pub fn action_at(file: &[u8], b: u8, c: Cursor, part: &mut [u64]) -> Result<Found<Action>, Lack>
+    ensures told { found_by (tokens_at file.now) result ≡ map_found coded (action (fuel file.now c) b (tokens_at file.now c)) }
+    ensures put { IfOk result (λ r. part.new ≡ put_front (args_in (action (fuel file.now c) b (tokens_at file.now c))) part.old) }
 {
     match b {
         codes::END | codes::STOP => does_at(STOP, 0, c),
         codes::RETURN => does_at(RETURN, 0, c),
         codes::CLR => does_at(CLR, 0, c),
-        codes::FOR => one_at(FOR, key_at(file, c)),
-        codes::NEXT => next_at(file, c),
-        codes::GOTO => one_at(GOTO, line_number(file, c)),
-        codes::GOSUB => one_at(GOSUB, line_number(file, c)),
-        codes::RUN => run_at(file, c),
+        codes::FOR => one_at(FOR, key_at(file, c), part),
+        codes::NEXT => next_at(file, c, part),
+        codes::GOTO => one_at(GOTO, line_number(file, c), part),
+        codes::GOSUB => one_at(GOSUB, line_number(file, c), part),
+        codes::RUN => run_at(file, c, part),
         codes::IF => if_at(file, c),
-        codes::ON => on_at(file, c),
+        codes::ON => on_at(file, c, part),
         _ => does_at(PLAIN, 0, c),
-    }
-}
-
-// The arguments of that statement at the front of `part`, as far as it goes: numbers, a name's key, 0 for `*`.
-// Kept: a byte and a cursor, as `action_at`.
-pub fn put_args(file: &[u8], b: u8, c: Cursor, part: &mut [u64])
-    ensures { part.new ≡ put_front (args_in (action (fuel file.now c) b (tokens_at file.now c))) part.old }
-{
-    match b {
-        codes::FOR => put_one(key_at(file, c), part),
-        codes::NEXT => put_slots(file, c, part),
-        codes::GOTO | codes::GOSUB => put_one(line_number(file, c), part),
-        codes::RUN => put_run(file, c, part),
-        codes::ON => put_targets(file, c, part),
-        _ => {}
-    }
-}
-
-// One argument.
-#[tactic(auto, using(crate::specs::ItemLaws::put_one_front, crate::specs::ItemLaws::put_one_full))]
-fn put_first(value: u64, part: &mut [u64])
-    ensures { part.new ≡ put_front (value ∷ []) part.old }
-{
-    if let Some(first) = part.first_mut() {
-        *first = value;
-    }
-}
-
-// One number or key.
-fn put_one(f: Result<Found<u64>, Lack>, part: &mut [u64])
-    ensures { part.new ≡ put_front (one_in f) part.old }
-{
-    if let Ok(one) = f {
-        put_first(one.value, part);
-    }
-}
-
-// NEXT's slots.
-// Kept: `*` is 0, here and where keys are stored, since it is an entry of the lent table; no name has that key.
-fn put_slots(file: &[u8], c: Cursor, part: &mut [u64])
-    ensures { part.new ≡ put_front (args_in (next_action (fuel file.now c) (tokens_at file.now c))) part.old }
-{
-    let t = token_at(file, c);
-    if is_capital(t.byte) {
-        return put_items(file, c, Item::Name, part);
-    }
-    put_first(0, part);
-}
-
-// RUN's number, if there is one.
-fn put_run(file: &[u8], c: Cursor, part: &mut [u64])
-    ensures { part.new ≡ put_front (args_in (run_action (tokens_at file.now c))) part.old }
-{
-    let t = token_at(file, c);
-    if is_digit(t.byte) {
-        put_one(line_number(file, c), part);
-    }
-}
-
-// ON's numbers.
-fn put_targets(file: &[u8], c: Cursor, part: &mut [u64])
-    ensures { part.new ≡ put_front (args_in (on_action (fuel file.now c) (tokens_at file.now c))) part.old }
-{
-    if let Ok(jump) = seek_at(file, c, codes::GOTO, codes::GOSUB) {
-        put_items(file, jump.next, Item::Number, part);
     }
 }

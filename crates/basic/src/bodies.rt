@@ -52,7 +52,7 @@ pub(crate) fn judge_body(file: &[u8], c: Cursor) -> Result<Whole, Lack>
             byte => {
                 deep |= MAX_DEPTH < depth;
                 stmts += 1;
-                let action = action_at(file, byte, t.next)?;
+                let action = action_at(file, byte, t.next, &mut [])?;
                 match action.value {
                     Action::Does { word: _, count } => {
                         long |= MAX_ARGS < count;

@@ -38,7 +38,7 @@ impl Source {
 
 // The module's last row, behind which nothing is due.
 fn module_end() -> Sourced
-    ensures { (f : List ℕ) → FirstOf f (end_row ∷ []) result }
+    ensures { (f z t : List ℕ) → FirstOf f z t (end_row ∷ []) result }
 {
     Sourced {
         row: FileRow::End,
@@ -52,7 +52,7 @@ fn module_end() -> Sourced
 
 // The line whose link stands at a place, or the module's end.
 fn line_row_at(file: &[u8], at: usize) -> Sourced
-    ensures { FirstOf file.now (lines_at file.now at) result }
+    ensures { (z t : List ℕ) → FirstOf file.now z t (lines_at file.now at) result }
 {
     let left = file.len().saturating_sub(at);
     if left < 4 || word_at(file, at) == 0 {
@@ -80,7 +80,7 @@ fn link_behind(file: &[u8], c: Cursor) -> usize
 
 // A row `)`; behind the last of them the next line is due.
 fn end_row_at(file: &[u8], s: Source) -> Sourced
-    ensures { FirstOf file.now (ends_then s.ends (lines_behind file.now s.at)) result }
+    ensures { (z t : List ℕ) → FirstOf file.now z t (ends_then s.ends (lines_behind file.now s.at)) result }
 {
     match s.ends {
         0 => line_row_at(file, link_behind(file, s.at)),
@@ -105,8 +105,8 @@ fn end_row_at(file: &[u8], s: Source) -> Sourced
 
 // The next statement behind colons, or the end of them.
 // Kept: `loop`, as `actions::seek_at`.
-fn statement_row_at(file: &[u8], s: Source) -> Sourced
-    ensures { FirstOf file.now (statements_at file.now s.at s.ends) result }
+fn statement_row_at(file: &[u8], s: Source, part: &mut [u64]) -> Sourced
+    ensures { FirstOf file.now part.old part.new (statements_at file.now s.at s.ends) result }
 {
     let mut at = s.at;
     loop {
@@ -114,29 +114,24 @@ fn statement_row_at(file: &[u8], s: Source) -> Sourced
         match t.byte {
             0 => return end_row_at(file, s),
             b':' => at = t.next,
-            byte => return action_row(file, byte, t.next, s),
+            byte => return action_row(file, byte, t.next, s, part),
         }
     }
 }
 
 // The statement whose first byte is b, which stands before `at` and not before s.at.
-fn action_row(file: &[u8], b: u8, at: Cursor, s: Source) -> Sourced
+fn action_row(file: &[u8], b: u8, at: Cursor, s: Source, part: &mut [u64]) -> Sourced
     requires inside { s.at.at < length file.now }
     requires line { zero_at (tokens_at file.now at) ≡ zero_at (tokens_at file.now s.at) }
     requires later { Ordered (suc s.at.at) (length file.now) (tokens_at file.now at) }
-    ensures { FirstOf file.now (action_rows file.now b at s) result }
+    ensures { FirstOf file.now part.old part.new (action_rows file.now b at s) result }
 {
-    let Ok(action) = action_at(file, b, at) else {
+    let Ok(action) = action_at(file, b, at, part) else {
         return end_row_at(file, s);
     };
     match action.value {
         Action::Does { word, count } => Sourced {
-            row: FileRow::Simple(Simple {
-                word,
-                count,
-                byte: b,
-                at,
-            }),
+            row: FileRow::Simple(Simple { word, count }),
             next: due(file, Stage::Statements, pass_over(file, action.next), s, 0),
         },
         Action::Jumps(number) => Sourced {
@@ -166,9 +161,9 @@ fn due(file: &[u8], stage: Stage, c: Cursor, s: Source, more: usize) -> Source
     }
 }
 
-// The row that is due, and what is due behind it.
-pub fn row_at(file: &[u8], s: Source) -> Option<Sourced>
-    ensures { Yields file.now s result }
+// The row that is due, and what is due behind it; a statement's arguments at the front of `part`, as far as it goes.
+pub fn row_at(file: &[u8], s: Source, part: &mut [u64]) -> Option<Sourced>
+    ensures { Yields file.now part.old part.new s result }
 {
     match s.stage {
         Stage::Module => Some(Sourced {
@@ -176,7 +171,7 @@ pub fn row_at(file: &[u8], s: Source) -> Option<Sourced>
             next: s.staged(Stage::Line),
         }),
         Stage::Line => Some(line_row_at(file, s.at.at)),
-        Stage::Statements => Some(statement_row_at(file, s)),
+        Stage::Statements => Some(statement_row_at(file, s, part)),
         Stage::To(number) => Some(Sourced {
             row: FileRow::To(number),
             next: s.staged(Stage::Ends),

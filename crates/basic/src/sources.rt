@@ -28,20 +28,17 @@ pub struct Source {
     ghost few: { ends ≤ 2 * at.at + 1 },
 }
 
-// A statement that holds no others: the number of its opening word, how many arguments it has, its first byte, and
-// where what follows that stands.
+// A statement that holds no others: the number of its opening word, and how many arguments it has.
 #[derive(Clone, Copy)]
 pub struct Simple {
     pub word: u16,
     pub count: usize,
-    pub byte: u8,
-    pub at: Cursor,
 }
 
 // A row: the module's, without handlers; a line's; a statement's; `(if`, `(to N)`, `(stmts`, `)`.
 // Kept: `End` is the row `)`, and not that there is none.
-// Kept: beside reader's `Row`: a file has no handlers, no IFELSE and no RCOMP, and its statements say where their
-// arguments stand.
+// Kept: beside reader's `Row`: a file has no handlers, no IFELSE and no RCOMP, and its statements' arguments stand beside
+// the row.
 #[derive(Clone, Copy)]
 pub enum FileRow {
     Module,

@@ -13,8 +13,11 @@ use Rattle.program_files.specs.Program.{Placed, Cover, uncovered, counted, behin
 pub data Alike : List ℕ → List ℕ → Type 0 where
   -- "A link of 0 ends the reading": anything follows
   over : {f g : List ℕ} → Alike (0 ∷ 0 ∷ f) (0 ∷ 0 ∷ g)
-  -- both the same, and too short for a link and a number: fewer than four bytes
-  early : {f : List ℕ} → length f < 4 → Alike f f
+  -- nothing, or one byte of a link, whichever: "the file ends early"
+  none_left : Alike [] []
+  half : {a a' : ℕ} → Alike (a ∷ []) (a' ∷ [])
+  -- each its own link, and no more than one byte of the number, the same
+  early : {a b a' b' : ℕ} {l : List ℕ} → (eqb a 0 && eqb b 0) ≡ false → (eqb a' 0 && eqb b' 0) ≡ false → length l < 2 → Alike (a ∷ b ∷ l) (a' ∷ b' ∷ l)
   -- "other links are not followed": each its own, then the same number, the same bytes, a zero, and so on
   goes : {a b a' b' c d : ℕ} (l : List ℕ) {f g : List ℕ} → (eqb a 0 && eqb b 0) ≡ false → (eqb a' 0 && eqb b' 0) ≡ false → index_of 0 l ≡ length l → Alike f g
       → Alike (a ∷ b ∷ c ∷ d ∷ (l ++ (0 ∷ f))) (a' ∷ b' ∷ c ∷ d ∷ (l ++ (0 ∷ g)))
@@ -72,36 +75,37 @@ ended_there (suc k) e p ls [] h = refl
 ended_there (suc k) e p ls (c ∷ []) h = refl
 ended_there (suc k) e p ls (c ∷ d ∷ f) h = refl
 
--- fewer than four bytes are the end, or the file ends early
-early_same : (e p : ℕ) (ls : Lines) (k i : ℕ) (f : List ℕ) → length f < 4 → length f < k → length f < i → lines_from k e ls p f ≡ lines_from i e ls p f
+-- with fewer than four bytes, and no link of 0, the file ends early: 33 at its length
+ends_none : (k e p : ℕ) (ls : Lines) → lines_from k e ls p [] ≡ refusal 33 e
 unfolding lines_from
-early_same e p ls zero i f h s t = absurd (omega arith)
-early_same e p ls (suc k) zero f h s t = absurd (omega arith)
-early_same e p ls (suc k) (suc i) [] h s t = refl
-early_same e p ls (suc k) (suc i) (a ∷ []) h s t = refl
-early_same e p ls (suc k) (suc i) (a ∷ b ∷ []) h s t = refl
-early_same e p ls (suc k) (suc i) (a ∷ b ∷ c ∷ []) h s t = refl
-early_same e p ls (suc k) (suc i) (a ∷ b ∷ c ∷ d ∷ f) h s t = absurd (omega arith)
+ends_none zero e p ls = refl
+ends_none (suc k) e p ls = refl
+
+ends_half : (k e p a : ℕ) (ls : Lines) → lines_from k e ls p (a ∷ []) ≡ refusal 33 e
+unfolding lines_from
+ends_half zero e p a ls = refl
+ends_half (suc k) e p a ls = refl
+
+ends_early : (k e p a b : ℕ) (l : List ℕ) (ls : Lines) → (eqb a 0 && eqb b 0) ≡ false → length l < 2 → lines_from k e ls p (a ∷ b ∷ l) ≡ refusal 33 e
+unfolding lines_from
+ends_early zero e p a b l ls h s = refl
+ends_early (suc k) e p a b [] ls h s = rw h refl
+ends_early (suc k) e p a b (c ∷ []) ls h s = rw h refl
+ends_early (suc k) e p a b (c ∷ d ∷ l) ls h s = absurd (omega arith)
 
 -- what a line without a zero leaves
 drop_past : (l : List ℕ) → drop (suc (length l)) l ≡ []
 drop_past [] = refl
 drop_past (b ∷ l) = drop_past l
 
--- nothing is left
-nothing-left : (k i e p : ℕ) (ls : Lines) → lines_from k e ls p [] ≡ lines_from i e ls p []
-unfolding lines_from
-nothing-left zero zero e p ls = refl
-nothing-left zero (suc i) e p ls = refl
-nothing-left (suc k) zero e p ls = refl
-nothing-left (suc k) (suc i) e p ls = refl
-
 -- from a link on; the file's length is e, or j
 lines_same : {f g : List ℕ} → Alike f g → (k i e j p : ℕ) (ls : Lines) → length f < k → length g < i → e ≡ p + length f → j ≡ p + length g
     → lines_from k e ls p f ≡ lines_from i j ls p g
 unfolding lines_from
 lines_same (over {f = f} {g = g}) k i e j p ls s t x y = ended_there k e p ls f (omega arith) ∙ sym (ended_there i j p ls g (omega arith))
-lines_same (early {f = f} h) k i e j p ls s t x y = early_same e p ls k i f h s t ∙ ap (λ (z : ℕ). lines_from i z ls p f) (x ∙ sym y)
+lines_same none_left k i e j p ls s t x y = ends_none k e p ls ∙ ap (refusal 33) (x ∙ sym y) ∙ sym (ends_none i j p ls)
+lines_same (half {a} {a'}) k i e j p ls s t x y = ends_half k e p a ls ∙ ap (refusal 33) (x ∙ sym y) ∙ sym (ends_half i j p a' ls)
+lines_same (early {a} {b} {a'} {b'} {l} r q h) k i e j p ls s t x y = ends_early k e p a b l ls r h ∙ ap (refusal 33) (x ∙ sym y) ∙ sym (ends_early i j p a' b' l ls q h)
 lines_same (goes l r t h m) zero i e j p ls s u x y = absurd (omega arith)
 lines_same (goes l r t h m) (suc k) zero e j p ls s u x y = absurd (omega arith)
 lines_same (goes {c = c} {d = d} l {f = f} {g = g} r t h m) (suc k) (suc i) e j p ls s u x y =
@@ -118,7 +122,12 @@ lines_same (cut {c = c} {d = d} {l = l} r t h) (suc k) (suc i) e j p ls s u x y 
     let b = body_of (length cs) ∅ (join_go cs) in
     rw (r, t, h, drop_past l, x ∙ sym y)
     (judged-same ls (c + 256 * d) b (soonest (offences j (p + 2) (c + 256 * d) l cs b)) (λ ms. lines_from k j ms (p + 5 + length l) []) (λ ms. lines_from i j ms (p + 5 + length l) [])
-    (λ ms. nothing-left k i j (p + 5 + length l) ms))
+    (λ ms. ends_none k j (p + 5 + length l) ms ∙ sym (ends_none i j (p + 5 + length l) ms)))
+
+-- of a file of one byte: it is half a load address
+pub alike_one : (a c : ℕ) → read_program (a ∷ []) ≡ read_program (c ∷ [])
+unfolding read_program loaded
+alike_one a c = refl
 
 -- "links other than 0, load address and what follows the end do not matter", of two files of at most 65,536 bytes each: the same listing, or the same refusal at the same place
 pub alike_same : (a b c d : ℕ) (f g : List ℕ) → Alike f g → length f ≤ 65534 → length g ≤ 65534 → read_program (a ∷ b ∷ f) ≡ read_program (c ∷ d ∷ g)

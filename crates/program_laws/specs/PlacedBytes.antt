@@ -1,6 +1,6 @@
--- Bytes of a line that all count: no zero, space, quote, REM, DATA, GO or foreign byte among them. What the passes over a line make of these. Assumes nothing.
-use Rattle.std.specs.Prelude.{ℕ, suc, ◌≤◌, ◌≡◌, refl, List, [], ◌∷◌, ◌++◌, Bool, true, false, ◌&&◌, not, eqb, length, drop}
-use Rattle.std.proofs.Common.{ap, arith, ne_eqb}
+-- Bytes of a line that all count: no zero, space, quote, REM, DATA, GO or foreign byte among them, and nothing that is no byte. What the passes over a line make of these. Assumes nothing.
+use Rattle.std.specs.Prelude.{ℕ, suc, ◌≤◌, ◌<◌, ◌≡◌, refl, List, [], ◌∷◌, ◌++◌, Bool, true, false, ◌&&◌, not, eqb, leb, length, drop}
+use Rattle.std.proofs.Common.{ap, arith, ne_eqb, leb-true, le-leb}
 use Rattle.std.proofs.lemmas.Bool.{not-true}
 use Rattle.listings.specs.Rows.{all}
 use Rattle.listings.specs.Scan.{index_of}
@@ -22,9 +22,9 @@ unfolding placed
 placed-length p [] = refl
 placed-length p (b ∷ l) = ap suc (placed-length (suc p) l)
 
--- no zero, space, quote, REM, DATA, GO or foreign byte
+-- a byte, and no zero, space, quote, REM, DATA, GO or foreign one
 unfoldable pub is_clean : ℕ → Bool
-is_clean b = not (eqb b 0) && (not (eqb b 32) && (not (eqb b 34) && (not (eqb b 143) && (not (eqb b 131) && (not (eqb b 203) && not (eqb b 100))))))
+is_clean b = not (eqb b 0) && (not (eqb b 32) && (not (eqb b 34) && (not (eqb b 143) && (not (eqb b 131) && (not (eqb b 203) && (not (eqb b 100) && leb b 255))))))
 
 record Clean (b : ℕ) : Type 0 where
   zero : eqb b 0 ≡ false
@@ -34,6 +34,7 @@ record Clean (b : ℕ) : Type 0 where
   data_token : eqb b 131 ≡ false
   go : eqb b 203 ≡ false
   odd : eqb b 100 ≡ false
+  byte : leb b 255 ≡ true
 
 clean_is : (b : ℕ) → is_clean b ≡ true → Clean b
 unfolding is_clean
@@ -44,6 +45,7 @@ clean_is b h =
     let i = both_true (not (eqb b 143)) _ g.1 in
     let j = both_true (not (eqb b 131)) _ i.1 in
     let k = both_true (not (eqb b 203)) _ j.1 in
+    let l = both_true (not (eqb b 100)) _ k.1 in
     record {
       zero = not-true (eqb b 0) e.0;
       space = not-true (eqb b 32) f.0;
@@ -51,8 +53,16 @@ clean_is b h =
       rem = not-true (eqb b 143) i.0;
       data_token = not-true (eqb b 131) j.0;
       go = not-true (eqb b 203) k.0;
-      odd = not-true (eqb b 100) k.1;
+      odd = not-true (eqb b 100) l.0;
+      byte = l.1;
     }
+
+-- what a byte holds
+abbrev pub Byte : ℕ → Type 0
+Byte b = b < 256
+
+pub clean_byte : (b : ℕ) → is_clean b ≡ true → Byte b
+clean_byte b h = let q = leb-true b 255 (clean_is b h).byte in omega arith
 
 -- digits, capitals, `%` and `$` are clean
 pub clean_between : (b : ℕ) → 36 ≤ b → b ≤ 90 → is_clean b ≡ true
@@ -65,7 +75,7 @@ clean_between b g h =
     let e131 = ne_eqb b 131 (λ e. omega arith) in
     let e203 = ne_eqb b 203 (λ e. omega arith) in
     let e100 = ne_eqb b 100 (λ e. omega arith) in
-    rw (e0, e32, e34, e143, e131, e203, e100)
+    rw (e0, e32, e34, e143, e131, e203, e100, le-leb b 255 (omega arith))
 
 pub counted-placed : (p : ℕ) (l m : List ℕ) → all is_clean l ≡ true → counted uncovered p (l ++ (0 ∷ m)) ≡ placed p l
 unfolding counted placed counts behind all

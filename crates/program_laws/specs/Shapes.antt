@@ -4,12 +4,14 @@ use Rattle.std.proofs.Common.{sym, ap, ◌∙◌, subst, append_assoc, arith, le
 use Rattle.std.proofs.Math.Option.{Option, none, some}
 use Rattle.listings.specs.Listing.{Stmts, ∅, ◌▸◌, branching, Lines, nolines, line, Listing, size, total, count}
 use Rattle.listings.specs.Rows.{all}
+use Rattle.listings.specs.Every.{All, all[], all∷, all_append}
+use Rattle.listings.specs.Tests.{both_true}
 use Rattle.listings.specs.Read.{taken, check, ascends, Answer, listing}
 use Rattle.listings.specs.ListingText.{listed, StmtsOk, last_number, Above, LinesOk, listing_text}
 use Rattle.program_files.specs.Program.{uncovered, counted, join_go, body, body_of, Offence, soonest, lacking, offences, shallow, short, with_line, stmts_in, judged, program, lines_from, loaded, read_program}
 use Rattle.program_laws.specs.V2.{NumberV2, StmtsV2, LinesV2, no_lines, then_line, V2}
 use Rattle.program_laws.specs.Saved.{stmts_bytes, lines_bytes, saved}
-use Rattle.program_laws.specs.PlacedBytes.{placed, placed-length, is_clean, counted-placed, foreign-placed, join-placed, zero-placed, drop_line}
+use Rattle.program_laws.specs.PlacedBytes.{placed, placed-length, Byte, is_clean, clean_byte, counted-placed, foreign-placed, join-placed, zero-placed, drop_line}
 use Rattle.program_laws.specs.StatementReads.{stmts_read}
 use Rattle.program_laws.specs.SavedBytes.{saved-length, clean_stmts}
 
@@ -130,3 +132,22 @@ saved-meant L v h =
 -- some file, so a reader that refuses too much is found"
 pub shape_meant : (L : Listing) → V2 L → length (listing_text L) ≤ 65536 → read_program (saved L) ≡ listing L
 shape_meant L v h = saved-meant L v (omega (arith, saved-length L))
+
+-- ---- a file that was written
+
+clean_bytes : (l : List ℕ) → all is_clean l ≡ true → All Byte l
+unfolding all
+clean_bytes [] h = all[]
+clean_bytes (b ∷ l) h = let q = both_true (is_clean b) (all is_clean l) h in all∷ (clean_byte b q.0) (clean_bytes l q.1)
+
+lines_are : {ls : Lines} → LinesV2 ls → All Byte (lines_bytes ls)
+unfolding lines_bytes
+lines_are no_lines = all[]
+lines_are (then_line {ls} {n} {s} h small g) =
+    all_append (lines_are h)
+    (all∷ (omega arith) (all∷ (omega arith) (all∷ (omega arith) (all∷ (omega (arith, small)) (all_append (clean_bytes (stmts_bytes s) (clean_stmts g)) (all∷ (omega arith) all[]))))))
+
+-- what the writer writes of such a listing are bytes
+pub saved-bytes : (L : Listing) → V2 L → All Byte (saved L)
+unfolding saved
+saved-bytes L v = all∷ (omega arith) (all∷ (omega arith) (all_append (lines_are v.lines) (all∷ (omega arith) (all∷ (omega arith) all[]))))

@@ -1,6 +1,6 @@
 -- The rows of a file, put one after the other. Assumes nothing.
-use Rattle.std.specs.Prelude.{Result, Ok, Err, ℕ, false, ◌≤◌, ◌<◌, ◌≡◌, refl, List, [], ◌∷◌, ◌++◌, length, take, drop}
-use Rattle.std.proofs.Common.{sym, ap, ◌∙◌, subst, append_assoc, append-nil, arith, take_at, take_all}
+use Rattle.std.specs.Prelude.{Result, Ok, Err, ℕ, false, ◌<◌, ◌≡◌, refl, List, [], ◌∷◌, ◌++◌, length, take}
+use Rattle.std.proofs.Common.{sym, ap, ◌∙◌, subst, append_assoc, append-nil, arith}
 use Rattle.listings.specs.Bytes.{bytes, decimal}
 use Rattle.listings.specs.Listing.{if, Listing}
 use Rattle.listings.specs.Read.{Answer, listing, refusal}
@@ -12,13 +12,11 @@ use Rattle.listing_laws.specs.Contents.{IsParsed, text_by, row_text}
 use Rattle.formatting.specs.Pages.{Wrote, wrote_none, wrote_both, wrote_is}
 use Rattle.formatting.specs.declared.page.Page.{Page}
 use Rattle.graph.specs.Print.{printed_refusal}
-use Rattle.program_files.specs.Program.{read_program, action}
+use Rattle.program_files.specs.Program.{read_program}
 use Rattle.program_laws.specs.Accepted.{program_within, program_cut}
-use Rattle.basic.specs.Actions.{args_in, fuel}
-use Rattle.basic.specs.Cursors.{tokens_at}
-use Rattle.basic.specs.Items.{put_front}
 use Rattle.basic.specs.Judge.{judged_of, told_of}
 use Rattle.basic.specs.Rows.{lines_at, contents_from, SimpleIs, RowIs, First}
+use Rattle.basic.specs.RowLaws.{args_stand}
 use Rattle.basic.specs.RowsAre.{rows_are_lem}
 use Rattle.basic.specs.declared.judge.Counts.{Counts}
 use Rattle.layout.specs.Refusals.{number_of}
@@ -37,11 +35,12 @@ abbrev pub ended : Content → List ℕ
 ended d = row_text d ++ (10 ∷ [])
 
 -- the row of content d, put where it can be
+-- t: the part that holds a statement's arguments, z before they were put
 abbrev pub WroteRow : List ℕ → FileRow → Page → Page → Type 0
-WroteRow f w p p' = (d : Content) → RowIs f d w → Printable d → Wrote p p' (ended d)
+WroteRow t w p p' = (z : List ℕ) (d : Content) → length z ≡ 64 → RowIs z t d w → Printable d → Wrote p p' (ended d)
 
 abbrev pub WroteSimple : List ℕ → Simple → Page → Page → Type 0
-WroteSimple f s p p' = (d : Content) → SimpleIs f d s → Printable d → Wrote p p' (ended d)
+WroteSimple t s p p' = (z : List ℕ) (d : Content) → length z ≡ 64 → SimpleIs z t d s → Printable d → Wrote p p' (ended d)
 
 -- ---- the rows of one number or none
 
@@ -77,58 +76,42 @@ to_text_lem n = regroup (bytes "(to") (decimal n) (bytes ")") (bytes "\n")
 
 -- ---- a statement's row
 
--- so many arguments at the front of 64 zeros
-front_args : (vs z : List ℕ) → length vs ≤ length z → take (length vs) (put_front vs z) ≡ vs
-unfolding put_front
-front_args vs z h = ap (λ (l : List ℕ). take (length vs) (l ++ drop (length vs) z)) (take_all (length z) vs h) ∙ take_at vs (drop (length vs) z) (length vs) refl
-
-module _ (f : List ℕ) (r : Simple) where
-  stmt_prints : (d : Content) (s : SimpleIs f d r) → Printable d → StmtPrints s.simple
+module _ (t : List ℕ) (r : Simple) where
+  stmt_prints : {z : List ℕ} (d : Content) (s : SimpleIs z t d r) → Printable d → StmtPrints s.simple
   unfolding Printable IsParsed
   stmt_prints d s h = rw s.content at h
 
-  pub too_many_lem : {p : Page} → 64 < r.count → WroteSimple f r p p
-  too_many_lem g = λ d s h. absurd (omega (arith, s.count, (stmt_prints d s h).few))
+  pub too_many_lem : {p : Page} → 64 < r.count → WroteSimple t r p p
+  too_many_lem g = λ z d e s h. absurd (omega (arith, s.count, (stmt_prints d s h).few))
 
-  -- the arguments in the room for them
-  args_are_lem : (d : Content) (s : SimpleIs f d r) → Printable d → (z part : List ℕ) → length z ≡ 64
-      → part ≡ put_front (args_in (action (fuel f r.at) r.byte (tokens_at f r.at))) z → take r.count part ≡ args_of s.simple
-  args_are_lem d s h z part e g =
-      ap (take r.count) (g ∙ ap (λ (l : List ℕ). put_front l z) s.args) ∙ ap (λ (k : ℕ). take k (put_front (args_of s.simple) z)) s.count
-      ∙ front_args (args_of s.simple) z (omega (arith, e, (stmt_prints d s h).few))
-
-  row_is_lem : (d : Content) (s : SimpleIs f d r) → Printable d → stmt_text r.word (args_of s.simple) ≡ ended d
+  row_is_lem : {z : List ℕ} (d : Content) (s : SimpleIs z t d r) → Printable d → stmt_text r.word (args_of s.simple) ≡ ended d
   unfolding row_text text_by
   row_is_lem d s h =
       ap (λ (k : ℕ). stmt_text k (args_of s.simple)) s.word ∙ sym (stmt_text_lem s.simple (stmt_prints d s h).form s.detail) ∙ ap ended (sym s.content)
 
-  pub wrote_simple : {p p' : Page} (z part : List ℕ) → length z ≡ 64 → part ≡ put_front (args_in (action (fuel f r.at) r.byte (tokens_at f r.at))) z → Wrote p p' (stmt_text r.word (take r.count part))
-      → WroteSimple f r p p'
-  wrote_simple z part e g p = λ d s h. wrote_is (ap (stmt_text r.word) (args_are_lem d s h z part e g) ∙ row_is_lem d s h) p
+  pub wrote_simple : {p p' : Page} → Wrote p p' (stmt_text r.word (take r.count t)) → WroteSimple t r p p'
+  wrote_simple p = λ z d e s h. wrote_is (ap (stmt_text r.word) (args_stand s (omega (arith, e, (stmt_prints d s h).few))) ∙ row_is_lem d s h) p
 
 -- ---- any row
 
-module _ (f : List ℕ) {q q' : Page} (w : FileRow) where
-  pub wrote_module : w ≡ row.Module → Wrote q q' (bytes "(module 0\n") → WroteRow f w q q'
-  wrote_module e p = λ d h g. wrote_is (module_text_lem ∙ ap ended (sym (subst (RowIs f d) e h))) p
+module _ (t : List ℕ) {q q' : Page} (w : FileRow) where
+  pub wrote_module : w ≡ row.Module → Wrote q q' (bytes "(module 0\n") → WroteRow t w q q'
+  wrote_module e p = λ z d l h g. wrote_is (module_text_lem ∙ ap ended (sym (subst (RowIs z t d) e h))) p
 
-  pub wrote_line : (n : ℕ) → w ≡ row.Line n → Wrote q q' (numbered_text (bytes "(line") n (bytes "\n")) → WroteRow f w q q'
-  wrote_line n e p = λ d h g. wrote_is (line_text_lem n ∙ ap ended (sym (subst (RowIs f d) e h))) p
+  pub wrote_line : (n : ℕ) → w ≡ row.Line n → Wrote q q' (numbered_text (bytes "(line") n (bytes "\n")) → WroteRow t w q q'
+  wrote_line n e p = λ z d l h g. wrote_is (line_text_lem n ∙ ap ended (sym (subst (RowIs z t d) e h))) p
 
-  pub wrote_stmt_row : (s : Simple) → w ≡ row.Simple s → WroteSimple f s q q' → WroteRow f w q q'
-  wrote_stmt_row s e p = λ d h g. p d (subst (RowIs f d) e h) g
+  pub wrote_if : w ≡ row.If → Wrote q q' (bytes "(if\n") → WroteRow t w q q'
+  wrote_if e p = λ z d l h g. wrote_is (if_text ∙ ap ended (sym (subst (RowIs z t d) e h))) p
 
-  pub wrote_if : w ≡ row.If → Wrote q q' (bytes "(if\n") → WroteRow f w q q'
-  wrote_if e p = λ d h g. wrote_is (if_text ∙ ap ended (sym (subst (RowIs f d) e h))) p
+  pub wrote_to : (n : ℕ) → w ≡ row.To n → Wrote q q' (numbered_text (bytes "(to") n (bytes ")\n")) → WroteRow t w q q'
+  wrote_to n e p = λ z d l h g. wrote_is (to_text_lem n ∙ ap ended (sym (subst (RowIs z t d) e h))) p
 
-  pub wrote_to : (n : ℕ) → w ≡ row.To n → Wrote q q' (numbered_text (bytes "(to") n (bytes ")\n")) → WroteRow f w q q'
-  wrote_to n e p = λ d h g. wrote_is (to_text_lem n ∙ ap ended (sym (subst (RowIs f d) e h))) p
+  pub wrote_stmts : w ≡ row.Stmts → Wrote q q' (bytes "(stmts\n") → WroteRow t w q q'
+  wrote_stmts e p = λ z d l h g. wrote_is (stmts_text_lem ∙ ap ended (sym (subst (RowIs z t d) e h))) p
 
-  pub wrote_stmts : w ≡ row.Stmts → Wrote q q' (bytes "(stmts\n") → WroteRow f w q q'
-  wrote_stmts e p = λ d h g. wrote_is (stmts_text_lem ∙ ap ended (sym (subst (RowIs f d) e h))) p
-
-  pub wrote_end : w ≡ row.End → Wrote q q' (bytes ")\n") → WroteRow f w q q'
-  wrote_end e p = λ d h g. wrote_is (end_text ∙ ap ended (sym (subst (RowIs f d) e h))) p
+  pub wrote_end : w ≡ row.End → Wrote q q' (bytes ")\n") → WroteRow t w q q'
+  wrote_end e p = λ z d l h g. wrote_is (end_text ∙ ap ended (sym (subst (RowIs z t d) e h))) p
 
 -- ---- row after row
 
@@ -149,19 +132,19 @@ module _ (f : List ℕ) (ds : List Content) (s : Source) (p : Page) where
   pub going_start : contents_from f s ≡ ds → All Printable ds → Going f ds s p p
   going_start e h = record { done = []; wrote = wrote_none p; whole = ap rows_text e; good = subst (All Printable) (sym e) h }
 
-  pub going_on : (q q' : Page) (t : Sourced) → Going f ds s p q → First f s t → WroteRow f t.row q q' → Going f ds t.next p q'
-  going_on q q' t g h w =
+  pub going_on : {z z' : List ℕ} (q q' : Page) (t : Sourced) → length z ≡ 64 → Going f ds s p q → First f z z' s t → WroteRow z' t.row q q' → Going f ds t.next p q'
+  going_on {z} q q' t l g h w =
       let good : All Printable (h.content ∷ contents_from f t.next) = subst (All Printable) h.behind g.good in
       record {
         done = g.done ++ ended h.content;
-        wrote = wrote_both g.wrote (w h.content h.says (first_of_lem good));
+        wrote = wrote_both g.wrote (w z h.content l h.says (first_of_lem good));
         whole =
             append_assoc g.done (ended h.content) (rows_text (contents_from f t.next))
             ∙ ap (λ (l : List ℕ). g.done ++ l) (sym (rows_text_more h.content (contents_from f t.next)) ∙ ap rows_text (sym h.behind)) ∙ g.whole;
         good = others_of good;
       }
 
-  pub going_less : (t : Sourced) → First f s t → length (contents_from f t.next) < length (contents_from f s)
+  pub going_less : {z z' : List ℕ} (t : Sourced) → First f z z' s t → length (contents_from f t.next) < length (contents_from f s)
   going_less t h = omega (arith, ap length h.behind)
 
   pub going_end : (q : Page) → Going f ds s p q → contents_from f s ≡ [] → Wrote p q (rows_text ds)

@@ -12,6 +12,7 @@ use super::rows::put_row;
 use basic::judge::judge_program;
 use basic::rows::{first_row, row_at};
 use formatting::page::{Page, print_refusal};
+use layout::limits::MAX_ARGS;
 
 // Every row of an accepted file, one after the other.
 // Kept: `while let`; as an iterator of rows it is no plainer: std's laws want the items as a function of what is left,
@@ -22,8 +23,9 @@ fn put_rows(file: &[u8], out: &mut [u8]) -> usize
 {
     let mut page = Page::new(out);
     let mut s = first_row();
-    while let Some(t) = row_at(file, s) {
-        put_row(file, t.row, &mut page);
+    let mut part = [0u64; MAX_ARGS];
+    while let Some(t) = row_at(file, s, &mut part) {
+        put_row(&part, t.row, &mut page);
         s = t.next;
     }
     page.len()

@@ -4,7 +4,6 @@ ghost use Rattle.formatting.specs.Pages.{Wrote};
 ghost use Rattle.program_text.specs.RowTexts.{WroteRow, WroteSimple, numbered_text};
 
 use super::statements::put_stmt;
-use basic::actions::put_args;
 use basic::sources::{FileRow, Simple};
 use formatting::page::Page;
 use layout::limits::MAX_ARGS;
@@ -18,26 +17,24 @@ fn put_numbered(page: &mut Page<'_>, word: &[u8], n: u16, end: &[u8])
     page.put_bytes(end);
 }
 
-// A statement that holds no others. No row has more arguments than `part` holds.
-fn put_simple(file: &[u8], s: Simple, page: &mut Page<'_>)
-    ensures { WroteSimple file.now s page.old page.new }
+// A statement that holds no others: its arguments stand at the front of `part`. No row has more than that holds.
+fn put_simple(part: &[u64; MAX_ARGS], s: Simple, page: &mut Page<'_>)
+    ensures { WroteSimple part.now s page.old page.new }
 {
     if MAX_ARGS < s.count {
         return;
     }
-    let mut part = [0u64; MAX_ARGS];
-    put_args(file, s.byte, s.at, &mut part);
     put_stmt(page, s.word, &part[..s.count]);
 }
 
 // One row, with the byte that ends it.
-pub(crate) fn put_row(file: &[u8], row: FileRow, page: &mut Page<'_>)
-    ensures { WroteRow file.now row page.old page.new }
+pub(crate) fn put_row(part: &[u64; MAX_ARGS], row: FileRow, page: &mut Page<'_>)
+    ensures { WroteRow part.now row page.old page.new }
 {
     match row {
         FileRow::Module => page.put_bytes(b"(module 0\n"),
         FileRow::Line(n) => put_numbered(page, b"(line", n, b"\n"),
-        FileRow::Simple(s) => put_simple(file, s, page),
+        FileRow::Simple(s) => put_simple(part, s, page),
         FileRow::If => page.put_bytes(b"(if\n"),
         FileRow::To(n) => put_numbered(page, b"(to", n, b")\n"),
         FileRow::Stmts => page.put_bytes(b"(stmts\n"),

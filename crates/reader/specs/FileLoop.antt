@@ -1,9 +1,7 @@
 -- The file's loop that writes: the loop over what the file's rows say. Assumes nothing.
-use Rattle.std.specs.Prelude.{◌≡◌, refl, Bool, true, false, List, [], ◌++◌, ℕ, ◌+◌, ◌*◌, ◌-◌, ◌≤◌, length, take, drop, Result, Ok, Err}
-use Rattle.std.proofs.Common.{sym, ap, ◌∙◌, subst, arith, append-nil, length-drop, drop_of_length-le}
-use Rattle.std.proofs.Math.Seq.{take_all, drop-drop}
-use borrow.Rule.Slice.PartMut.{put_mid, post_of}
-use Rattle.basic.specs.Items.{put_front}
+use Rattle.std.specs.Prelude.{◌≡◌, refl, Bool, true, false, List, ℕ, ◌≤◌, length, take, Result, Ok, Err}
+use Rattle.std.proofs.Common.{sym, ap, ◌∙◌, subst, arith}
+use Rattle.listings.specs.Records.{args_of}
 use Rattle.listings.specs.Listing.{Listing, total, count}
 use Rattle.listings.specs.ListingText.{Within}
 use Rattle.listing_laws.specs.CutLaws.{meant_within}
@@ -13,11 +11,10 @@ use Rattle.reader.specs.Answer.{Numbered, by_number, listed_of}
 use Rattle.listings.specs.Read.{Answer, listing, refusal, start}
 use Rattle.listings.specs.Rows.{Content}
 use Rattle.listing_laws.specs.RowsTaken.{Leads, listing_steps}
-use Rattle.program_files.specs.Program.{read_program, action}
+use Rattle.program_files.specs.Program.{read_program}
 use Rattle.program_laws.specs.Accepted.{program_within, program_plain}
-use Rattle.basic.specs.Cursors.{tokens_at}
-use Rattle.basic.specs.Actions.{fuel, args_in}
-use Rattle.basic.specs.Rows.{contents_from, RowIs, StartsRows}
+use Rattle.basic.specs.Rows.{contents_from, SimpleIs, RowIs, StartsRows}
+use Rattle.basic.specs.RowLaws.{args_stand}
 use Rattle.basic.specs.RowsAre.{rows_are_lem}
 use Rattle.basic.specs.declared.judge.Counts.{Counts}
 use Rattle.layout.specs.Refusals.{number_of}
@@ -28,7 +25,7 @@ use Rattle.basic.specs.declared.sources.FileRow.{FileRow}
 use Rattle.basic.specs.declared.sources.FileRow.TheVariants as file
 use Rattle.reader.specs.CodedRows.{Said}
 use Rattle.reader.specs.Machine.{State, as_state}
-use Rattle.reader.specs.Fill.{add_entries, Operands, no_operands, Says, outside_walk}
+use Rattle.reader.specs.Fill.{written_row, Operands, no_operands, operands_of, Says, outside_walk, ArgsReady}
 use Rattle.reader.specs.FillSteps.{Fills}
 use Rattle.reader.specs.Filling.{Zeroed, filled_start}
 use Rattle.reader.specs.declared.fill.Walk.{Walk}
@@ -86,65 +83,99 @@ row_by (file.To n) = row.To n
 row_by file.Stmts = row.Stmts
 row_by file.End = row.End
 
--- the arguments of a statement
+-- the arguments of a statement, which stand at the front of a part
 abbrev pub operands_at : List ℕ → Simple → Operands
-operands_at f s = record { entries = args_in (action (fuel f s.at) s.byte (tokens_at f s.at)); detail = 0 }
+operands_at t s = record { entries = take s.count t; detail = 0 }
 
 abbrev pub operands_by : List ℕ → FileRow → Operands
-operands_by f file.Module = no_operands
-operands_by f (file.Line n) = no_operands
-operands_by f (file.Simple s) = operands_at f s
-operands_by f file.If = no_operands
-operands_by f (file.To n) = no_operands
-operands_by f file.Stmts = no_operands
-operands_by f file.End = no_operands
+operands_by t file.Module = no_operands
+operands_by t (file.Line n) = no_operands
+operands_by t (file.Simple s) = operands_at t s
+operands_by t file.If = no_operands
+operands_by t (file.To n) = no_operands
+operands_by t file.Stmts = no_operands
+operands_by t file.End = no_operands
 
--- the code's count is theirs
+-- as many stand there as the code counts
 abbrev pub RowCounted : List ℕ → FileRow → Type 0
-RowCounted f file.Module = Unit {0}
-RowCounted f (file.Line n) = Unit {0}
-RowCounted f (file.Simple s) = s.count ≡ length (operands_at f s).entries
-RowCounted f file.If = Unit {0}
-RowCounted f (file.To n) = Unit {0}
-RowCounted f file.Stmts = Unit {0}
-RowCounted f file.End = Unit {0}
+RowCounted t file.Module = Unit {0}
+RowCounted t (file.Line n) = Unit {0}
+RowCounted t (file.Simple s) = s.count ≡ length (operands_at t s).entries
+RowCounted t file.If = Unit {0}
+RowCounted t (file.To n) = Unit {0}
+RowCounted t file.Stmts = Unit {0}
+RowCounted t file.End = Unit {0}
 
-pub file_counted : (f : List ℕ) (d : Content) (r : FileRow) → RowIs f d r → RowCounted f r
-file_counted f d file.Module h = tt
-file_counted f d (file.Line n) h = tt
-file_counted f d (file.Simple s) h = h.count ∙ ap length (sym h.args)
-file_counted f d file.If h = tt
-file_counted f d (file.To n) h = tt
-file_counted f d file.Stmts h = tt
-file_counted f d file.End h = tt
+-- no more than a part has room for
+abbrev pub Few : FileRow → Operands → Type 0
+Few file.Module x = Unit {0}
+Few (file.Line n) x = Unit {0}
+Few (file.Simple s) x = length x.entries ≤ 64
+Few file.If x = Unit {0}
+Few (file.To n) x = Unit {0}
+Few file.Stmts x = Unit {0}
+Few file.End x = Unit {0}
 
-says_as : {d e : Content} {r : Said} {x : Operands} → d ≡ e → Says e r x → Says d r x
-says_as {r = r} {x = x} p h = subst (λ (c : Content). Says c r x) (sym p) h
+pub few_by : (a : List ℕ) (n : ℕ) (r : FileRow) (x : Operands) → ArgsReady a n (Ok (row_by r)) x → Few r x
+few_by a n file.Module x h = tt
+few_by a n (file.Line m) x h = tt
+few_by a n (file.Simple s) x h = h.1
+few_by a n file.If x h = tt
+few_by a n (file.To m) x h = tt
+few_by a n file.Stmts x h = tt
+few_by a n file.End x h = tt
 
-pub file_says : (f : List ℕ) (d : Content) (r : FileRow) → RowIs f d r → Says d (Ok (row_by r)) (operands_by f r)
-file_says f d file.Module h = says_as h (record { row = refl; operands = refl })
-file_says f d (file.Line n) h = says_as h (record { row = refl; operands = refl })
-file_says f d (file.Simple s) h = says_as h.content (record { row = ap {B = Said} (λ (k : ℕ). Ok (row.Simple k 0)) h.word; operands = operands_are h.args (sym h.detail) })
-  where
-    operands_are : {es fs : List ℕ} {k : ℕ} → es ≡ fs → 0 ≡ k → ◌≡◌ {A = Operands} (record { entries = es; detail = 0 }) (record { entries = fs; detail = k })
-    operands_are p q = cc
-file_says f d file.If h = says_as h (record { row = refl; operands = refl })
-file_says f d (file.To n) h = says_as h (record { row = refl; operands = refl })
-file_says f d file.Stmts h = says_as h (record { row = refl; operands = refl })
-file_says f d file.End h = says_as h (record { row = refl; operands = refl })
+-- z: the part before the row was asked for; t: the same part afterwards
+module _ (z t : List ℕ) (d : Content) where
+  file_row : (r : FileRow) → RowIs z t d r → ◌≡◌ {A = Said} (Ok (row_by r)) (written_row d)
+  file_row file.Module h = ap written_row (sym h)
+  file_row (file.Line n) h = ap written_row (sym h)
+  file_row (file.Simple s) h = ap {B = Said} (λ (k : ℕ). Ok (row.Simple k 0)) h.word ∙ ap written_row (sym h.content)
+  file_row file.If h = ap written_row (sym h)
+  file_row (file.To n) h = ap written_row (sym h)
+  file_row file.Stmts h = ap written_row (sym h)
+  file_row file.End h = ap written_row (sym h)
 
--- arguments that fit are all at the front
-pub put_fits : (es t : List ℕ) → length es ≤ length t → put_front es t ≡ es ++ drop (length es) t
-unfolding put_front
-put_fits es t h = ap (λ (l : List ℕ). l ++ drop (length es) t) (take_all (length t) es h)
+  module _ (room : length z ≡ 64) where
+    few_args : (s : Simple) (h : SimpleIs z t d s) → Few (file.Simple s) (operands_of d) → take s.count t ≡ args_of h.simple
+    few_args s h few = args_stand h (omega (arith, room, few, ap (λ (e : Content). length (operands_of e).entries) h.content))
 
--- in a statement's own entries
-pub args_put : (a es part : List ℕ) (n : ℕ) → n * 64 + 64 ≤ length a → length es ≤ 64 → part ≡ put_front es (take (length a - n * 64) (drop (n * 64) a)) → put_mid (n * 64) (length a - n * 64) a part ≡ add_entries a n es
-args_put a es part n room few e =
-    let d : length (drop (n * 64) a) ≡ length a - n * 64 = length-drop (n * 64) a in
-    let f : part ≡ es ++ drop (length es) (drop (n * 64) a) = e ∙ ap (put_front es) (take_all (length a - n * 64) (drop (n * 64) a) (omega (arith, d))) ∙ put_fits es (drop (n * 64) a) (omega arith) in
-    let g : post_of (n * 64) (length a - n * 64) a ≡ [] = drop_of_length-le (drop (n * 64) a) (omega (arith, d)) in
-    rw (f, g) (simp (append-nil, drop-drop))
+    file_operands : (r : FileRow) → RowIs z t d r → Few r (operands_of d) → operands_by t r ≡ operands_of d
+    file_operands file.Module h few = ap operands_of (sym h)
+    file_operands (file.Line n) h few = ap operands_of (sym h)
+    file_operands (file.Simple s) h few = operands_are (few_args s h few) (sym h.detail) ∙ ap operands_of (sym h.content)
+      where
+        operands_are : {es fs : List ℕ} {k : ℕ} → es ≡ fs → 0 ≡ k → ◌≡◌ {A = Operands} (record { entries = es; detail = 0 }) (record { entries = fs; detail = k })
+        operands_are p q = cc
+    file_operands file.If h few = ap operands_of (sym h)
+    file_operands (file.To n) h few = ap operands_of (sym h)
+    file_operands file.Stmts h few = ap operands_of (sym h)
+    file_operands file.End h few = ap operands_of (sym h)
+
+    pub file_counted : (r : FileRow) → RowIs z t d r → Few r (operands_of d) → RowCounted t r
+    file_counted file.Module h few = tt
+    file_counted (file.Line n) h few = tt
+    file_counted (file.Simple s) h few = h.count ∙ ap length (sym (few_args s h few))
+    file_counted file.If h few = tt
+    file_counted (file.To n) h few = tt
+    file_counted file.Stmts h few = tt
+    file_counted file.End h few = tt
+
+  -- by the code's row e
+  module _ (r : FileRow) (e : Row) (known : e ≡ row_by r) (is : RowIs z t d r) where
+    row_is_lem : ◌≡◌ {A = Said} (Ok e) (written_row d)
+    row_is_lem = ap {B = Said} Ok known ∙ file_row r is
+
+    -- what the row says, with the operands of the listing
+    pub file_alone : Says d (Ok e) (operands_of d)
+    file_alone = record { row = row_is_lem; operands = refl }
+
+    pub file_few : (a : List ℕ) (n : ℕ) → ArgsReady a n (Ok e) (operands_of d) → Few r (operands_of d)
+    file_few a n h = few_by a n r (operands_of d) (subst (λ (x : Row). ArgsReady a n (Ok x) (operands_of d)) known h)
+
+    -- and with those that stand in the part
+    pub file_says_by : length z ≡ 64 → Few r (operands_of d) → Says d (Ok e) (operands_by t r)
+    file_says_by room few = record { row = row_is_lem; operands = file_operands room r is few }
 
 -- ---- the loop
 
@@ -155,7 +186,3 @@ rows_lead f L s e h = subst (λ (ds : List Content). Leads start ds L) (sym (h �
 pub file_start : (f n t a : List ℕ) (z : Zeroed (read_program f) n t a) (d : Source) → StartsRows f d → (s : State) (w : Walk) → s ≡ as_state start → w ≡ outside_walk
     → Fills z.accepts.tree (length n) (length t) (length a) (contents_from f d) s w n t a
 file_start f n t a z d h s w e k = filled_start z (contents_from f d) (rows_lead f z.accepts.tree d z.accepts.reads h) s w e k
-
--- by the code's row
-pub file_says_by : (f : List ℕ) (d : Content) (r : FileRow) (e : Row) → e ≡ row_by r → RowIs f d r → Says d (Ok e) (operands_by f r)
-file_says_by f d r e p h = subst (λ (x : Row). Says d (Ok x) (operands_by f r)) (sym p) (file_says f d r h)

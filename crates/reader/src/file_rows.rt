@@ -11,10 +11,10 @@ use super::fill::{Place, Walk, write_row};
 use super::operands::Given;
 use super::rows::Row;
 use super::tables::Records;
-use basic::actions::put_args;
 use basic::rows::{first_row, row_at};
 use basic::sources::{FileRow, Simple};
 use layout::columns::ARG_ENTRIES;
+use layout::limits::MAX_ARGS;
 use tokens::words::Cond;
 
 // A row of a file, as one of a text; how many arguments it has is not asked again.
@@ -37,28 +37,33 @@ impl From<FileRow> for Row {
     }
 }
 
-// The arguments of statement n into its own 64 entries.
-#[tactic(auto, using(crate::specs::FileLoop::args_put))]
-fn put_file_args(file: &[u8], s: Simple, args: &mut [u64], n: usize)
-    requires { HasRoom args.old n (operands_at file.now s) }
-    ensures { OperandsPut args.old n (operands_at file.now s) args.new (record { count = length (operands_at file.now s).entries; detail = 0 }) }
+// The arguments of statement n, which stand at the front of `part`, into its own 64 entries.
+fn put_file_args(part: &[u64; MAX_ARGS], s: Simple, args: &mut [u64], n: usize)
+    requires room { HasRoom args.old n (operands_at part.now s) }
+    requires counted { s.count ≡ length (operands_at part.now s).entries }
+    ensures { OperandsPut args.old n (operands_at part.now s) args.new (record { count = length (operands_at part.now s).entries; detail = 0 }) }
 {
     let from = n * ARG_ENTRIES;
-    put_args(file, s.byte, s.at, &mut args[from..]);
+    args[from..from + s.count].copy_from_slice(&part[..s.count]);
 }
 
 // Writes a row, with its arguments.
-// Kept: beside `fill::write_text_row`: where the arguments stand a row of a text says by its bytes, one of a file by a
-// place.
-fn write_file_row(file: &[u8], r: FileRow, t: &mut Records<'_>, p: &Place, row: Row) -> Walk
+// Kept: beside `fill::write_text_row`: of a row of a text its bytes say the arguments, of one of a file `part` has them.
+fn write_file_row(
+    part: &[u64; MAX_ARGS],
+    r: FileRow,
+    t: &mut Records<'_>,
+    p: &Place,
+    row: Row,
+) -> Walk
     requires known { row ≡ row_by r }
-    requires counted { RowCounted file.now r }
-    requires ready { ReadyIn t.old (state_of p.now.state) p.now.walk (Ok row) (operands_by file.now r) }
-    ensures { RecordedIn t.old (state_of p.now.state) p.now.walk (Ok row) (operands_by file.now r) t.new result }
+    requires counted { RowCounted part.now r }
+    requires ready { ReadyIn t.old (state_of p.now.state) p.now.walk (Ok row) (operands_by part.now r) }
+    ensures { RecordedIn t.old (state_of p.now.state) p.now.walk (Ok row) (operands_by part.now r) t.new result }
 {
     let given = match r {
         FileRow::Simple(s) => {
-            put_file_args(file, s, t.args, p.state.stmts);
+            put_file_args(part, s, t.args, p.state.stmts);
             Given {
                 count: s.count,
                 detail: 0,
@@ -77,9 +82,10 @@ pub(crate) fn fill_program(file: &[u8], t: &mut Records<'_>)
 {
     let mut p = Place::start();
     let mut due = first_row();
-    while let Some(r) = row_at(file, due) {
+    let mut part = [0u64; MAX_ARGS];
+    while let Some(r) = row_at(file, due, &mut part) {
         let row = Row::from(r.row);
-        p.walk = write_file_row(file, r.row, t, &p, row);
+        p.walk = write_file_row(&part, r.row, t, &p, row);
         p.state.step_row(row).unwrap();
         due = r.next;
     }

@@ -1,5 +1,5 @@
-// Reads an input, a listing's text or a saved program: judges the whole of it, then, where the tables can hold it,
-// writes its records.
+// Reads an input, a listing's text or a saved program, into tables that it zeroes: judges the whole of it, then, where
+// they can hold it, writes its records.
 ghost use Rattle.std.specs.Prelude.{◌≡◌, ◌≤◌, [], ◌∷◌, length};
 ghost use Rattle.listings.specs.Cut.{meant};
 ghost use Rattle.listings.specs.Records.{handler_number};

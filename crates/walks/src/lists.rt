@@ -1,5 +1,6 @@
 // Lists of the nodes that pass a test, ascending, at the front of an array that is lent.
-ghost use Rattle.std.specs.Prelude.{◌≡◌, ℕ, Bool, ◌<◌};
+ghost use Rattle.std.specs.Prelude.{◌≡◌, ℕ, Bool, ◌<◌, ◌≤◌};
+ghost use Rattle.passes.specs.Sets.{Put};
 ghost use Rattle.passes.specs.Dispatched.{is_dispatched, dispatched_ids};
 ghost use Rattle.passes.specs.ListedWhere.{listed_where};
 ghost use Rattle.passes.specs.Regions.{calls_below};
@@ -10,17 +11,18 @@ use layout::words::FOR;
 use tables::calls::is_call;
 use tables::nodes::{Nodes, Records};
 
-// Those that pass.
+// Those that pass: how many.
 // Kept: a closure, and the `requires` that one needs, that it can be called: as a trait with a ghost member each of the
 // two tests, a line as a closure, becomes a struct and an `impl`, eleven lines (written, not proved).
 // Kept: a counter: `.filter(..).enumerate()` counts too, but its count ends with the loop.
-fn list_where<'b, F: Fn(usize) -> bool>(
+fn list_where<F: Fn(usize) -> bool>(
     records: &Records<'_>,
     passes: F,
-    list: &'b mut [u16; MAX_STMTS],
-) -> &'b [u16]
+    list: &mut [u16; MAX_STMTS],
+) -> usize
     requires { F.IsAlwaysCallable passes }
-    ensures { (p : ℕ → Bool) → ((i : ℕ) (r : Bool) → i < records.now.n → F.post passes i r → r ≡ p i) → result.now ≡ listed_where p records.now.n }
+    ensures few { result ≤ MAX_STMTS }
+    ensures put { (p : ℕ → Bool) → ((i : ℕ) (r : Bool) → i < records.now.n → F.post passes i r → r ≡ p i) → Put list.old 0 list.new result (listed_where p records.now.n) }
 {
     let mut m: usize = 0;
     for i in 0..records.n {
@@ -29,14 +31,15 @@ fn list_where<'b, F: Fn(usize) -> bool>(
             m += 1;
         }
     }
-    &list[..m]
+    m
 }
 
-// The calls.
+// The calls, as the front of the array.
 pub(crate) fn list_calls<'b>(records: &Records<'_>, list: &'b mut [u16; MAX_STMTS]) -> &'b [u16]
     ensures { result.now ≡ calls_below records.now.stmts.now records.now.n }
 {
-    list_where(records, |i| is_call(records.word(i)), list)
+    let m = list_where(records, |i| is_call(records.word(i)), list);
+    &list[..m]
 }
 
 // Whether node i is a dispatched FOR that has a body.
@@ -47,9 +50,12 @@ fn is_dispatched(g: &Nodes<'_>, i: usize) -> bool
     g.records.word(i) == FOR && g.records.detail(i) == DISPATCHED && g.fall(i) != 0
 }
 
-// The dispatched FORs that have a body.
-pub fn list_dispatched<'b>(g: &Nodes<'_>, list: &'b mut [u16; MAX_STMTS]) -> &'b [u16]
-    ensures { result.now ≡ dispatched_ids g.now.records.stmts.now g.now.falls.now g.now.records.n }
+// The dispatched FORs that have a body: how many.
+// Kept: a number, and not the front of the array, which `list_calls` answers: of an array that is lent on no clause can
+// say what stands behind that front.
+pub fn list_dispatched(g: &Nodes<'_>, list: &mut [u16; MAX_STMTS]) -> usize
+    ensures few { result ≤ MAX_STMTS }
+    ensures put { Put list.old 0 list.new result (dispatched_ids g.now.records.stmts.now g.now.falls.now g.now.records.n) }
 {
     list_where(&g.records, |i| is_dispatched(g, i), list)
 }

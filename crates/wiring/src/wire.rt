@@ -166,13 +166,13 @@ pub(crate) fn wire_graph<'a>(
         falls,
         links,
     };
-    let dispatched = list_dispatched(&nodes, &mut buffer);
+    let m = list_dispatched(&nodes, &mut buffer);
     let entries = *w;
     let leads = Leads {
         nodes,
         entries,
         frames: &frames,
-        dispatched,
+        dispatched: &buffer[..m],
     };
     wire_lists(&leads, handlers, counts, args, lists, returns, succ, pred)
 }

@@ -53,14 +53,14 @@ returns-in_err-action-in_default-clause-told c =
     let more : c.token_at-t.result.byte ≡ 0 → ⊥ = grind arith in
     let within : c.token_at-t.result.byte ≡ 58 → ⊥ = grind arith in
     let e = next_more (tokens_at c.args.file.now) c.loop-at.at c.token_at-t.result c.token_at-t.ensures more in
-    ap body_in (handed_err c.from_residual.result _ c.from_residual.ensures.1) ∙ reaches_bad c.loop-at.invariant.3 _ _ _ e more within _ c.in_err-action-in_default.ensures
+    ap body_in (handed_err c.from_residual.result _ c.from_residual.ensures.1) ∙ reaches_bad c.loop-at.invariant.3 _ _ _ e more within _ c.in_err-action-in_default.ensures.told
 
 pub loop-at-smaller-in-Does : goal.loop-at-smaller-in-Does
 loop-at-smaller-in-Does c =
     let more : c.token_at-t.result.byte ≡ 0 → ⊥ = grind arith in
     let f = c.args.file.now in
     let e = next_more (tokens_at f) c.loop-at.at c.token_at-t.result c.token_at-t.ensures more in
-    let h = rw c.in-Does.is at c.in_ok-action-in_default.ensures in
+    let h = rw c.in-Does.is at c.in_ok-action-in_default.ensures.told in
     let g = left_does _ _ _ _ _ h in
     omega (arith, ap length e, ap length c.pass_over-at.ensures)
 
@@ -70,7 +70,7 @@ loop-at-preserved-in-Does c =
     let within : c.token_at-t.result.byte ≡ 58 → ⊥ = grind arith in
     let f = c.args.file.now in
     let e = next_more (tokens_at f) c.loop-at.at c.token_at-t.result c.token_at-t.ensures more in
-    let h = rw c.in-Does.is at c.in_ok-action-in_default.ensures in
+    let h = rw c.in-Does.is at c.in_ok-action-in_default.ensures.told in
     let g = left_does _ _ _ _ _ h in
     let deep = flagged c.loop-at.deep c.loop-at.depth 16 in
     let long = flagged c.loop-at.long c.in-Does.count 64 in
@@ -84,7 +84,7 @@ returns-in-Jumps-clause-told c =
     let within : c.token_at-t.result.byte ≡ 58 → ⊥ = grind arith in
     let e = next_more (tokens_at c.args.file.now) c.loop-at.at c.token_at-t.result c.token_at-t.ensures more in
     let deep = flagged c.loop-at.deep c.loop-at.depth 16 in
-    reaches-jumps c.loop-at.invariant.3 _ _ _ e more within _ deep _ _ (rw c.in-Jumps.is at c.in_ok-action-in_default.ensures)
+    reaches-jumps c.loop-at.invariant.3 _ _ _ e more within _ deep _ _ (rw c.in-Jumps.is at c.in_ok-action-in_default.ensures.told)
 
 pub returns-in-Jumps-clause-few : goal.returns-in-Jumps-clause-few
 returns-in-Jumps-clause-few c =
@@ -99,7 +99,7 @@ pub returns-in-Jumps-clause-zero : goal.returns-in-Jumps-clause-zero
 returns-in-Jumps-clause-zero c =
     let more : c.token_at-t.result.byte ≡ 0 → ⊥ = grind arith in
     let e = next_more (tokens_at c.args.file.now) c.loop-at.at c.token_at-t.result c.token_at-t.ensures more in
-    let h = rw c.in-Jumps.is at c.in_ok-action-in_default.ensures in
+    let h = rw c.in-Jumps.is at c.in_ok-action-in_default.ensures.told in
     c.zero_from-zero.ensures.zero ∙ sym (tokens_zero c.args.file.now c.in_ok-action-in_default.action.next)
     ∙ zero_jumps _ _ _ _ h ∙ sym (zero_on _ _ _ _ e more) ∙ c.loop-at.invariant.2
 
@@ -108,7 +108,7 @@ loop-at-smaller c =
     let more : c.token_at-t.result.byte ≡ 0 → ⊥ = grind arith in
     let f = c.args.file.now in
     let e = next_more (tokens_at f) c.loop-at.at c.token_at-t.result c.token_at-t.ensures more in
-    let h = rw c.in-Holds.is at c.in_ok-action-in_default.ensures in
+    let h = rw c.in-Holds.is at c.in_ok-action-in_default.ensures.told in
     let g = left-holds _ _ _ h in
     omega (arith, ap length e)
 
@@ -118,7 +118,7 @@ loop-at-preserved c =
     let within : c.token_at-t.result.byte ≡ 58 → ⊥ = grind arith in
     let f = c.args.file.now in
     let e = next_more (tokens_at f) c.loop-at.at c.token_at-t.result c.token_at-t.ensures more in
-    let h = rw c.in-Holds.is at c.in_ok-action-in_default.ensures in
+    let h = rw c.in-Holds.is at c.in_ok-action-in_default.ensures.told in
     let g = left-holds _ _ _ h in
     let deep = flagged c.loop-at.deep c.loop-at.depth 16 in
     let r = reaches-holds c.loop-at.invariant.3 _ _ _ e more within _ deep _ h in

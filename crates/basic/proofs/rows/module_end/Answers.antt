@@ -5,4 +5,4 @@ use Rattle.basic.proofs.rows.module_end.Goals as goal
 
 pub returns : goal.returns
 unfolding contents_from
-returns c = λ f. record { content = end_row; says = refl; behind = refl }
+returns c = λ f z t. record { content = end_row; says = refl; behind = refl }

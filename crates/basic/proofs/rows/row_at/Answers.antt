@@ -9,7 +9,7 @@ returns-in-Module c = module_first c.args.file.now c.args.s c.staged.result c.in
 pub returns-in-Line : goal.returns-in-Line
 returns-in-Line c =
     let f = c.args.file.now in
-    due_yields f c.args.s (lines_at f c.args.s.at.at) c.line_row_at.result (due_line f c.args.s c.in-Line.is) c.line_row_at.ensures
+    due_yields f c.args.s (lines_at f c.args.s.at.at) c.line_row_at.result (due_line f c.args.s c.in-Line.is) (c.line_row_at.ensures _ _)
 
 pub returns-in-Statements : goal.returns-in-Statements
 returns-in-Statements c =
@@ -25,7 +25,7 @@ returns-in-Stmts c = stmts_first c.args.file.now c.args.s c.staged-in-Stmts.resu
 pub returns-in-Ends : goal.returns-in-Ends
 returns-in-Ends c =
     let f = c.args.file.now in
-    due_yields f c.args.s (ends_then c.args.s.ends (lines_behind f c.args.s.at)) c.end_row_at.result (due_ends f c.args.s c.in-Ends.is) c.end_row_at.ensures
+    due_yields f c.args.s (ends_then c.args.s.ends (lines_behind f c.args.s.at)) c.end_row_at.result (due_ends f c.args.s c.in-Ends.is) (c.end_row_at.ensures _ _)
 
 pub returns-in-Ended : goal.returns-in-Ended
 returns-in-Ended c = due_ended c.args.file.now c.args.s c.in-Ended.is

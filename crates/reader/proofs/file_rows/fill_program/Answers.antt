@@ -4,16 +4,16 @@ use Rattle.std.proofs.Common.{List, ◌∷◌, ap, subst, length, arith}
 use Rattle.listings.specs.Rows.{Content}
 use Rattle.reader.specs.States.{state_of}
 use Rattle.basic.specs.Rows.{First, contents_from}
-use Rattle.reader.specs.Fill.{Says}
+use Rattle.reader.specs.Fill.{operands_of, Says}
 use Rattle.reader.specs.FillSteps.{Fills, fills_ready, fills_ok, fills_taken}
 use Rattle.reader.specs.Filling.{filled_end}
 use Rattle.reader.specs.Lent.{same_start, same_both}
-use Rattle.reader.specs.FileLoop.{operands_by, file_counted, file_says_by, file_start}
+use Rattle.reader.specs.FileLoop.{operands_by, Few, file_counted, file_alone, file_few, file_says_by, file_start}
 use Rattle.reader.proofs.file_rows.fill_program.Goals.{After-from-row}
 use Rattle.reader.proofs.file_rows.fill_program.Goals as goal
 
 -- the row that is due
-due : (c : After-from-row) → First c.args.file.now c.loop-r.due c.in-Some.r
+due : (c : After-from-row) → First c.args.file.now c.loop-r.part c.row_at.new.part c.loop-r.due c.in-Some.r
 due c = c.in-Some.ensures
 
 -- its contents, and what it says, lead to the listing
@@ -23,8 +23,13 @@ ahead c =
     let v = c.loop-r in
     subst (λ (ds : List Content). Fills v.invariant.0.tree (length c.args.t.now.lines.now) (length c.args.t.now.stmts.now) (length c.args.t.now.args.now) ds (state_of v.p.state) v.p.walk v.t.lines.now v.t.stmts.now v.t.args.now) (due c).behind v.invariant.1
 
-says : (c : After-from-row) → Says (due c).content (Ok c.from-row.result) (operands_by c.args.file.now c.in-Some.r.row)
-says c = file_says_by c.args.file.now (due c).content c.in-Some.r.row c.from-row.result c.from-row.ensures (due c).says
+few : (c : After-from-row) → Few c.in-Some.r.row (operands_of (due c).content)
+few c =
+    file_few _ _ (due c).content c.in-Some.r.row c.from-row.result c.from-row.ensures (due c).says _ _
+    (fills_ready c.loop-r.invariant.0.room (ahead c) (file_alone _ _ (due c).content c.in-Some.r.row c.from-row.result c.from-row.ensures (due c).says)).args
+
+says : (c : After-from-row) → Says (due c).content (Ok c.from-row.result) (operands_by c.row_at.new.part c.in-Some.r.row)
+says c = file_says_by _ _ (due c).content c.in-Some.r.row c.from-row.result c.from-row.ensures (due c).says (omega arith) (few c)
 
 pub loop-r-init : goal.loop-r-init
 loop-r-init c =
@@ -47,7 +52,7 @@ write_file_row-p-requires c =
     let o = due (goal.at.write_file_row-p-requires c).After-from-row in
     record {
       known = c.from-row.ensures;
-      counted = file_counted c.args.file.now o.content c.in-Some.r.row o.says;
+      counted = file_counted _ _ o.content (omega arith) c.in-Some.r.row o.says (few (goal.at.write_file_row-p-requires c).After-from-row);
       ready = fills_ready c.loop-r.invariant.0.room (ahead (goal.at.write_file_row-p-requires c).After-from-row) (says (goal.at.write_file_row-p-requires c).After-from-row);
     }
 

@@ -8,4 +8,4 @@ pub returns : goal.returns
 unfolding word_of
 returns c =
     let r = c.args.records.now in
-    c.list_where.ensures (is_call r.stmts.now) (λ i b lt p. search rules)
+    (c.list_where-m.ensures.put (is_call r.stmts.now) (λ i b lt p. search rules)).list

@@ -3,7 +3,7 @@ use Rattle.std.proofs.Common.{rules}
 use Rattle.passes.specs.Dispatched.{is_dispatched}
 use Rattle.walks.proofs.lists.list_dispatched.Goals as goal
 
-pub returns : goal.returns
-returns c =
+pub returns-clause-put : goal.returns-clause-put
+returns-clause-put c =
     let g = c.args.g.now in
-    c.list_where.ensures (is_dispatched g.records.stmts.now g.falls.now) (λ i b lt q. search rules)
+    c.list_where.ensures.put (is_dispatched g.records.stmts.now g.falls.now) (λ i b lt q. search rules)

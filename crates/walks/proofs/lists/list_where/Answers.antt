@@ -1,7 +1,6 @@
 -- `list_where`: a node that passes is put behind those before it. Assumes nothing.
 use Rattle.std.proofs.Common.{◌≡◌, refl, sym, ◌∙◌, arith}
-use Rattle.passes.specs.Sets.{Put}
-use Rattle.passes.specs.ListedWhere.{listed_where, where_start, where_yes, where_no}
+use Rattle.passes.specs.ListedWhere.{where_start, where_yes, where_no}
 use Rattle.walks.proofs.lists.list_where.Goals as goal
 use Rattle.walks.proofs.lists.list_where.Goals.{then-passes, else-passes}
 
@@ -23,9 +22,7 @@ loop-i-preserved g c =
       )
     ]
 
-pub returns : goal.returns
-returns g c p told =
-    let l = c.loop-i in
-    let e : l.i ≡ c.args.records.now.n = omega (arith, c.loop-i-test.false) in
-    let put : Put c.args.list.now 0 l.list l.m (listed_where p c.args.records.now.n) = rw (← e) (l.invariant.1 p told) in
-    put.list
+pub returns-clause-put : goal.returns-clause-put
+returns-clause-put g c p told =
+    let e : c.loop-i.i ≡ c.args.records.now.n = omega (arith, c.loop-i-test.false) in
+    rw (← e) (c.loop-i.invariant.1 p told)

@@ -17,5 +17,5 @@ wire_lists-requires-clause-frames_made c =
     record {
       framed = c.stack_frames.ensures;
       frames_fit = omega (arith, length-flat c.stack_frames.new.frames, size, c.args.r.now.few);
-      listed = c.list_dispatched-dispatched.ensures;
+      listed = c.list_dispatched-m.ensures.put.list;
     }
