@@ -234,19 +234,10 @@ module _ (rows : List ℕ) (ls : Lines) (s : Stmts) (before : RecsAt rows 0 (lin
       b.other (omega arith)
       (line_column_lem (λ (l : ℕ). l ≡ count ls) rows (total ls) (stmt_recs (count ls) 0 0 (total ls) s) own (stmts_line (count ls) 0 0 (total ls) s) (from - 1) (omega arith) (omega (arith, b.within, stmts_length (count ls) 0 0 (total ls) s)))
 
-  line_begins : from ≡ total ls
+  pub line_begins : from ≡ total ls
   line_begins = ⊎_elim (λ (h : from < total ls). absurd (not-before h)) (λ (h : total ls ≤ from). ⊎_elim (λ (g : total ls < from). absurd (not_behind g)) (λ (g : from ≤ total ls). omega arith) (lt-or (total ls) from)) (lt-or from (total ls))
 
--- ---- as the search meets it
-
-pub begins-start : (rows : List ℕ) (l end i : ℕ) → i ≡ end → (k : ℕ) → i ≤ k → k < end → get_or rows (k * 12 + 1) 0 ≡ l
-begins-start rows l end i e k a b = absurd (omega arith)
-
--- one more statement of the line
-pub begins_down : (rows : List ℕ) (l end i : ℕ) → 0 < i → get_or rows ((i - 1) * 12 + 1) 0 ≡ l → ((k : ℕ) → i ≤ k → k < end → get_or rows (k * 12 + 1) 0 ≡ l)
-    → (k : ℕ) → i - 1 ≤ k → k < end → get_or rows (k * 12 + 1) 0 ≡ l
-begins_down rows l end i h e f k a b =
-    ⊎_elim (λ (g : i - 1 < k). f k (omega arith) b) (λ (g : k ≤ i - 1). let q : k ≡ i - 1 = omega arith in rw q e) (lt-or (i - 1) k)
+-- ---- how far the lines are connected
 
 -- the statements of the lines after `lines` are connected; `after` is the entry of the first of those
 pub record Ahead (es : Entries) (ns : List ℕ) (entries rows t u : List ℕ) (l end next : ℕ) : Type 0 where

@@ -51,6 +51,7 @@ pub mod SkipLists
 pub mod EdgeCount
 pub mod Held
 pub mod LineEntries
+pub mod LinePass
 pub mod EntryColumn
 pub mod EntryOrder
 pub mod LineSearch

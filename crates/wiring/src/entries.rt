@@ -1,67 +1,13 @@
 // Line entries: rows of a line's number and one more than the node where it enters, or 0, ascending by number;
 // and the search in them.
-ghost use Rattle.std.specs.Prelude.{◌≡◌, ◌+◌, ◌*◌, ◌≤◌, ◌<◌, get_or, length, set};
+ghost use Rattle.std.specs.Prelude.{◌≡◌, ◌+◌, ◌*◌, ◌≤◌, ◌<◌, get_or, length};
 ghost use Rattle.std.specs.Option.{IfSome};
 ghost use Rattle.layout.specs.declared.columns.TheConstants.{ENTRY_ENTRIES};
 ghost use Rattle.tables.specs.EntryRows.{entry_column};
-ghost use Rattle.passes.specs.LineEntries.{entry_or, FirstStored, EntriesFilled, EntriesComputed};
 ghost use Rattle.passes.specs.LineSearch.{LineFound, EntryFound};
 ghost use Rattle.tables.specs.OneMore.{one_more};
 
 use layout::columns::{ENTRY_ENTRIES, ENTRY_NODE, ENTRY_NUMBER};
-use tables::nodes::Records;
-
-// Stores x as the node of row l; where the table has no such row, nothing is stored.
-// Kept: by index; tried by `get_mut`, of which std says nothing of what the slice then holds.
-fn store(entries: &mut [u16], l: usize, x: u16)
-    ensures { entries.new ≡ set entries.old (l * ENTRY_ENTRIES + ENTRY_NODE) x }
-{
-    let at = l.saturating_mul(ENTRY_ENTRIES).saturating_add(ENTRY_NODE);
-    if at < entries.len() {
-        entries[at] = x;
-    }
-}
-
-// Stores each statement at its line's entry, the last one first, so that a line's first statement stays.
-fn store_first_nodes(r: &Records<'_>, entries: &mut [u16])
-    ensures { FirstStored r.now.stmts.now r.now.n entries.old entries.new }
-{
-    for i in (0..r.n).rev() {
-        store(entries, r.line(i), (i + 1) as u16);
-    }
-}
-
-// A line without statements has the next line's entry.
-// Kept: the numbers: the row holds them as they are.
-fn entry_or(e: u16, next: u16) -> u16
-    ensures { result ≡ entry_or e next }
-{
-    if e == 0 { next } else { e }
-}
-
-// A line without statements takes the next line's entry, from the last line up. Each row gets its number.
-// Kept: by index; std says nothing of what a slice ends as behind `as_chunks_mut`.
-#[tactic(auto, using(passes::specs::LineEntries::filled_start))]
-fn fill_empty_lines(lines: &[u16], entries: &mut [u16])
-    requires { length lines.now * ENTRY_ENTRIES ≤ length entries.old }
-    ensures { EntriesFilled lines.now (length lines.now) entries.old entries.new }
-{
-    let mut next: u16 = 0;
-    for l in (0..lines.len()).rev() {
-        next = entry_or(entries[l * ENTRY_ENTRIES + ENTRY_NODE], next);
-        entries[l * ENTRY_ENTRIES + ENTRY_NUMBER] = lines[l];
-        entries[l * ENTRY_ENTRIES + ENTRY_NODE] = next;
-    }
-}
-
-// The rows of these lines with these statements.
-pub(crate) fn compute_line_after(r: &Records<'_>, lines: &[u16], entries: &mut [u16])
-    requires { length lines.now * ENTRY_ENTRIES ≤ length entries.old }
-    ensures { EntriesComputed lines.now r.now.stmts.now (length lines.now) r.now.n entries.old entries.new }
-{
-    store_first_nodes(r, entries);
-    fill_empty_lines(lines, entries);
-}
 
 // The entries of `count` lines, once they are computed.
 // Kept: rows and how many, not `&[[u16; 2]]`: definitions read the flat table (`entry_column`), and each clause would

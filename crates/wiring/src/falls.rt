@@ -30,11 +30,12 @@ impl From<NotFound> for Refusal {
     }
 }
 
-// Where a statement falls that ends at e, in a list that ends at `end` and then comes to `next`.
+// Where a statement falls that ends at e, in a list that ends at `end` and then comes to `next`; of a line from e to
+// `end`, its entry.
 // Kept: `next`, here and below, is the number that a row of falls holds: all that hands it on ends in `put_falls`.
 // Kept: `end` and `next` one by one: four of the nine calls pair them anew, and a struct would be made at each of
 // these.
-fn target_of(e: usize, end: usize, next: u16) -> u16
+pub(crate) fn target_of(e: usize, end: usize, next: u16) -> u16
     requires { e < 65535 }
     ensures { result ≡ target_of e end next }
 {
@@ -51,7 +52,7 @@ fn put_falls(falls: &mut [u16], i: usize, fall: u16, first: u16, second: u16)
 }
 
 // Where the statements of line l begin that end at `end`, by the records: its entry may be another line's statement.
-fn start_of(r: &Records<'_>, l: usize, end: usize) -> usize
+pub(crate) fn start_of(r: &Records<'_>, l: usize, end: usize) -> usize
     requires { end ≤ r.now.n }
     ensures { Begins r.now.stmts.now l end result }
 {

@@ -11,6 +11,7 @@ pub mod fors;
 pub mod frames;
 pub mod jumps;
 pub mod leads;
+pub mod line_pass;
 pub mod list_of;
 pub mod nexts;
 pub mod prepare;

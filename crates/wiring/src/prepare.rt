@@ -2,10 +2,11 @@
 ghost use Rattle.passes.specs.Preparing.{PrepareReady, PreparedTo};
 ghost use Rattle.wiring.specs.Found.{all_found};
 
-use crate::entries::{Entries, compute_line_after};
+use crate::entries::Entries;
 use crate::falls::Rows;
 use crate::fors::link_fors;
 use crate::jumps::link_jumps;
+use crate::line_pass::compute_line_after;
 use layout::refusals::Refusal;
 use tables::nodes::Records;
 
