@@ -34,7 +34,7 @@ from vectors import find_oracle, generated  # noqa: E402
 
 SEED, STORED = 1983, os.path.join(HERE, "checks.framed")
 # How often each answer stands among the stored pairs, and how long a pair may be; 1 and 5 to 8 need long texts.
-SHARES, STORED_BYTES = {"right": 40, "31": 150, "32": 160, "2": 25, "3": 12, "4": 3}, 1200
+SHARES, STORED_BYTES = {"right": 40, "31": 150, "32": 160, "2": 25, "3": 12, "4": 3}, 1300
 LONGEST, SECONDS = 2000000, 60
 # The program reads a graph in pieces of so many bytes.
 PIECE = 65536
@@ -47,12 +47,14 @@ BATCH = 64
 
 ROWS = re.compile(rb"[^\n]*\n|[^\n]+")
 NUMBER = re.compile(rb"[0-9]+")
-LIST = re.compile(rb"\((succ|pred|returns|)([0-9 ]*)\)")
+LIST = re.compile(rb"\((in|succ|pred|returns|)([0-9 ]*)\)")
+HOLDER = re.compile(rb" \(in[0-9 ]*\)")
 ODD_BYTES = b"\n\r\t\0 \x7f\x80\xff()0159:/x-+AGRgr"
-# Rows that may stand where another is due; those of later requests and of a refusal are in no form.
+# Rows that may stand where another is due; those of before L5, of later requests and of a refusal are in no form.
 FURTHER_ROWS = [b"\n", b")\n", b"(returns)\n", b"(graph 0 0\n", b"(graph 65535 65535\n", b"(back 7 9)\n", b"(entry 10 0)\n",
-                b"(entry 0)\n", b"(node 0 10 0 () (succ) (pred))\n", b"(node 0 10 (0) (succ) (pred))\n", b"(returns 007)\n",
-                b"(refused 2 0)\n", b"(right)\n", b"(module 0\n", b"(node 0 10 0 (0) (in) (succ) (pred))\n", b"(entry 10 0 own)\n"]
+                b"(entry 0)\n", b"(node 0 10 0 () (in) (succ) (pred))\n", b"(node 0 10 (0) (in) (succ) (pred))\n", b"(returns 007)\n",
+                b"(refused 2 0)\n", b"(right)\n", b"(module 0\n", b"(node 0 10 0 (0) (succ) (pred))\n", b"(entry 10 0 own)\n",
+                b"(node 65535 0 0 (1 2) (in 65535) (succ 0) (pred 0))\n", b"(node 0 10 0 (0) (in 1 2) (succ) (pred))\n"]
 
 
 def somewhere(rng, text):
@@ -135,6 +137,20 @@ def list_changed(rng, row):
     return row[:at.start()] + b"(" + b" ".join([at[1]] * bool(at[1]) + words) + b")" + row[at.end():]
 
 
+def holder_changed(rng, graph, other):
+    """Another holder, none, two of them, one that is no number, or no place for one; in a row that has one."""
+    found = list(HOLDER.finditer(graph))
+    if not found:
+        return list_changed(rng, graph, other)
+    at = rng.choice(found)
+    near, old = b"%d" % rng.randrange(8), at[0][len(b" (in"):-1]
+    number = other_number(rng, rng.choice([*old.split(), near]))
+    in_form = [held for held in (b" (in)", b" (in %b)" % near, rng.choice(found)[0], b" (in 10)") if held != at[0]]
+    odd = [b" (in %b)" % number, b" (in %b %b)" % (number, near), b" (in%b %b)" % (old, near), b" (in )", b"", b" ()", b" (%b)" % near,
+           b" (in%b)" % near, b" (In%b)" % old, b" (in) (in%b)" % old]
+    return graph[:at.start()] + rng.choice(in_form if rng.random() < 0.6 else odd) + graph[at.end():]
+
+
 def order_changed(rng, graph, other):
     """The same numbers in another order, in a list that has one."""
     found = [at for at in LIST.finditer(graph) if len(set(at[2].split())) > 1]
@@ -168,6 +184,19 @@ def everywhere(rng, graph, other):
     """A change of every row: ends or blanks that other systems write."""
     old, new = rng.choice([(b"\n", b"\r\n"), (b"\n", b" \n"), (b"\n", b"\r"), (b"\n", b"\n\n"), (b" ", b"  "), (b" ", b"\t"), (b")\n", b")")])
     return graph.replace(old, new)
+
+
+def holders_changed(rng, graph, other):
+    """Of every row: as it was before L5, in another order, without a holder, or its holder one too many."""
+    # Where nothing is held, two of these change nothing.
+    way = rng.randrange(4 if b" (in " in graph else 2)
+    if way == 0:
+        return HOLDER.sub(b"", graph)
+    if way == 1:
+        return re.sub(rb"( \([0-9 ]*\))( \(in[0-9 ]*\))", rb"\2\1", graph)
+    if way == 2:
+        return HOLDER.sub(b" (in)", graph)
+    return re.sub(rb"\(in ([0-9]+)\)", lambda at: b"(in %d)" % (int(at[1]) + 1), graph)
 
 
 def rows_changed(rng, graph, other):
@@ -217,8 +246,9 @@ def long_row(rng, graph, other):
     """A list, a number or a blank so long that the row's end stands at a chosen byte of the file; the last word may be bad."""
     rows = ROWS.findall(graph) or [b"\n"]
     at = rng.randrange(len(rows))
-    before, opening = b"".join(rows[:at]), rng.choice([b"(returns", b"(node 0 10 0 (0) (succ", b"(node 0 10 0 (0) (succ) (pred"])
-    closing = {b"(returns": b")"}.get(opening, b") (pred))" if opening.endswith(b"succ") else b"))")
+    before, node = b"".join(rows[:at]), b"(node 0 10 0 (0) (in) (succ) (pred))"
+    opening = rng.choice([b"(returns", *(node[:node.index(word) + len(word)] for word in (b"(0", b"(in", b"(succ", b"(pred"))])
+    closing = node[len(opening):] if node.startswith(opening) else b")"
     last = rng.choice([b"", b" 65535", b" 65536", b" 00", b" x", b" ", b")"]) + closing + rng.choice([b"\n", b"\n", b"\n", b"", b" \n", b"\r\n"])
     end = rng.choice([1 << rng.randrange(9, 21), LONGEST]) + rng.randrange(-3, 4)
     room = max(0, end - len(before) - len(opening) - len(last))
@@ -231,7 +261,8 @@ def long_row(rng, graph, other):
 
 
 DAMAGES = [(byte_changed, 7), (byte_dropped, 5), (byte_inserted, 5), (number_changed, 22), (word_count_changed, 6), (list_changed, 16),
-           (order_changed, 8), (byte_added, 8), (row_cut, 3), (everywhere, 2), (rows_changed, 20), (cut, 6), (ends_changed, 9), (of_another, 5)]
+           (order_changed, 8), (byte_added, 8), (row_cut, 3), (everywhere, 2), (rows_changed, 20), (cut, 6), (ends_changed, 9), (of_another, 5),
+           (holder_changed, 14), (holders_changed, 4)]
 ONE_LONG_IN = 250
 
 
@@ -319,7 +350,7 @@ def wide_pair():
     for line, entry in enumerate(entries):
         body = nodes[entry:entry + each]
         listing += [f"(line {line}", *("(any)" if id in jumps else "(plain)" for id in body), ")"]
-        graph += [f"(node {id} {line} {line} ({id - entry}) {listed('succ', succ[id])} {listed('pred', pred[id])})" for id in body]
+        graph += [f"(node {id} {line} {line} ({id - entry}) (in) {listed('succ', succ[id])} {listed('pred', pred[id])})" for id in body]
     graph += [f"(entry {line} {entry})" for line, entry in enumerate(entries)]
     return text(" / ".join([*listing, ")"])), text(" / ".join([*graph, "(returns)", ")"]))
 
@@ -339,6 +370,16 @@ def long_rows():
         rows += [(b"7", rows[0][1].removesuffix(end)), (b"", rows[0][1].removesuffix(b"\n" + end))]
         for last, row in rows:
             yield f"a row to byte {size}", EMPTY_LISTING, text(G), head + row, printed((32 if last == b"7" else 31, 1))
+
+
+def held_rows():
+    """Against G: a node row whose holder stands across the end of a piece; its path is as long as that takes."""
+    head, end = text("(graph 0 0"), text(")")
+    for size in [PIECE * n - back for n in (1, 2) for back in range(11)]:
+        room = size - len(head) - len(b"(node 0 10 0 (0")
+        path = b"(node 0 10 0 (0" + b" 10" * (room % 2) + b" 0" * ((room - 3 * (room % 2)) // 2)
+        for held, number in ((b"", 32), (b" 7", 32), (b" 65535", 32), (b" 65536", 31), (b" 7 7", 31), (b" 07", 31), (b" ", 31)):
+            yield f"a holder from byte {size}", EMPTY_LISTING, text(G), head + path + b") (in" + held + b") (succ) (pred))\n" + end, printed((number, 1))
 
 
 def wide_files():
@@ -535,19 +576,22 @@ def stored_pairs():
 
 def stored():
     found = stored_pairs()
+    # The graphs by hand of the points and of the wide listing are the original's too.
+    by_hand = dict.fromkeys([*((listing, right) for _, listing, right, _, _ in points()), wide_pair()])
     texts = [listing for listing, _, _, _ in found]
-    wide = wide_pair()
     oracle = find_oracle()
     if oracle:
-        *prints, by_hand = due_answers(oracle, [*texts, wide[0]])
+        prints = due_answers(oracle, texts)
+        again_by_hand = due_answers(oracle, [listing for listing, _ in by_hand])
     else:
         print("the original is not at hand: the stored graphs are not asked of it again")
         prints = [right if judge(listing) is None else written(listing) for listing, right, _, _ in found]
-        by_hand = written(wide[0]) or wide[1]
+        again_by_hand = [written(listing) or right for listing, right in by_hand]
     wrong = 0
-    if by_hand != wide[1]:
-        wrong += 1
-        print("the wide graph is not the original's")
+    for (listing, right), again in zip(by_hand, again_by_hand, strict=True):
+        if right != again:
+            wrong += 1
+            print(f"a graph by hand is not the original's: {listing[:300]!r}\n  by hand {right[:300]!r}\n  due     {again[:300]!r}")
     for (listing, right, graph, answer), again in zip(found, prints, strict=True):
         if right != again or answer != due(listing, right, graph):
             wrong += 1
@@ -565,7 +609,7 @@ def judge_program(program):
         runs = Runs(program, folder)
         by_hand = runs.pairs((f"point {point}", *pair, printed(answer)) for point, *pair, answer in points())
         found = runs.pairs(("a stored pair", *pair) for pair in stored_pairs())
-        long = runs.pairs(long_rows()) + runs.pairs(wide_files())
+        long = runs.pairs(long_rows()) + runs.pairs(held_rows()) + runs.pairs(wide_files())
         names, bad = runs.names(), runs.bad_arguments()
     print(f"flowcheck: {by_hand} points by hand, {found} stored pairs, {long} long files, {names} odd names, "
           f"{bad} times bad arguments; {runs.wrong} different")

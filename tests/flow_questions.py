@@ -32,7 +32,7 @@ def spaced(word, ids):
 
 def graph_rows(graph):
     """Questions about nodes, paths and lines, with their answers; paths are answered by their node alone."""
-    for node, line, path, succ, pred in re.findall(r"^\(node (\d+) \d+ (\d+) \(([\d ]*)\) \(succ([\d ]*)\) \(pred([\d ]*)\)\)$", graph, re.M):
+    for node, line, path, succ, pred in re.findall(r"^\(node (\d+) \d+ (\d+) \(([\d ]*)\) \(in[\d ]*\) \(succ([\d ]*)\) \(pred([\d ]*)\)\)$", graph, re.M):
         yield f"(successors {node})", spaced("successors", succ.split())
         yield f"(predecessors {node})", spaced("predecessors", pred.split())
         yield f"(path {line} {path})", node

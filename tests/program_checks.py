@@ -16,6 +16,7 @@ import io
 import itertools
 import os
 import random
+import re
 import resource
 import subprocess
 import sys
@@ -166,8 +167,13 @@ def examples():
 
 
 def shared_programs():
+    """Their graphs are in the form of before L5."""
     for path in second_program.shared_programs():
         yield Case(path.name, path.read_bytes(), path.with_suffix(".listing").read_bytes(), path.with_suffix(".graph").read_bytes())
+
+
+def without_holders(graph):
+    return re.sub(rb" \(in[0-9 ]*\)", b"", graph)
 
 
 # Typed programs whose graphs show what others show in the listing alone: which names and slots are one, what CLR forgets.
@@ -218,9 +224,10 @@ def store():
     oracle = find_oracle() or sys.exit(3)
     left, chosen = Counter(SHARES), with_graphs(oracle, [*examples(), *directed()])
     for case in shared_programs():
-        if case.graph != graphs(oracle, [case.meant])[0]:
+        graph = graphs(oracle, [case.meant])[0]
+        if case.graph != without_holders(graph):
             sys.exit(f"{case.what}: its graph beside the repository is not the original's")
-        chosen.append(case)
+        chosen.append(case._replace(graph=graph))
     made = list({case.data: case for case in random_cases(SEED, CHOSEN_OF * len(KINDS))}.values())
     for case in with_graphs(oracle, made):
         if left[kind_of(case.meant)] > 0 and len(case.data) <= STORED_BYTES and len(case.graph) <= STORED_GRAPH:

@@ -11,10 +11,10 @@ use crate::tables::Tables;
 ///
 /// ```
 /// let listing = b"(module 0\n(line 10\n(goto 10)\n)\n)\n";
-/// let graph = b"(graph 0 1\n(node 0 10 0 (0) (succ 0) (pred 0))\n(entry 10 0)\n(returns)\n)\n";
+/// let graph = b"(graph 0 1\n(node 0 10 0 (0) (in) (succ 0) (pred 0))\n(entry 10 0)\n(returns)\n)\n";
 /// assert_eq!(flowgraph::check(listing, graph), Ok(()));
 ///
-/// let wrong = b"(graph 0 1\n(node 0 10 0 (0) (succ) (pred))\n(entry 10 0)\n(returns)\n)\n";
+/// let wrong = b"(graph 0 1\n(node 0 10 0 (0) (in) (succ) (pred))\n(entry 10 0)\n(returns)\n)\n";
 /// let refused = flowgraph::check(listing, wrong).unwrap_err();
 /// assert_eq!((refused.number, refused.place), (32, 1));
 /// ```

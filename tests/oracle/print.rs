@@ -1,4 +1,4 @@
-//! The graph as document 01 prints it.
+//! The graph as document 01 prints it, with each node's holder (document 02, L5).
 
 use crate::cfg::{Cfg, CfgNode};
 use crate::listing::Listing;
@@ -17,8 +17,8 @@ pub fn graph(listing: &Listing, salt: u64) -> String {
         return format!("(refused 23 {edges})\n");
     }
     let mut out = format!("(graph {} {}\n", cfg.entry, cfg.nodes.len());
-    for (id, node) in cfg.nodes.iter().enumerate() {
-        node_row(&mut out, id, node);
+    for ((id, node), holder) in cfg.nodes.iter().enumerate().zip(holders(&cfg)) {
+        node_row(&mut out, id, node, holder);
     }
     pairs(&mut out, "entry", &cfg.line_first);
     writeln!(out, "{}", list("returns", &cfg.return_targets)).unwrap();
@@ -26,12 +26,28 @@ pub fn graph(listing: &Listing, salt: u64) -> String {
     out + ")\n"
 }
 
-fn node_row(out: &mut String, id: usize, node: &CfgNode) {
+/// Which IF holds each node: the node on its line whose path is the node's without the last number. The original has no holders,
+/// so they are found by the paths that it gives.
+pub fn holders(cfg: &Cfg) -> Vec<Option<usize>> {
+    let place = |node: &CfgNode| (node.stmt.line_idx, node.stmt.path.clone());
+    let ids: HashMap<_, usize> = cfg.nodes.iter().enumerate().map(|(id, node)| (place(node), id)).collect();
+    assert_eq!(ids.len(), cfg.nodes.len(), "two nodes at one place");
+    let holder = |node: &CfgNode| {
+        let (line, mut path) = place(node);
+        path.pop().expect("a path has a number");
+        // Those of a line's own statements are of one number.
+        (!path.is_empty()).then(|| *ids.get(&(line, path)).expect("a node at the path above"))
+    };
+    cfg.nodes.iter().map(holder).collect()
+}
+
+fn node_row(out: &mut String, id: usize, node: &CfgNode, holder: Option<usize>) {
     let path = spaced(&node.stmt.path);
+    let held = list("in", holder.as_slice());
     let succ = list("succ", &node.successors);
     let pred = list("pred", &node.predecessors);
     let (number, index) = (node.line_no, node.stmt.line_idx);
-    writeln!(out, "(node {id} {number} {index} ({path}) {succ} {pred})").unwrap();
+    writeln!(out, "(node {id} {number} {index} ({path}) {held} {succ} {pred})").unwrap();
 }
 
 /// One row for each pair, by its first part.

@@ -2,6 +2,7 @@
 """A second reading of document 01's refusals 1 to 8, from its text alone.
 
 `judge(text)` answers None for a listing in form, else (number, place).
+`holders(text)` says which IF holds each statement of a listing in form (document 02, L5), by its brackets alone.
 As a program it reads framed texts (a row with the byte count, then the bytes) and writes
 one row each: `accepted` or `(refused NUMBER PLACE)`.
 """
@@ -203,6 +204,22 @@ def judge(text):
     if rest or not reading.ended:
         return 2, len(rows)
     return None
+
+
+def holders(text):
+    """For each statement in reading order the id of the nearest IF, IFELSE or RCOMP that is open where it stands, or None."""
+    found, held = [], []
+    for row in text.split(b"\n")[:-1]:
+        word = form_of(row).word
+        if word == b")":
+            held.pop()
+            continue
+        around = held[-1] if held else None
+        if word not in (b"module", b"line", b"to", b"stmts"):
+            found.append(around)
+        if row[-1:] != b")":
+            held.append(len(found) - 1 if word in BRANCHES else around)
+    return found
 
 
 def written(text):

@@ -11,9 +11,9 @@ import subprocess
 import sys
 
 sys.dont_write_bytecode = True
-from second_reading import framed, judge  # noqa: E402
+from second_reading import framed, holders, judge  # noqa: E402
 
-# The corners of document 01, and document 02's long names, as the directed list has them first: lists, and further rows.
+# The corners of document 01, and document 02's long names and holders, as the directed list has them first: lists, and further rows.
 CORNERS = [
     ("C1", "", ["(graph 0 0", "(returns)"]),
     ("C2", "[]", ["(entry 10 0)", "(entry 20 0)"]),
@@ -43,7 +43,22 @@ CORNERS = [
     ("L2 COUNTERS$ CO1$", "[1] [1 2] []", []),
     ("L2 as C8", "[1] [2] [3] [4] []", []),
     ("L2 as C9", "[1] [1 2] [3] [4 1] []", []),
+    ("L5 nested", "[1] [2 3] [] []", []),
+    ("L5 doif", "[1] [2] []", []),
+    ("L5 second branch", "[0 1] []", []),
+    ("L5 jumps", "[0] []", []),
+    ("L5 two lines", "[1 2] [2] [3 5] [4] [5] []", []),
+    ("L5 loops", "[1] [2 5] [3] [4] [7] [4 6] [3 7] []", []),
+    ("L5 after an IF", "[1 5] [2] [3 4] [4] [5] []", []),
+    ("L5 of three words", "[1 5] [2 0] [3 4] [] [] [6] []", []),
+    ("L5 two digits", "[1] [2] [3] [4] [5] [6] [7] [8] [9] [10] [11] []", []),
 ]
+# What holds each of their nodes, by hand; in a corner that is not here, nothing holds any.
+HELD = {
+    "C10": "- 0 0 0 - -", "C10 H 1": "- 0 0 0 - -", "L5 nested": "- 0 1 1", "L5 second branch": "- 0", "L5 two lines": "- 0 - 2 2 -",
+    "L5 loops": "- - 1 1 1 1 1 -", "L5 after an IF": "- 0 0 2 0 -", "L5 of three words": "- 0 1 2 0 0 5",
+    "L5 two digits": "- - - - - - - - - - - 10",
+}
 # How often a row of that opening word stands in the graph.
 COUNTS = {"C2": ("(entry ", 2), "C11": ("(back ", 0), "C12": ("(entry ", 3)}
 
@@ -76,7 +91,42 @@ def corners(harness):
         due(all(row in graph.split("\n") for row in rows), f"{name}: {graph}")
         word, count = COUNTS.get(name, ("(graph ", 1))
         due(graph.count(word) == count, f"{name}: {graph}")
+        held = held_in(graph)
+        shown = " ".join("-" if id is None else str(id) for id in held)
+        due(shown == HELD.get(name, " ".join("-" * len(held))), f"{name}: held by {shown}")
     print(f"corners: {len(CORNERS)} as documents 01 and 02 have them")
+
+
+def held_in(graph):
+    """The holders in a printed graph, by node; every node row has one or none."""
+    found = re.findall(r"^\(node [0-9]+ [0-9]+ [0-9]+ \([0-9 ]+\) \(in(?: ([0-9]+))?\) \(succ", graph, re.M)
+    due(len(found) == graph.count("(node "), f"node rows of another form: {graph[:300]}")
+    return [int(id) if id else None for id in found]
+
+
+def holder_paths(harness):
+    """The oracle finds holders by the original's paths, the second reading by the listing's brackets."""
+    nodes, held = 0, collections.Counter()
+    for kind, number in (("directed", 0), ("small", 20000), ("medium", 300), ("limit", 40)):
+        data = harness.run("gen", kind, 5, number)
+        for text, graph in zip(framed(io.BytesIO(data)), harness.texts("graph", data=data), strict=True):
+            if graph.startswith(b"(graph"):
+                found, second = held_in(graph.decode()), holders(text)
+                due(found == second, f"{kind}: held by {found}, by brackets {second}: {text[:300]!r}")
+                nodes += len(found)
+                held.update((kind, depth(found, id)) for id in range(len(found)))
+    for kind in ("directed", "small"):
+        due(all(held[kind, n] for n in range(4)), f"{kind}: no node in so many IFs: {held}")
+    print(f"holders: {nodes} nodes, {sum(n for (_, deep), n in held.items() if deep)} of them held; paths and brackets give the same")
+
+
+def depth(found, id):
+    """How many hold this node, one in the other; each stands before what it holds."""
+    count = 0
+    while found[id] is not None:
+        due(found[id] < id, f"holder {found[id]} of {id}")
+        id, count = found[id], count + 1
+    return count
 
 
 def frame_names(harness):
@@ -146,7 +196,7 @@ def damage(harness):
 def collisions(harness):
     rows = harness.run("collisions").decode().splitlines()
     shown = harness.texts("graph", data=harness.run("gen", "collide", 0, 0))
-    due(all(b"(node 1 10 0 (1) (succ 1 2)" in g for g in shown), "a known pair does not collide")
+    due(all(b"(node 1 10 0 (1) (in) (succ 1 2)" in g for g in shown), "a known pair does not collide")
     print(f"colliding names in the original: {' '.join(rows)}")
 
 
@@ -154,7 +204,7 @@ def main():
     if len(sys.argv) != 2:
         sys.exit(__doc__)
     harness = Harness(sys.argv[1])
-    for part in (corners, frame_names, stand_ins, generators, damage, collisions):
+    for part in (corners, holder_paths, frame_names, stand_ins, generators, damage, collisions):
         part(harness)
 
 

@@ -29,9 +29,9 @@ reading_of (Outside p) = beside (outside, left_of p)
 reading_of (Begins p) = beside (begins, left_of p)
 reading_of (Inside v p) = beside (inside v, left_of p)
 
--- c stands for a list that byte b does not go on with
+-- c stands for a list, or a number that may be missing, that byte b does not go on with
 unfoldable pub passes : ℕ → ℕ → Bool
-passes c b = pick (eqb c 42) (not (eqb b 32)) (pick (eqb c 37) (not (is_digit b)) false)
+passes c b = pick (eqb c 42) (not (eqb b 32)) (pick (eqb c 37) (not (is_digit b)) (pick (eqb c 63) (not (eqb b 32)) false))
 
 -- r is what is left of the form f behind such lists
 pub record Passed (f : List ℕ) (b : ℕ) (r : List ℕ) : Type 0 where
@@ -73,18 +73,30 @@ module _ (f : List ℕ) (b : ℕ) where
   unfolding outside_step
   at_path = refl
 
+  at_one : outside_step (63 ∷ f) b ≡ pick (eqb b 32) (some (begins, f)) (outside_step f b)
+  unfolding outside_step
+  at_one = refl
+
   pub at_number : (c : ℕ) → c ≡ 35 → outside_step (c ∷ f) b ≡ begun f b
   unfolding outside_step
   at_number c e = ap (λ (x : ℕ). outside_step (x ∷ f) b) e
 
   pub list_passed : (c : ℕ) → passes c b ≡ true → outside_step (c ∷ f) b ≡ outside_step f b
   unfolding passes
-  list_passed c h = go (eqb c 42) refl (eqb c 37) refl h
+  list_passed c h = go (eqb c 42) refl (eqb c 37) refl (eqb c 63) refl h
     where
-      go : (x : Bool) → eqb c 42 ≡ x → (y : Bool) → eqb c 37 ≡ y → pick x (not (eqb b 32)) (pick y (not (is_digit b)) false) ≡ true → outside_step (c ∷ f) b ≡ outside_step f b
-      go true p y q k = ap (λ (z : ℕ). outside_step (z ∷ f) b) (eqb-true c 42 p) ∙ at_list ∙ ap (λ (z : Bool). pick z (some (begins, 42 ∷ f)) (outside_step f b)) (not-true (eqb b 32) k)
-      go false p true q k = ap (λ (z : ℕ). outside_step (z ∷ f) b) (eqb-true c 37 q) ∙ at_path ∙ ap (λ (z : Bool). pick z (begun (42 ∷ f) b) (outside_step f b)) (not-true (is_digit b) k)
-      go false p false q k = absurd (not_both (sym k))
+      go : (x : Bool) → eqb c 42 ≡ x → (y : Bool) → eqb c 37 ≡ y → (z : Bool) → eqb c 63 ≡ z → pick x (not (eqb b 32)) (pick y (not (is_digit b)) (pick z (not (eqb b 32)) false)) ≡ true
+          → outside_step (c ∷ f) b ≡ outside_step f b
+      go true p y q z o k = ap (λ (z : ℕ). outside_step (z ∷ f) b) (eqb-true c 42 p) ∙ at_list ∙ ap (λ (z : Bool). pick z (some (begins, 42 ∷ f)) (outside_step f b)) (not-true (eqb b 32) k)
+      go false p true q z o k = ap (λ (z : ℕ). outside_step (z ∷ f) b) (eqb-true c 37 q) ∙ at_path ∙ ap (λ (z : Bool). pick z (begun (42 ∷ f) b) (outside_step f b)) (not-true (is_digit b) k)
+      go false p false q true o k = ap (λ (z : ℕ). outside_step (z ∷ f) b) (eqb-true c 63 o) ∙ at_one ∙ ap (λ (z : Bool). pick z (some (begins, f)) (outside_step f b)) (not-true (eqb b 32) k)
+      go false p false q false o k = absurd (not_both (sym k))
+
+  -- a number that may be missing, and b begins it
+  pub one_begins : (c : ℕ) → c ≡ 63 → passes c b ≡ false → outside_step (c ∷ f) b ≡ some (begins, f)
+  unfolding passes
+  one_begins c e h =
+      ap (λ (z : ℕ). outside_step (z ∷ f) b) e ∙ at_one ∙ ap (λ (z : Bool). pick z (some (begins, f)) (outside_step f b)) (not-false (eqb b 32) (ap (λ (z : ℕ). passes z b) (sym e) ∙ h))
 
   -- a list that b goes on with
   pub list-begins : (c : ℕ) → c ≡ 42 → passes c b ≡ false → outside_step (c ∷ f) b ≡ some (begins, 42 ∷ f)
@@ -98,10 +110,10 @@ module _ (f : List ℕ) (b : ℕ) where
       ap (λ (z : ℕ). outside_step (z ∷ f) b) e ∙ at_path ∙ ap (λ (z : Bool). pick z (begun (42 ∷ f) b) (outside_step f b)) (not-false (is_digit b) (ap (λ (z : ℕ). passes z b) (sym e) ∙ h))
 
   -- a byte of the form itself
-  module _ (c : ℕ) (n35 : c ≡ 35 → ⊥) (n42 : c ≡ 42 → ⊥) (n37 : c ≡ 37 → ⊥) where
+  module _ (c : ℕ) (n35 : c ≡ 35 → ⊥) (n42 : c ≡ 42 → ⊥) (n37 : c ≡ 37 → ⊥) (n63 : c ≡ 63 → ⊥) where
     at_byte : outside_step (c ∷ f) b ≡ pick (eqb c b) (some (outside, f)) none
     unfolding outside_step
-    at_byte = rw (ne_eqb c 35 n35, ne_eqb c 42 n42, ne_eqb c 37 n37)
+    at_byte = rw (ne_eqb c 35 n35, ne_eqb c 42 n42, ne_eqb c 37 n37, ne_eqb c 63 n63)
 
     pub byte_met : c ≡ b → outside_step (c ∷ f) b ≡ some (outside, f)
     byte_met e = at_byte ∙ ap (λ (z : Bool). pick z (some (outside, f)) none) (eq-eqb c b e)
@@ -154,14 +166,18 @@ module _ (f : List ℕ) (b : ℕ) (r : List ℕ) (p : Passed f b r) where
     pub step_path : c ≡ 37 → {s : Reading} → s ≡ stepped_to (begun (42 ∷ t) b) → s ≡ stepped_to (outside_step f b)
     step_path q k = k ∙ sym (ap stepped_to (here ∙ path_begins t b c q (p.stops c t e)))
 
-    module _ (n35 : c ≡ 35 → ⊥) (n42 : c ≡ 42 → ⊥) (n37 : c ≡ 37 → ⊥) where
+    pub step_one : c ≡ 63 → beside (begins, t) ≡ stepped_to (outside_step f b)
+    unfolding stepped_to
+    step_one q = sym (ap stepped_to (here ∙ one_begins t b c q (p.stops c t e)))
+
+    module _ (n35 : c ≡ 35 → ⊥) (n42 : c ≡ 42 → ⊥) (n37 : c ≡ 37 → ⊥) (n63 : c ≡ 63 → ⊥) where
       pub step-met : c ≡ b → beside (outside, t) ≡ stepped_to (outside_step f b)
       unfolding stepped_to
-      step-met q = sym (ap stepped_to (here ∙ byte_met t b c n35 n42 n37 q))
+      step-met q = sym (ap stepped_to (here ∙ byte_met t b c n35 n42 n37 n63 q))
 
       pub step_missed : (c ≡ b → ⊥) → lost ≡ stepped_to (outside_step f b)
       unfolding stepped_to
-      step_missed q = sym (ap stepped_to (here ∙ byte_missed t b c n35 n42 n37 q))
+      step_missed q = sym (ap stepped_to (here ∙ byte_missed t b c n35 n42 n37 n63 q))
 
 -- a list that is left: one more number, or what follows it
 module _ (p : Place) (b : ℕ) where
@@ -181,10 +197,10 @@ module _ (p : Place) (b : ℕ) where
 
 -- ---- where a form may end
 
-pub ends_with_lists : (f : List ℕ) → list_all (λ c. eqb c 42 || eqb c 37) f ≡ may_end f
+pub ends_with_lists : (f : List ℕ) → list_all (λ c. eqb c 42 || (eqb c 37 || eqb c 63)) f ≡ may_end f
 unfolding may_end
 ends_with_lists [] = refl
-ends_with_lists (c ∷ f) = ap (λ (z : Bool). (eqb c 42 || eqb c 37) && z) (ends_with_lists f)
+ends_with_lists (c ∷ f) = ap (λ (z : Bool). (eqb c 42 || (eqb c 37 || eqb c 63)) && z) (ends_with_lists f)
 
 -- an open list may end
 pub left-ends : (p : Place) → may_end p.left.now ≡ may_end (left_of p)

@@ -12,9 +12,9 @@ use layout::limits::MAX_NUMBER;
 use layout::refusals::Reason;
 use tokens::numbers::{is_digit, with_digit};
 
-// What is left of a form, where `#` is a number, `*` numbers with a space before each and `%` numbers with a space
-// between them; in a list, one more number may come first.
-// Kept: forms are texts with three signs, as the definition's `row_forms` are, from which they are checked.
+// What is left of a form, where `#` is a number, `*` numbers with a space before each, `%` numbers with a space between
+// them and `?` one number with a space before it, or none; in a list, one more number may come first.
+// Kept: forms are texts with four signs, as the definition's `row_forms` are, from which they are checked.
 // Kept: `list` beside what is left, and no enum of an open list and none: what is left is there in both, and each
 // reader would take it out by a `match`.
 #[derive(Clone, Copy)]
@@ -35,19 +35,19 @@ pub enum Judge {
     Inside { value: u32, place: Place },
 }
 
-// Whether c stands for a list that byte b does not go on with.
+// Whether c stands for a list, or for a number that may be missing, that byte b does not go on with.
 #[tactic(auto, unfolding(crate::specs::JudgeStates::passes))]
 fn passes_list(c: u8, b: u8) -> bool
     ensures { result ≡ passes c b }
 {
     match c {
-        b'*' => b != b' ',
+        b'*' | b'?' => b != b' ',
         b'%' => !is_digit(b),
         _ => false,
     }
 }
 
-// What is left of a form behind such lists.
+// What is left of a form behind such lists and numbers.
 fn pass_lists(left: &'static [u8], b: u8) -> &'static [u8]
     ensures { Passed left.now b result.now }
 {
@@ -77,6 +77,7 @@ fn form_step(left: &'static [u8], b: u8) -> Judge
         b'#' => next.begin_number(b),
         b'*' => Judge::Begins(open),
         b'%' => open.begin_number(b),
+        b'?' => Judge::Begins(next),
         d if d == b => Judge::Outside(next),
         _ => Judge::Lost,
     }
@@ -97,7 +98,7 @@ fn second_byte(b: u8) -> Judge
 {
     match b {
         b'g' => beside_form(b"raph # #"),
-        b'n' => beside_form(b"ode # # # (%) (succ*) (pred*))"),
+        b'n' => beside_form(b"ode # # # (%) (in?) (succ*) (pred*))"),
         b'e' => beside_form(b"ntry # #)"),
         b'r' => beside_form(b"eturns*)"),
         b'b' => beside_form(b"ack # #)"),
@@ -117,14 +118,14 @@ fn first_byte(b: u8) -> Judge
     }
 }
 
-// Whether c stands for a list.
+// Whether c stands for a list, or for a number that may be missing.
 fn is_list(c: u8) -> bool
-    ensures { result ≡ (eqb c 42 || eqb c 37) }
+    ensures { result ≡ (eqb c 42 || (eqb c 37 || eqb c 63)) }
 {
-    matches!(c, b'*' | b'%')
+    matches!(c, b'*' | b'%' | b'?')
 }
 
-// Whether what is left of a form are only lists.
+// Whether what is left of a form are only such.
 fn only_lists(left: &[u8]) -> bool
     ensures { result ≡ may_end left.now }
 {

@@ -45,7 +45,7 @@ cases =
     -- C12
     ∷ writes
     (bytes "(module 0\n(line 10\n(gosub 100)\n(plain)\n)\n(line 20\n(stop)\n)\n(line 100\n(if\n(to 20)\n)\n(return)\n)\n)\n")
-    (bytes "(graph 0 5\n(node 0 10 0 (0) (succ 3) (pred))\n(node 1 10 0 (1) (succ 2) (pred 4))\n(node 2 20 1 (0) (succ) (pred 1 3))\n(node 3 100 2 (0) (succ 2 4) (pred 0))\n(node 4 100 2 (1) (succ 1) (pred 3))\n(entry 10 0)\n(entry 20 2)\n(entry 100 3)\n(returns 1)\n(back 0 1)\n)\n")
+    (bytes "(graph 0 5\n(node 0 10 0 (0) (in) (succ 3) (pred))\n(node 1 10 0 (1) (in) (succ 2) (pred 4))\n(node 2 20 1 (0) (in) (succ) (pred 1 3))\n(node 3 100 2 (0) (in) (succ 2 4) (pred 0))\n(node 4 100 2 (1) (in) (succ 1) (pred 3))\n(entry 10 0)\n(entry 20 2)\n(entry 100 3)\n(returns 1)\n(back 0 1)\n)\n")
     ∷ []
 
 c1_to_c12 : T (all_right cases)

@@ -9,9 +9,10 @@ use Rattle.graph.specs.Build.{Capacity, Built, graph, refused, build, limits}
 -- ---- the rows that a graph prints
 
 -- "whichever numbers of document 01 stand in it and however many, even none, in its lists (path, succ, pred, returns)":
--- `#` stands for a number, `*` for numbers with a space before each, `%` for numbers with a space between them
+-- `#` stands for a number, `*` for numbers with a space before each, `%` for numbers with a space between them, `?` for
+-- one number with a space before it, or none
 unfoldable pub row_forms : List (List ℕ)
-row_forms = bytes "(graph # #" ∷ bytes "(node # # # (%) (succ*) (pred*))" ∷ bytes "(entry # #)" ∷ bytes "(returns*)" ∷ bytes "(back # #)" ∷ bytes ")" ∷ []
+row_forms = bytes "(graph # #" ∷ bytes "(node # # # (%) (in?) (succ*) (pred*))" ∷ bytes "(entry # #)" ∷ bytes "(returns*)" ∷ bytes "(back # #)" ∷ bytes ")" ∷ []
 
 -- ---- a row read beside a form, byte by byte
 
@@ -35,7 +36,8 @@ outside_step (c ∷ f) b =
     pick (eqb c 35) (begun f b)
     (pick (eqb c 42) (pick (eqb b 32) (some (begins, c ∷ f)) (outside_step f b))
     (pick (eqb c 37) (pick (is_digit b) (begun (42 ∷ f) b) (outside_step f b))
-    (pick (eqb c b) (some (outside, f)) none)))
+    (pick (eqb c 63) (pick (eqb b 32) (some (begins, f)) (outside_step f b))
+    (pick (eqb c b) (some (outside, f)) none))))
 
 -- one more digit of a number: "decimal without leading zeros", "0 to 65535"
 unfoldable pub digit_step : ℕ → List ℕ → ℕ → Option Left
@@ -46,10 +48,10 @@ step outside f b = outside_step f b
 step begins f b = begun f b
 step (inside v) f b = pick (is_digit b) (digit_step v f b) (outside_step f b)
 
--- a row may end where nothing is left but lists
+-- a row may end where nothing is left but lists and a number that may be missing
 unfoldable pub may_end : List ℕ → Bool
 may_end [] = true
-may_end (c ∷ f) = (eqb c 42 || eqb c 37) && may_end f
+may_end (c ∷ f) = (eqb c 42 || (eqb c 37 || eqb c 63)) && may_end f
 
 unfoldable pub ends : At → List ℕ → Bool
 ends outside f = may_end f

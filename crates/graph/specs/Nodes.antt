@@ -14,11 +14,12 @@ pub data NodeStmt : Type 0 where
   simple : Simple → NodeStmt
   cond : CondWord → BranchTarget → BranchTarget → NodeStmt
 
--- a node: line index from 0, line number, path, statement, and where it falls
+-- a node: line index from 0, line number, path, holder, statement, and where it falls
 pub record Node : Type 0 where
   pub line : ℕ
   pub number : ℕ
   pub path : List ℕ
+  pub holder : Option ℕ
   pub stmt : NodeStmt
   pub fall : Option ℕ
 
@@ -30,21 +31,22 @@ branch_target stmts i (s ▸ o) = to_node i
 branch_target stmts i (branching s w t a u b) = to_node i
 branch_target absent i b = falls
 
--- The statements of a list on line li with number n: the first is node i, with the path p and then k; after the last comes e.
+-- The statements of a list on line li with number n: the first is node i, with the path p and then k; after the last comes e; v holds them.
 -- "ids in reading order; an else branch's path numbers go on after the then statements, or from 0 if then is `to`".
+-- "Each node's record gains its holder: the nearest `if`, `ifelse` or `rcomp` whose branch it stands in, or none."
 -- "Falls means: to the next statement of the same list, from a branch's last to what follows its IF".
-unfoldable pub allocate : (li n : ℕ) (p : List ℕ) (i k : ℕ) → Option ℕ → Stmts → List Node
+unfoldable pub allocate : (li n : ℕ) (p : List ℕ) (v : Option ℕ) (i k : ℕ) → Option ℕ → Stmts → List Node
 unfolding size len branch_target
-allocate li n p i k e ∅ = []
-allocate li n p i k e (s ▸ o) =
-    allocate li n p i k (some (i + size s)) s
-    ++ (record { line = li; number = n; path = p ++ ((k + len s) ∷ []); stmt = simple o; fall = e } ∷ [])
-allocate li n p i k e (branching s w t a u b) =
+allocate li n p v i k e ∅ = []
+allocate li n p v i k e (s ▸ o) =
+    allocate li n p v i k (some (i + size s)) s
+    ++ (record { line = li; number = n; path = p ++ ((k + len s) ∷ []); holder = v; stmt = simple o; fall = e } ∷ [])
+allocate li n p v i k e (branching s w t a u b) =
     let j = i + size s in
     let q = p ++ ((k + len s) ∷ []) in
-    allocate li n p i k (some j) s
-    ++ (record { line = li; number = n; path = q; stmt = cond w (branch_target t (suc j) a) (branch_target u (suc j + size a) b); fall = e }
-    ∷ (allocate li n q (suc j) 0 e a ++ allocate li n q (suc j + size a) (len a) e b))
+    allocate li n p v i k (some j) s
+    ++ (record { line = li; number = n; path = q; holder = v; stmt = cond w (branch_target t (suc j) a) (branch_target u (suc j + size a) b); fall = e }
+    ∷ (allocate li n q (some j) (suc j) 0 e a ++ allocate li n q (some j) (suc j + size a) (len a) e b))
 
 -- "a line without statements takes the next line's entry": of a line whose first statement, if it has one, is node i; e is the next line's entry
 unfoldable pub line_entry : ℕ → Stmts → Option ℕ → Option ℕ
@@ -56,7 +58,7 @@ line_entry i (branching s w t a u b) e = some i
 unfoldable pub nodes_before : Option ℕ → Lines → List Node
 unfolding allocate line_entry total count
 nodes_before e nolines = []
-nodes_before e (line ls n s) = nodes_before (line_entry (total ls) s e) ls ++ allocate (count ls) n [] (total ls) 0 e s
+nodes_before e (line ls n s) = nodes_before (line_entry (total ls) s e) ls ++ allocate (count ls) n [] none (total ls) 0 e s
 
 unfoldable pub nodes : Lines → List Node
 unfolding nodes_before

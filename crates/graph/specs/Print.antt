@@ -16,10 +16,10 @@ unfoldable pub joined : List ℕ → List ℕ
 joined [] = []
 joined (n ∷ l) = decimal n ++ spaced l
 
--- "Node: id, line number, line index from 0, path, lists."
+-- "Node: id, line number, line index from 0, path, lists." "Node rows .. print `(in 3)` or `(in)` after the path."
 unfoldable pub node_row : ℕ → Node → List ℕ → List ℕ → List ℕ
 node_row i n ss ps =
-    bytes "(node" ++ spaced (i ∷ n.number ∷ n.line ∷ []) ++ bytes " (" ++ joined n.path ++ bytes ") (succ" ++ spaced ss
+    bytes "(node" ++ spaced (i ∷ n.number ∷ n.line ∷ []) ++ bytes " (" ++ joined n.path ++ bytes ") (in" ++ spaced (list n.holder) ++ bytes ") (succ" ++ spaced ss
     ++ bytes ") (pred" ++ spaced ps ++ bytes "))\n"
 
 unfoldable pub node_rows : List (List ℕ) → ℕ → List Node → List ℕ

@@ -70,6 +70,18 @@ statement_of i (some n) = answer (i, stmt_word n.stmt)
 unfoldable pub ask_statement : Listing → ℕ → Reply (ℕ × List ℕ)
 ask_statement L i = statement_of i (get_elem? (nodes L.lines) i)
 
+-- "Our editor .. asks for the statement around a node": the holder's id and opening word, or none
+unfoldable pub around : List Node → Option ℕ → Option (ℕ × List ℕ)
+around ns none = none
+around ns (some j) = elim (get_elem? ns j) [ none ↦ none | some m ↦ some (j, stmt_word m.stmt) ]
+
+unfoldable pub holder_in : List Node → ℕ → Option Node → Reply (Option (ℕ × List ℕ))
+holder_in ns i none = refused 24 i
+holder_in ns i (some n) = answer (around ns n.holder)
+
+unfoldable pub ask_holder : Listing → ℕ → Reply (Option (ℕ × List ℕ))
+ask_holder L i = holder_in (nodes L.lines) i (get_elem? (nodes L.lines) i)
+
 -- "26 no statement at the path asked (place 0)"
 unfoldable pub found_or : Option (ℕ × List ℕ) → Reply (ℕ × List ℕ)
 found_or none = refused 26 0

@@ -5,9 +5,9 @@ use Rattle.listings.specs.Bytes.{decimal}
 use Rattle.listings.specs.ListingText.{NumberOk}
 use Rattle.graph.specs.Check.{row_forms}
 
--- `#`, `*` and `%`; any other byte of a form stands for itself
+-- `#`, `*`, `%` and `?`; any other byte of a form stands for itself
 unfoldable pub is_sign : ℕ → Bool
-is_sign c = eqb c 35 || (eqb c 42 || eqb c 37)
+is_sign c = eqb c 35 || (eqb c 42 || (eqb c 37 || eqb c 63))
 
 -- a row that a form stands for
 pub data Fills : (form row : List ℕ) → Type 0 where
@@ -23,6 +23,9 @@ pub data Fills : (form row : List ℕ) → Type 0 where
   -- `%`, numbers with a space between them: none, or a first one and more
   none : {f w : List ℕ} → Fills f w → Fills (37 ∷ f) w
   first : {f w : List ℕ} (n : ℕ) → NumberOk n → Fills (42 ∷ f) w → Fills (37 ∷ f) (decimal n ++ w)
+  -- `?`: nothing, or one number with a space before it
+  missing : {f w : List ℕ} → Fills f w → Fills (63 ∷ f) w
+  one : {f w : List ℕ} (n : ℕ) → NumberOk n → Fills f w → Fills (63 ∷ f) (32 ∷ (decimal n ++ w))
 
 -- "a row .. that a graph prints"
 pub record GraphRow (w : List ℕ) : Type 0 where

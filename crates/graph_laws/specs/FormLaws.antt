@@ -12,7 +12,7 @@ use Rattle.listings.specs.Tests.{not_both, both_true, either_true}
 use Rattle.listing_laws.specs.NumberText.{digit_is, decimal_small, decimal_more}
 use Rattle.listings.specs.Every.{All, all[], all∷}
 use Rattle.graph.specs.Check.{row_forms, outside, begins, inside, begun, outside_step, digit_step, step, may_end, ends, fits_from, fits, fits_one, is_graph_row}
-use Rattle.graph_laws.specs.FilledForms.{is_sign, Fills, done, itself, number, no_more, one_more, first, GraphRow}
+use Rattle.graph_laws.specs.FilledForms.{is_sign, Fills, done, itself, number, no_more, one_more, first, missing, one, GraphRow}
 use Rattle.graph_laws.specs.FormRead.{rest, fits-rest, all_filled}
 
 -- ---- what fills a form is found in form, if the form is clear
@@ -42,12 +42,13 @@ neither true y h = absurd (not_both h)
 neither false y h = (refl, h)
 
 -- a byte that stands for itself
-signs : (c : ℕ) → is_sign c ≡ false → (eqb c 35 ≡ false) × (eqb c 42 ≡ false) × (eqb c 37 ≡ false)
+signs : (c : ℕ) → is_sign c ≡ false → (eqb c 35 ≡ false) × (eqb c 42 ≡ false) × (eqb c 37 ≡ false) × (eqb c 63 ≡ false)
 unfolding is_sign
 signs c h =
-    let p = neither (eqb c 35) (eqb c 42 || eqb c 37) h in
-    let q = neither (eqb c 42) (eqb c 37) p.1 in
-    (p.0, q.0, q.1)
+    let p = neither (eqb c 35) (eqb c 42 || (eqb c 37 || eqb c 63)) h in
+    let q = neither (eqb c 42) (eqb c 37 || eqb c 63) p.1 in
+    let s = neither (eqb c 37) (eqb c 63) q.1 in
+    (p.0, q.0, s.0, s.1)
 
 list-ended : {f w : List ℕ} → Fills f w → ends_list f ≡ true → (starts is_digit w ≡ false) × (starts (λ b. eqb b 32) w ≡ false)
 unfolding ends_list starts is_sign is_digit
@@ -60,6 +61,8 @@ list-ended (no_more q) h = absurd (not_both (sym h))
 list-ended (one_more n k q) h = absurd (not_both (sym h))
 list-ended (Fills.none q) h = absurd (not_both (sym h))
 list-ended (first n k q) h = absurd (not_both (sym h))
+list-ended (missing q) h = absurd (not_both (sym h))
+list-ended (one n k q) h = absurd (not_both (sym h))
 
 number_ended : {f w : List ℕ} → Fills f w → ends_number f ≡ true → starts is_digit w ≡ false
 unfolding ends_number starts is_sign
@@ -73,6 +76,8 @@ number_ended (no_more q) h = (list-ended q h).0
 number_ended (one_more n k q) h = unfold is_digit in refl
 number_ended (Fills.none q) h = absurd (not_both (sym h))
 number_ended (first n k q) h = absurd (not_both (sym h))
+number_ended (missing q) h = absurd (not_both (sym h))
+number_ended (one n k q) h = absurd (not_both (sym h))
 
 first_digit : (f w : List ℕ) (d : ℕ) → d < 10 → fits_from begins f ((48 + d) ∷ w) ≡ fits_from (inside d) f w
 unfolding step begun
@@ -161,10 +166,20 @@ unfolding starts fits_from ends step may_end outside_step
 no_first f [] h = refl
 no_first f (b ∷ w) h = fits-rest outside (37 ∷ f) b w ∙ rw h (sym (fits-rest outside f b w))
 
+-- a number that may be missing: it is there, or is not
+at_one : (f w : List ℕ) (n : ℕ) → n ≤ 65535 → starts is_digit w ≡ false → fits_from outside (63 ∷ f) (32 ∷ (decimal n ++ w)) ≡ fits_from outside f w
+unfolding step outside_step
+at_one f w n h e = fits-rest outside (63 ∷ f) 32 (decimal n ++ w) ∙ number_read (suc n) n (omega arith) h f w ∙ after_number_lem n f w e
+
+not_one : (f w : List ℕ) → starts (λ b. eqb b 32) w ≡ false → fits_from outside (63 ∷ f) w ≡ fits_from outside f w
+unfolding starts fits_from ends step may_end outside_step
+not_one f [] h = refl
+not_one f (b ∷ w) h = fits-rest outside (63 ∷ f) b w ∙ rw h (sym (fits-rest outside f b w))
+
 -- a byte that stands for itself
 at_byte : (c : ℕ) (f w : List ℕ) → is_sign c ≡ false → fits_from outside (c ∷ f) (c ∷ w) ≡ fits_from outside f w
 unfolding step outside_step
-at_byte c f w h = let s = signs c h in fits-rest outside (c ∷ f) c w ∙ rw (s.0, s.1, s.2, eq-eqb c c refl)
+at_byte c f w h = let s = signs c h in fits-rest outside (c ∷ f) c w ∙ rw (s.0, s.1, s.2, s.3, eq-eqb c c refl)
 
 fills_fits : {f w : List ℕ} → Fills f w → clear f ≡ true → fits f w ≡ true
 unfolding clear is_sign fits ends_number
@@ -174,6 +189,8 @@ fills_fits (number {f} {w} n k q) h = let p = both_true (ends_number f) (clear f
 fills_fits (no_more {f} {w} q) h = let p = both_true (ends_list f) (clear f) h in after_list f w (list-ended q p.0).1 ∙ fills_fits q p.1
 fills_fits (one_more {f} {w} n k q) h = let p = both_true (ends_list f) (clear f) h in at_more f w n k (number_ended q p.0) ∙ fills_fits q h
 fills_fits (Fills.none {f} {w} q) h = let p = both_true (ends_list f) (clear f) h in no_first f w (list-ended q p.0).0 ∙ fills_fits q p.1
+fills_fits (missing {f} {w} q) h = let p = both_true (ends_list f) (clear f) h in not_one f w (list-ended q p.0).1 ∙ fills_fits q p.1
+fills_fits (one {f} {w} n k q) h = let p = both_true (ends_list f) (clear f) h in at_one f w n k (list-ended q p.0).0 ∙ fills_fits q p.1
 fills_fits (first {f} {w} n k q) h = let p = both_true (ends_list f) (clear f) h in at_first f w n k (number_ended q p.0) ∙ fills_fits q h
 
 -- ---- the forms of a graph's rows

@@ -12,7 +12,7 @@ use Rattle.listings.specs.Rows.{is_digit}
 use Rattle.listings.specs.Tests.{not_both, both_true, either_true}
 use Rattle.listing_laws.specs.NumberText.{digit_range, decimal_small, decimal_more}
 use Rattle.graph.specs.Check.{At, outside, begins, inside, Left, begun, outside_step, digit_step, step, may_end, ends, fits_from}
-use Rattle.graph_laws.specs.FilledForms.{is_sign, Fills, done, itself, number, no_more, one_more, first}
+use Rattle.graph_laws.specs.FilledForms.{is_sign, Fills, done, itself, number, no_more, one_more, first, missing, one}
 
 -- a number, and then what fills f
 pub data Numbered (f : List ℕ) : List ℕ → Type 0 where
@@ -33,10 +33,10 @@ may_end_lem : (f : List ℕ) → may_end f ≡ true → Fills f []
 unfolding may_end
 may_end_lem [] h = done
 may_end_lem (c ∷ f) h =
-    let p = both_true (eqb c 42 || eqb c 37) (may_end f) h in
-    elim (either_true (eqb c 42) (eqb c 37) p.0) [
+    let p = both_true (eqb c 42 || (eqb c 37 || eqb c 63)) (may_end f) h in
+    elim (either_true (eqb c 42) (eqb c 37 || eqb c 63) p.0) [
       | inl e ↦ rw (eqb-true c 42 e) (no_more (may_end_lem f p.1))
-      | inr e ↦ rw (eqb-true c 37 e) (Fills.none (may_end_lem f p.1))
+      | inr d ↦ elim (either_true (eqb c 37) (eqb c 63) d) [ inl e ↦ rw (eqb-true c 37 e) (Fills.none (may_end_lem f p.1)) | inr e ↦ rw (eqb-true c 63 e) (missing (may_end_lem f p.1)) ]
     ]
 
 -- a digit is the text of a number
@@ -46,9 +46,9 @@ digit_text b h =
     let e : 48 + (b - 48) ≡ b = omega arith in
     (omega arith, sym (decimal_small (b - 48) (omega arith) ∙ ap (λ (z : ℕ). z ∷ []) e))
 
-no_sign : (c : ℕ) → eqb c 35 ≡ false → eqb c 42 ≡ false → eqb c 37 ≡ false → is_sign c ≡ false
+no_sign : (c : ℕ) → eqb c 35 ≡ false → eqb c 42 ≡ false → eqb c 37 ≡ false → eqb c 63 ≡ false → is_sign c ≡ false
 unfolding is_sign
-no_sign c p q s = rw (p, q, s)
+no_sign c p q s t = rw (p, q, s, t)
 
 -- the byte b and then w, where w is read as it should
 module _ (b : ℕ) (w : List ℕ) (h : (a : At) (f : List ℕ) → fits_from a f w ≡ true → Filled a f w) where
@@ -78,7 +78,7 @@ module _ (b : ℕ) (w : List ℕ) (h : (a : At) (f : List ℕ) → fits_from a f
   outside_filled : (f : List ℕ) → rest w (outside_step f b) ≡ true → Fills f (b ∷ w)
   unfolding outside_step
   outside_filled [] e = absurd (not_both (sym e))
-  outside_filled (c ∷ f) e = go (eqb c 35) (eqb c 42) (eqb c 37) (eqb c b) refl refl refl refl e (outside_filled f)
+  outside_filled (c ∷ f) e = go (eqb c 35) (eqb c 42) (eqb c 37) (eqb c 63) (eqb c b) refl refl refl refl refl e (outside_filled f)
     where
       numbered : {u : List ℕ} → Numbered f u → Fills (35 ∷ f) u
       numbered (then n k q) = number n k q
@@ -99,18 +99,28 @@ module _ (b : ℕ) (w : List ℕ) (h : (a : At) (f : List ℕ) → fits_from a f
       in_numbers true k e r = first_one (begun_filled (42 ∷ f) e)
       in_numbers false k e r = Fills.none (r e)
 
-      go : (x y z v : Bool) → eqb c 35 ≡ x → eqb c 42 ≡ y → eqb c 37 ≡ z → eqb c b ≡ v
+      one_lem : {u : List ℕ} → Numbered f u → Fills (63 ∷ f) (32 ∷ u)
+      one_lem (then n k q) = one n k q
+
+      in_one : (x : Bool) → eqb b 32 ≡ x → rest w (pick x (some (begins, f)) (outside_step f b)) ≡ true
+          → (rest w (outside_step f b) ≡ true → Fills f (b ∷ w)) → Fills (63 ∷ f) (b ∷ w)
+      in_one true k e r = rw (eqb-true b 32 k) (one_lem (h begins f e))
+      in_one false k e r = missing (r e)
+
+      go : (x y z u v : Bool) → eqb c 35 ≡ x → eqb c 42 ≡ y → eqb c 37 ≡ z → eqb c 63 ≡ u → eqb c b ≡ v
           → rest w
           (pick x (begun f b)
           (pick y (pick (eqb b 32) (some (begins, c ∷ f)) (outside_step f b))
           (pick z (pick (is_digit b) (begun (42 ∷ f) b) (outside_step f b))
-          (pick v (some (outside, f)) none)))) ≡ true
+          (pick u (pick (eqb b 32) (some (begins, f)) (outside_step f b))
+          (pick v (some (outside, f)) none))))) ≡ true
           → (rest w (outside_step f b) ≡ true → Fills f (b ∷ w)) → Fills (c ∷ f) (b ∷ w)
-      go true y z v p q s t e r = rw (eqb-true c 35 p) (numbered (begun_filled f e))
-      go false true z v p q s t e r = in_list (eqb b 32) refl (eqb-true c 42 q) e r
-      go false false true v p q s t e r = rw (eqb-true c 37 s) (in_numbers (is_digit b) refl e r)
-      go false false false true p q s t e r = subst (λ (z : ℕ). Fills (c ∷ f) (z ∷ w)) (eqb-true c b t) (itself c (no_sign c p q s) (h outside f e))
-      go false false false false p q s t e r = absurd (not_both (sym e))
+      go true y z u v p q s o t e r = rw (eqb-true c 35 p) (numbered (begun_filled f e))
+      go false true z u v p q s o t e r = in_list (eqb b 32) refl (eqb-true c 42 q) e r
+      go false false true u v p q s o t e r = rw (eqb-true c 37 s) (in_numbers (is_digit b) refl e r)
+      go false false false true v p q s o t e r = rw (eqb-true c 63 o) (in_one (eqb b 32) refl e r)
+      go false false false false true p q s o t e r = subst (λ (z : ℕ). Fills (c ∷ f) (z ∷ w)) (eqb-true c b t) (itself c (no_sign c p q s o) (h outside f e))
+      go false false false false false p q s o t e r = absurd (not_both (sym e))
 
 pub fits-rest : (a : At) (f : List ℕ) (b : ℕ) (w : List ℕ) → fits_from a f (b ∷ w) ≡ rest w (step a f b)
 unfolding fits_from

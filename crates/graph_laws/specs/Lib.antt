@@ -8,6 +8,7 @@ pub mod NodeRecords
 pub mod TargetLaws
 pub mod EdgeBounds
 pub mod GraphLaws
+pub mod Holders
 pub mod ReturnLists
 pub mod RunLaws
 pub mod PerNode

@@ -6,7 +6,7 @@ use Rattle.listings.specs.Bytes.{pick}
 use Rattle.listings.specs.Listing.{Stmts, ∅, ◌▸◌, branching, Lines, nolines, line, Listing, size, len, total, count}
 use Rattle.listings.specs.ListingText.{StmtsOk, LinesOk}
 use Rattle.listings.specs.Every.{All, all[], all∷, all_append}
-use Rattle.graph.specs.Lists.{has, below}
+use Rattle.graph.specs.Lists.{has, below, list}
 use Rattle.graph.specs.Nodes.{Node, allocate, line_entry, nodes_before, nodes, entries_before}
 use Rattle.graph.specs.Graph.{wire, predecessors_in}
 use Rattle.graph_laws.specs.Members.{all_map}
@@ -26,6 +26,7 @@ pub record NodeShort (n : Node) : Type 0 where
   pub line_ok : n.line < 1024
   pub path_ok : All Small n.path
   pub path_short : length n.path ≤ 17
+  pub holder_ok : All Small (list n.holder)
 
 len-size : (s : Stmts) → len s ≤ size s
 unfolding len size
@@ -34,29 +35,29 @@ len-size (s ▸ o) = omega (arith, len-size s)
 len-size (branching s w t a u b) = omega (arith, len-size s)
 
 -- statements at depth d, of a line with number n and index li; a path number is below the count of statements
-stmts_nodes : (d li n : ℕ) (p : List ℕ) (i k : ℕ) (e : Option ℕ) (s : Stmts) → StmtsOk d s → n ≤ 65535 → li < 1024 → All Small p → length p ≤ d → k + size s ≤ 4096
-    → All NodeShort (allocate li n p i k e s)
-unfolding allocate StmtsOk size
-stmts_nodes d li n p i k e ∅ ok hn hl hp h f = all[]
-stmts_nodes d li n p i k e (s ▸ o) ok hn hl hp h f =
+stmts_nodes : (d li n : ℕ) (p : List ℕ) (v : Option ℕ) (i k : ℕ) (e : Option ℕ) (s : Stmts) → StmtsOk d s → n ≤ 65535 → li < 1024 → All Small p → length p ≤ d → k + size s ≤ 4096 → i + size s ≤ 4096 → All Small (list v)
+    → All NodeShort (allocate li n p v i k e s)
+unfolding allocate StmtsOk size list
+stmts_nodes d li n p v i k e ∅ ok hn hl hp h f g held = all[]
+stmts_nodes d li n p v i k e (s ▸ o) ok hn hl hp h f g held =
     let q : All Small (p ++ ((k + len s) ∷ [])) = all_append hp (all∷ (omega (arith, len-size s)) all[]) in
-    all_append (stmts_nodes d li n p i k (some (i + size s)) s ok.0 hn hl hp h (omega arith))
-    (all∷ (record { number_ok = hn; line_ok = hl; path_ok = q; path_short = omega (arith, length-append p ((k + len s) ∷ []), ok.1) }) all[])
-stmts_nodes d li n p i k e (branching s w t a u b) ok hn hl hp h f =
+    all_append (stmts_nodes d li n p v i k (some (i + size s)) s ok.0 hn hl hp h (omega arith) (omega arith) held)
+    (all∷ (record { number_ok = hn; line_ok = hl; path_ok = q; path_short = omega (arith, length-append p ((k + len s) ∷ []), ok.1); holder_ok = held }) all[])
+stmts_nodes d li n p v i k e (branching s w t a u b) ok hn hl hp h f g held =
     let j = i + size s in
     let q : All Small (p ++ ((k + len s) ∷ [])) = all_append hp (all∷ (omega (arith, len-size s)) all[]) in
-    let g : length (p ++ ((k + len s) ∷ [])) ≤ suc d = omega (arith, length-append p ((k + len s) ∷ [])) in
-    all_append (stmts_nodes d li n p i k (some j) s ok.0 hn hl hp h (omega arith))
-    (all∷ (record { number_ok = hn; line_ok = hl; path_ok = q; path_short = omega (arith, g, ok.1) })
-    (all_append (stmts_nodes (suc d) li n _ (suc j) 0 e a ok.3 hn hl q g (omega arith))
-    (stmts_nodes (suc d) li n _ (suc j + size a) (len a) e b ok.4 hn hl q g (omega (arith, len-size a)))))
+    let m : length (p ++ ((k + len s) ∷ [])) ≤ suc d = omega (arith, length-append p ((k + len s) ∷ [])) in
+    all_append (stmts_nodes d li n p v i k (some j) s ok.0 hn hl hp h (omega arith) (omega arith) held)
+    (all∷ (record { number_ok = hn; line_ok = hl; path_ok = q; path_short = omega (arith, m, ok.1); holder_ok = held })
+    (all_append (stmts_nodes (suc d) li n _ (some j) (suc j) 0 e a ok.3 hn hl q m (omega arith) (omega arith) (all∷ {a = j} (omega arith) all[]))
+    (stmts_nodes (suc d) li n _ (some j) (suc j + size a) (len a) e b ok.4 hn hl q m (omega (arith, len-size a)) (omega arith) (all∷ {a = j} (omega arith) all[]))))
 
 lines_nodes : (e : Option ℕ) (ls : Lines) → LinesOk ls → count ls ≤ 1024 → total ls ≤ 4096 → All NodeShort (nodes_before e ls)
-unfolding nodes_before LinesOk total count
+unfolding nodes_before LinesOk total count list
 lines_nodes e nolines ok hc ht = all[]
 lines_nodes e (line ls n s) ok hc ht =
     all_append (lines_nodes (line_entry (total ls) s e) ls ok.0 (omega arith) (omega arith))
-    (stmts_nodes 0 (count ls) n [] (total ls) 0 e s ok.3 ok.1 (omega arith) all[] (omega arith) (omega arith))
+    (stmts_nodes 0 (count ls) n [] none (total ls) 0 e s ok.3 ok.1 (omega arith) all[] (omega arith) (omega arith) (omega arith) all[])
 
 -- ---- lists
 

@@ -9,21 +9,21 @@ use Rattle.graph.specs.Lists.{list}
 use Rattle.graph_laws.specs.Members.{all-each}
 use Rattle.graph.specs.Nodes.{BranchTarget, to_line, to_node, falls, NodeStmt, simple, cond, Node, branch_target, allocate, line_entry, nodes_before, LineEntry, Entries, entries_before, first_entry, all_entries, entries, entry_in, entry_of}
 
-pub length-allocate : (li n : ℕ) (p : List ℕ) (i k : ℕ) (e : Option ℕ) (s : Stmts) → length (allocate li n p i k e s) ≡ size s
+pub length-allocate : (li n : ℕ) (p : List ℕ) (v : Option ℕ) (i k : ℕ) (e : Option ℕ) (s : Stmts) → length (allocate li n p v i k e s) ≡ size s
 unfolding allocate size
-length-allocate li n p i k e ∅ = refl
-length-allocate li n p i k e (s ▸ o) = simp length-append (omega (arith, length-allocate li n p i k (some (i + size s)) s))
-length-allocate li n p i k e (branching s w t a u b) =
+length-allocate li n p v i k e ∅ = refl
+length-allocate li n p v i k e (s ▸ o) = simp length-append (omega (arith, length-allocate li n p v i k (some (i + size s)) s))
+length-allocate li n p v i k e (branching s w t a u b) =
     let q = p ++ ((k + len s) ∷ []) in
     let j = i + size s in
     simp length-append
-    (omega (arith, length-allocate li n p i k (some j) s, length-allocate li n q (suc j) 0 e a, length-allocate li n q (suc j + size a) (len a) e b))
+    (omega (arith, length-allocate li n p v i k (some j) s, length-allocate li n q (some j) (suc j) 0 e a, length-allocate li n q (some j) (suc j + size a) (len a) e b))
 
 pub length-nodes : (e : Option ℕ) (ls : Lines) → length (nodes_before e ls) ≡ total ls
 unfolding nodes_before total
 length-nodes e nolines = refl
 length-nodes e (line ls n s) =
-    simp length-append (omega (arith, length-nodes (line_entry (total ls) s e) ls, length-allocate (count ls) n [] (total ls) 0 e s))
+    simp length-append (omega (arith, length-nodes (line_entry (total ls) s e) ls, length-allocate (count ls) n [] none (total ls) 0 e s))
 
 -- a node, where there is one, is below n
 abbrev pub Below : ℕ → Option ℕ → Type 0
@@ -53,16 +53,16 @@ target_fits n stmts i (s ▸ o) h = omega arith
 target_fits n stmts i (branching s w t a u b) h = omega arith
 target_fits n absent i b h = tt
 
-allocate-fits : (n li m : ℕ) (p : List ℕ) (i k : ℕ) (e : Option ℕ) (s : Stmts) → Below n e → i + size s ≤ n → All (NodeFits n) (allocate li m p i k e s)
+allocate-fits : (n li m : ℕ) (p : List ℕ) (v : Option ℕ) (i k : ℕ) (e : Option ℕ) (s : Stmts) → Below n e → i + size s ≤ n → All (NodeFits n) (allocate li m p v i k e s)
 unfolding allocate size
-allocate-fits n li m p i k e ∅ be h = all[]
-allocate-fits n li m p i k e (s ▸ o) be h = all_append (allocate-fits n li m p i k (some (i + size s)) s (omega arith) (omega arith)) (all∷ (be, tt) all[])
-allocate-fits n li m p i k e (branching s w t a u b) be h =
+allocate-fits n li m p v i k e ∅ be h = all[]
+allocate-fits n li m p v i k e (s ▸ o) be h = all_append (allocate-fits n li m p v i k (some (i + size s)) s (omega arith) (omega arith)) (all∷ (be, tt) all[])
+allocate-fits n li m p v i k e (branching s w t a u b) be h =
     let j = i + size s in
     let q = p ++ ((k + len s) ∷ []) in
-    all_append (allocate-fits n li m p i k (some j) s (omega arith) (omega arith))
+    all_append (allocate-fits n li m p v i k (some j) s (omega arith) (omega arith))
     (all∷ (be, (target_fits n t (suc j) a (omega arith), target_fits n u (suc j + size a) b (omega arith)))
-    (all_append (allocate-fits n li m q (suc j) 0 e a be (omega arith)) (allocate-fits n li m q (suc j + size a) (len a) e b be (omega arith))))
+    (all_append (allocate-fits n li m q (some j) (suc j) 0 e a be (omega arith)) (allocate-fits n li m q (some j) (suc j + size a) (len a) e b be (omega arith))))
 
 line_fits : (n i : ℕ) (s : Stmts) (e : Option ℕ) → i + size s ≤ n → Below n e → Below n (line_entry i s e)
 unfolding line_entry size
@@ -74,7 +74,7 @@ pub nodes_fit : (n : ℕ) (e : Option ℕ) (ls : Lines) → total ls ≤ n → B
 unfolding nodes_before total
 nodes_fit n e nolines h be = all[]
 nodes_fit n e (line ls m s) h be =
-    all_append (nodes_fit n (line_entry (total ls) s e) ls (omega arith) (line_fits n (total ls) s e h be)) (allocate-fits n (count ls) m [] (total ls) 0 e s be h)
+    all_append (nodes_fit n (line_entry (total ls) s e) ls (omega arith) (line_fits n (total ls) s e h be)) (allocate-fits n (count ls) m [] none (total ls) 0 e s be h)
 
 rows_fit : (n : ℕ) (e : Option ℕ) (ls : Lines) → total ls ≤ n → Below n e → All (EntryFits n) (entries_before e ls)
 unfolding entries_before total

@@ -8,6 +8,7 @@ use Rattle.listings.specs.Listing.{Simple, CondWord, BranchForm, to, stmts, abse
 use Rattle.listings.specs.ListingText.{simple_word, cond_word}
 use Rattle.listings.specs.WordTable.{word_index}
 use Rattle.listings.specs.Records.{Rec, args_of, detail_of, branch_number, branch_line, simple_rec, cond_rec, stmt_recs, line_recs}
+use Rattle.graph_laws.specs.Adding.{node_number}
 use Rattle.graph_laws.specs.NodeLaws.{length-allocate, length-nodes}
 use Rattle.graph.specs.Nodes.{NodeStmt, simple, cond, Node, branch_target, allocate, line_entry, nodes_before}
 
@@ -28,6 +29,7 @@ StmtIs i (cond w x y) r =
 pub record RecOf (i : ℕ) (n : Node) (r : Rec) : Type 0 where
   pub word_is : r.word ≡ stmt_number n.stmt
   pub line_is : r.line ≡ n.line
+  pub holder_is : r.holder ≡ node_number n.holder
   pub stmt_is : StmtIs i n.stmt r
 
 -- the nodes and the records of a listing, side by side from node i on
@@ -44,27 +46,28 @@ match_at match[] k n e = absurd (let z : ◌≡◌ {A = ℕ} 0 1 = cc in omega a
 match_at {i} (match∷ {n = m} {r = r} p ps) zero n e = let q : m ≡ n = cc in let z : i ≡ i + 0 = omega arith in (r, refl, rw (← q, ← z) p)
 match_at {i} (match∷ p ps) (suc k) n e = let q : suc i + k ≡ i + suc k = omega arith in let s = match_at ps k n e in (s.0, s.1, rw q at s.2)
 
-stmts_match : (li n : ℕ) (p : List ℕ) (h i k m : ℕ) (e : Option ℕ) (s : Stmts) → Match i (allocate li n p i k e s) (stmt_recs li h m i s)
+stmts_match : (li n : ℕ) (p : List ℕ) (v : Option ℕ) (i k m : ℕ) (e : Option ℕ) (s : Stmts) → Match i (allocate li n p v i k e s) (stmt_recs li (node_number v) m i s)
 unfolding allocate stmt_recs stmt_number stmt_word simple_rec cond_rec
-stmts_match li n p h i k m e ∅ = match[]
-stmts_match li n p h i k m e (s ▸ o) =
-    match_append (stmts_match li n p h i k m (some (i + size s)) s) (rw (length-allocate li n p i k (some (i + size s)) s) refl)
-    (match∷ (record { word_is = refl; line_is = refl; stmt_is = (refl, refl, refl) }) match[])
-stmts_match li n p h i k m e (branching s w t a u b) =
+stmts_match li n p v i k m e ∅ = match[]
+stmts_match li n p v i k m e (s ▸ o) =
+    match_append (stmts_match li n p v i k m (some (i + size s)) s) (rw (length-allocate li n p v i k (some (i + size s)) s) refl)
+    (match∷ (record { word_is = refl; line_is = refl; holder_is = refl; stmt_is = (refl, refl, refl) }) match[])
+stmts_match li n p v i k m e (branching s w t a u b) =
     let j = i + size s in
     let q = p ++ ((k + len s) ∷ []) in
-    match_append (stmts_match li n p h i k m (some j) s) (rw (length-allocate li n p i k (some j) s) refl)
+    match_append (stmts_match li n p v i k m (some j) s) (rw (length-allocate li n p v i k (some j) s) refl)
     (match∷
     (record {
       word_is = refl;
       line_is = refl;
+      holder_is = refl;
       stmt_is = (t, a, u, b, refl, refl, record { form_is = refl; number_is = refl; next_is = refl }, record { form_is = refl; number_is = refl; next_is = refl });
     })
-    (match_append (stmts_match li n q (suc j) (suc j) 0 0 e a) (rw (length-allocate li n q (suc j) 0 e a) refl)
-    (stmts_match li n q (suc j) (suc j + size a) (len a) (len a) e b)))
+    (match_append (stmts_match li n q (some j) (suc j) 0 0 e a) (rw (length-allocate li n q (some j) (suc j) 0 e a) refl)
+    (stmts_match li n q (some j) (suc j + size a) (len a) (len a) e b)))
 
 pub lines_match : (e : Option ℕ) (ls : Lines) → Match 0 (nodes_before e ls) (line_recs ls)
 unfolding nodes_before line_recs
 lines_match e nolines = match[]
 lines_match e (line ls n s) =
-    match_append (lines_match (line_entry (total ls) s e) ls) (rw (length-nodes (line_entry (total ls) s e) ls) (omega arith)) (stmts_match (count ls) n [] 0 (total ls) 0 0 e s)
+    match_append (lines_match (line_entry (total ls) s e) ls) (rw (length-nodes (line_entry (total ls) s e) ls) (omega arith)) (stmts_match (count ls) n [] none (total ls) 0 0 e s)

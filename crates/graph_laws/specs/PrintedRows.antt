@@ -26,9 +26,9 @@ use Rattle.graph_laws.specs.NodeLaws.{EntryFits}
 use Rattle.graph_laws.specs.EdgeBounds.{Ids}
 use Rattle.graph_laws.specs.GraphLaws.{node_count, few_lists, entry_ids, continuation-ids, target-ids, lists_ok}
 use Rattle.graph_laws.specs.NodeBounds.{Small, NodeShort, all_get, pred_ids, below_all, entry_numbers, below-le, all_both, node_count_lem, small, nodes-short}
-use Rattle.graph_laws.specs.FilledForms.{is_sign, Fills, done, itself, number, no_more, one_more, first}
+use Rattle.graph_laws.specs.FilledForms.{is_sign, Fills, done, itself, number, no_more, one_more, first, missing, one}
 use Rattle.graph_laws.specs.FormLaws.{form_exactly}
-use Rattle.graph_laws.specs.RowParts.{part-append, bytes_part, numbers_part, list_part, path_part, GraphRows, no_rows, rows_append, rows-each, one_row}
+use Rattle.graph_laws.specs.RowParts.{part-append, bytes_part, numbers_part, list_part, path_part, holder_part, GraphRows, no_rows, rows_append, rows-each, one_row}
 
 -- ---- the rows of a graph
 
@@ -51,10 +51,12 @@ node_row_lem i n ss ps h r hs hp =
     (part-append (numbers_part (all∷ {a = i} (omega arith) (all∷ r.number_ok (all∷ {a = n.line} (omega (arith, r.line_ok)) all[]))))
     (part-append (bytes_part (bytes " (") refl)
     (part-append (path_part (small_ok r.path_ok))
+    (part-append (bytes_part (bytes ") (in") refl)
+    (part-append (holder_part n.holder (small_ok r.holder_ok))
     (part-append (bytes_part (bytes ") (succ") refl)
     (part-append (list_part (small_ok hs))
     (part-append (bytes_part (bytes ") (pred") refl)
-    (part-append (list_part (small_ok hp)) (bytes_part (bytes "))") refl)))))))))
+    (part-append (list_part (small_ok hp)) (bytes_part (bytes "))") refl)))))))))))
     (node_row i n ss ps)
     (simp append_assoc)
 
@@ -155,6 +157,8 @@ filled_row (no_more r) h = filled_row r h
 filled_row (one_more {w = w} n k r) h = after-decimal n w (filled_row r h)
 filled_row (Fills.none r) h = filled_row r h
 filled_row (first {w = w} n k r) h = after-decimal n w (filled_row r h)
+filled_row (missing r) h = filled_row r h
+filled_row (one {w = w} n k r) h = after-decimal n w (filled_row r h)
 
 forms-rows : All (λ (f : List ℕ). no_newline f ≡ true) row_forms
 unfolding row_forms bytes no_newline all

@@ -2,17 +2,17 @@
 use Rattle.std.specs.Prelude.{ℕ, ◌≡◌, refl, true, not}
 use Rattle.std.proofs.Common.{sym, ap, ◌∙◌}
 use mathlib.Core.List.{List, [], ◌∷◌, ◌++◌, append_assoc, append-nil, Memᴰ}
-use Rattle.std.proofs.Math.Option.{none}
+use Rattle.std.proofs.Math.Option.{Option, none, some}
 use Rattle.std.proofs.lemmas.Bool.{not-true}
 use Rattle.listings.specs.Bytes.{decimal}
 use Rattle.listings.specs.Rows.{all}
 use Rattle.listings.specs.ListingText.{text_of, NumberOk}
 use Rattle.listings.specs.Tests.{both_true}
 use Rattle.listings.specs.Every.{All, all[], all∷, all_append}
-use Rattle.graph.specs.Lists.{each}
+use Rattle.graph.specs.Lists.{each, list}
 use Rattle.graph.specs.Print.{spaced, joined}
 use Rattle.graph.specs.Check.{row_forms}
-use Rattle.graph_laws.specs.FilledForms.{is_sign, Fills, done, itself, number, no_more, one_more, first, GraphRow}
+use Rattle.graph_laws.specs.FilledForms.{is_sign, Fills, done, itself, number, no_more, one_more, first, missing, one, GraphRow}
 
 -- ---- parts of a row
 
@@ -54,6 +54,12 @@ path_part all[] = record { before = λ f w r. Fills.none r }
 path_part (all∷ {a = n} {l = l} h hs) =
     let k = list_part hs in
     record { before = λ f w r. rw (append_assoc (decimal n) (spaced l) w) (first n h (k.before f w r)) }
+
+-- one number, or none
+pub holder_part : (o : Option ℕ) → All NumberOk (list o) → Part (63 ∷ []) (spaced (list o))
+unfolding spaced each list
+holder_part none h = record { before = λ f w r. missing r }
+holder_part (some n) (all∷ h all[]) = record { before = λ f w r. rw (append-nil (decimal n)) (one n h r) }
 
 -- ---- rows, one after the other
 

@@ -276,9 +276,9 @@ module _ (entries : List ℕ) (k : ℕ) (rows t : List ℕ) (es : Entries) (ns :
       let w = con es et 0 refl s sp ok.3 (omega arith) in
       let F = falls_of es from next s in
       let ff : falls_of es (total ls) (node_number e) s ≡ F = rw (f, en) in
-      let nf : fall_rows es (nodes_before d ls ++ allocate (count ls) n [] (total ls) 0 e s) ≡ fall_rows es (nodes_before d ls) ++ F
-      = rows_append es (nodes_before d ls) (allocate (count ls) n [] (total ls) 0 e s)
-      ∙ ap (λ (y : List ℕ). fall_rows es (nodes_before d ls) ++ y) (falls-nodes es (count ls) n [] (total ls) 0 e s ∙ ff) in
+      let nf : fall_rows es (nodes_before d ls ++ allocate (count ls) n [] none (total ls) 0 e s) ≡ fall_rows es (nodes_before d ls) ++ F
+      = rows_append es (nodes_before d ls) (allocate (count ls) n [] none (total ls) 0 e s)
+      ∙ ap (λ (y : List ℕ). fall_rows es (nodes_before d ls) ++ y) (falls-nodes es (count ls) n [] none (total ls) 0 e s ∙ ff) in
       let lf : total (line ls n s) * 3 ≡ from * 3 + length F = omega (arith, falls-length es from next s) in (
         w.done,
         record {

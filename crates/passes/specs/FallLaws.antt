@@ -30,14 +30,14 @@ row_more : (es : Entries) (n : Node) (l : List Node) → fall_rows es (n ∷ l) 
 unfolding fall_rows
 row_more es n l = refl
 
-pub falls-nodes : (es : Entries) (li n : ℕ) (p : List ℕ) (i k : ℕ) (e : Option ℕ) (s : Stmts) → fall_rows es (allocate li n p i k e s) ≡ falls_of es i (node_number e) s
+pub falls-nodes : (es : Entries) (li n : ℕ) (p : List ℕ) (v : Option ℕ) (i k : ℕ) (e : Option ℕ) (s : Stmts) → fall_rows es (allocate li n p v i k e s) ≡ falls_of es i (node_number e) s
 unfolding allocate falls_of fall_row stmt_row head_row fall_rows
-falls-nodes es li n p i k e ∅ = refl
-falls-nodes es li n p i k e (s ▸ o) = rw (rows_append es, falls-nodes es li n p i k (some (i + size s)) s)
-falls-nodes es li n p i k e (branching s w t a u b) =
+falls-nodes es li n p v i k e ∅ = refl
+falls-nodes es li n p v i k e (s ▸ o) = rw (rows_append es, falls-nodes es li n p v i k (some (i + size s)) s)
+falls-nodes es li n p v i k e (branching s w t a u b) =
     let j = i + size s in
     let q = p ++ ((k + len s) ∷ []) in
-    rw (rows_append es, falls-nodes es li n p i k (some j) s, rows_append es, falls-nodes es li n q (suc j) 0 e a, falls-nodes es li n q (suc j + size a) (len a) e b)
+    rw (rows_append es, falls-nodes es li n p v i k (some j) s, rows_append es, falls-nodes es li n q (some j) (suc j) 0 e a, falls-nodes es li n q (some j) (suc j + size a) (len a) e b)
 
 pub row_width : (es : Entries) (i e : ℕ) (h : Head) → ◌≡◌ {A = ℕ} (length (head_row es i e h)) 3
 unfolding head_row

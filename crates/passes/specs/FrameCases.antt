@@ -9,7 +9,7 @@ use Rattle.graph_laws.specs.PerNode.{no_openers, for_openers_after, openers_afte
 use Rattle.passes.specs.Frames.{either_met, frame_met, met_number, closes_frame, is_else_of, first_where, next_where, met_entry, do_met_of, else_entry, frame_row, frame_rows}
 
 abbrev rows_of : List BlockWord → List ℕ
-rows_of l = frame_rows (facts 0 (map (λ w. record { line = 0; number = 10; path = []; stmt = simple (block w); fall = none }) l) no_openers)
+rows_of l = frame_rows (facts 0 (map (λ w. record { line = 0; number = 10; path = []; holder = none; stmt = simple (block w); fall = none }) l) no_openers)
 
 record Cases : Type 0 where
   -- C5 and C6

@@ -45,20 +45,20 @@ StmtOk (cond w a b) = Unit {0}
 abbrev NodeOk : Node → Type 0
 NodeOk n = StmtOk n.stmt
 
-stmts_ok : (d li n : ℕ) (p : List ℕ) (i k : ℕ) (e : Option ℕ) (s : Stmts) → StmtsOk d s → All NodeOk (allocate li n p i k e s)
+stmts_ok : (d li n : ℕ) (p : List ℕ) (v : Option ℕ) (i k : ℕ) (e : Option ℕ) (s : Stmts) → StmtsOk d s → All NodeOk (allocate li n p v i k e s)
 unfolding allocate StmtsOk
-stmts_ok d li n p i k e ∅ ok = all[]
-stmts_ok d li n p i k e (s ▸ o) ok = all_append (stmts_ok d li n p i k (some (i + size s)) s ok.0) (all∷ ok.2 all[])
-stmts_ok d li n p i k e (branching s w t a u b) ok =
+stmts_ok d li n p v i k e ∅ ok = all[]
+stmts_ok d li n p v i k e (s ▸ o) ok = all_append (stmts_ok d li n p v i k (some (i + size s)) s ok.0) (all∷ ok.2 all[])
+stmts_ok d li n p v i k e (branching s w t a u b) ok =
     let j = i + size s in
     let q = p ++ ((k + len s) ∷ []) in
-    all_append (stmts_ok d li n p i k (some j) s ok.0)
-    (all∷ tt (all_append (stmts_ok (suc d) li n q (suc j) 0 e a ok.3) (stmts_ok (suc d) li n q (suc j + size a) (len a) e b ok.4)))
+    all_append (stmts_ok d li n p v i k (some j) s ok.0)
+    (all∷ tt (all_append (stmts_ok (suc d) li n q (some j) (suc j) 0 e a ok.3) (stmts_ok (suc d) li n q (some j) (suc j + size a) (len a) e b ok.4)))
 
 nodes_ok : (e : Option ℕ) (ls : Lines) → LinesOk ls → All NodeOk (nodes_before e ls)
 unfolding nodes_before LinesOk
 nodes_ok e nolines ok = all[]
-nodes_ok e (line ls n s) ok = all_append (nodes_ok (line_entry (total ls) s e) ls ok.0) (stmts_ok 0 (count ls) n [] (total ls) 0 e s ok.3)
+nodes_ok e (line ls n s) ok = all_append (nodes_ok (line_entry (total ls) s e) ls ok.0) (stmts_ok 0 (count ls) n [] none (total ls) 0 e s ok.3)
 
 -- ---- a record as its node's
 

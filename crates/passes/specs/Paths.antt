@@ -17,6 +17,7 @@ use Rattle.listing_laws.specs.RecordLaws.{rec_at}
 use Rattle.listing_laws.specs.ReadingRecords.{numbers-count}
 use Rattle.graph_laws.specs.Members.{all-at, all_map}
 use Rattle.graph.specs.Nodes.{Node, allocate, line_entry, nodes_before}
+use Rattle.graph_laws.specs.Adding.{node_number}
 use Rattle.graph_laws.specs.NodeLaws.{length-allocate, length-nodes}
 use Rattle.graph.specs.NodeWords.{stmt_number}
 use Rattle.graph_laws.specs.NodeRecords.{match_at, lines_match}
@@ -57,26 +58,26 @@ module _ {P : ℕ → List ℕ} where
   paths_at {i} (paths∷ p ps) (suc k) n e = let q : suc i + k ≡ i + suc k = omega arith in let s = paths_at ps k n e in (s.0, s.1, rw q at s.2)
 
   -- a list whose paths begin with p, which is the path of its holder
-  stmts_paths : (li n : ℕ) (p : List ℕ) (h i k : ℕ) (e : Option ℕ) (s : Stmts) → p ≡ held_by P h → h ≤ i → PathsOf P i (allocate li n p i k e s) → PathMatch P i (allocate li n p i k e s) (stmt_recs li h k i s)
+  stmts_paths : (li n : ℕ) (p : List ℕ) (v : Option ℕ) (h i k : ℕ) (e : Option ℕ) (s : Stmts) → p ≡ held_by P h → h ≤ i → PathsOf P i (allocate li n p v i k e s) → PathMatch P i (allocate li n p v i k e s) (stmt_recs li h k i s)
   unfolding allocate stmt_recs simple_rec cond_rec
-  stmts_paths li n p h i k e ∅ q l a = paths[]
-  stmts_paths li n p h i k e (s ▸ o) q l a =
-      let x = paths_split P i (allocate li n p i k (some (i + size s)) s) _ a in
-      let f = length-allocate li n p i k (some (i + size s)) s in
-      paths_append {j = i + size s} (stmts_paths li n p h i k (some (i + size s)) s q l x.0) (rw f refl)
+  stmts_paths li n p v h i k e ∅ q l a = paths[]
+  stmts_paths li n p v h i k e (s ▸ o) q l a =
+      let x = paths_split P i (allocate li n p v i k (some (i + size s)) s) _ a in
+      let f = length-allocate li n p v i k (some (i + size s)) s in
+      paths_append {j = i + size s} (stmts_paths li n p v h i k (some (i + size s)) s q l x.0) (rw f refl)
       (paths∷ (record { path_is = ap (λ (y : List ℕ). y ++ ((k + len s) ∷ [])) q; held = omega arith }) paths[])
-  stmts_paths li n p h i k e (branching s w t a u b) q l c =
+  stmts_paths li n p v h i k e (branching s w t a u b) q l c =
       let j = i + size s in
-      let v = p ++ ((k + len s) ∷ []) in
-      let f = length-allocate li n p i k (some j) s in
-      let x = paths_split P i (allocate li n p i k (some j) s) _ c in
+      let path = p ++ ((k + len s) ∷ []) in
+      let f = length-allocate li n p v i k (some j) s in
+      let x = paths_split P i (allocate li n p v i k (some j) s) _ c in
       let y = rw f at x.1 in
-      let z = paths_split P (suc j) (allocate li n v (suc j) 0 e a) _ y.1 in
-      let g = length-allocate li n v (suc j) 0 e a in
-      paths_append {j = j} (stmts_paths li n p h i k (some j) s q l x.0) (rw f refl)
+      let z = paths_split P (suc j) (allocate li n path (some j) (suc j) 0 e a) _ y.1 in
+      let g = length-allocate li n path (some j) (suc j) 0 e a in
+      paths_append {j = j} (stmts_paths li n p v h i k (some j) s q l x.0) (rw f refl)
       (paths∷ (record { path_is = ap (λ (y : List ℕ). y ++ ((k + len s) ∷ [])) q; held = omega arith })
-      (paths_append {j = suc j + size a} (stmts_paths li n v (suc j) (suc j) 0 e a (sym y.0) (omega arith) z.0) (rw g refl)
-      (stmts_paths li n v (suc j) (suc j + size a) (len a) e b (sym y.0) (omega arith) (rw g at z.1))))
+      (paths_append {j = suc j + size a} (stmts_paths li n path (some j) (suc j) (suc j) 0 e a (sym y.0) (omega arith) z.0) (rw g refl)
+      (stmts_paths li n path (some j) (suc j) (suc j + size a) (len a) e b (sym y.0) (omega arith) (rw g at z.1))))
 
   lines_paths : (e : Option ℕ) (ls : Lines) → PathsOf P 0 (nodes_before e ls) → PathMatch P 0 (nodes_before e ls) (line_recs ls)
   unfolding nodes_before line_recs
@@ -86,29 +87,29 @@ module _ {P : ℕ → List ℕ} where
       let f = length-nodes d ls in
       let x = paths_split P 0 (nodes_before d ls) _ a in
       let z : 0 + length (nodes_before d ls) ≡ total ls = omega (arith, f) in
-      paths_append (lines_paths d ls x.0) (sym z) (stmts_paths (count ls) n [] 0 (total ls) 0 e s refl (omega arith) (rw z at x.1))
+      paths_append (lines_paths d ls x.0) (sym z) (stmts_paths (count ls) n [] none 0 (total ls) 0 e s refl (omega arith) (rw z at x.1))
 
 -- ---- "depth 16 is accepted": a path has at most 17 numbers
 
 abbrev Short : Node → Type 0
 Short n = length n.path ≤ 17
 
-stmts_short : (d li n : ℕ) (p : List ℕ) (i k : ℕ) (e : Option ℕ) (s : Stmts) → StmtsOk d s → length p ≤ d → All Short (allocate li n p i k e s)
+stmts_short : (d li n : ℕ) (p : List ℕ) (v : Option ℕ) (i k : ℕ) (e : Option ℕ) (s : Stmts) → StmtsOk d s → length p ≤ d → All Short (allocate li n p v i k e s)
 unfolding allocate StmtsOk
-stmts_short d li n p i k e ∅ ok h = all[]
-stmts_short d li n p i k e (s ▸ o) ok h =
-    all_append (stmts_short d li n p i k (some (i + size s)) s ok.0 h) (all∷ (omega (arith, length-append p ((k + len s) ∷ []), ok.1)) all[])
-stmts_short d li n p i k e (branching s w t a u b) ok h =
+stmts_short d li n p v i k e ∅ ok h = all[]
+stmts_short d li n p v i k e (s ▸ o) ok h =
+    all_append (stmts_short d li n p v i k (some (i + size s)) s ok.0 h) (all∷ (omega (arith, length-append p ((k + len s) ∷ []), ok.1)) all[])
+stmts_short d li n p v i k e (branching s w t a u b) ok h =
     let j = i + size s in
     let q = p ++ ((k + len s) ∷ []) in
     let g : length q ≤ suc d = omega (arith, length-append p ((k + len s) ∷ [])) in
-    all_append (stmts_short d li n p i k (some j) s ok.0 h)
-    (all∷ (omega (arith, g, ok.1)) (all_append (stmts_short (suc d) li n q (suc j) 0 e a ok.3 g) (stmts_short (suc d) li n q (suc j + size a) (len a) e b ok.4 g)))
+    all_append (stmts_short d li n p v i k (some j) s ok.0 h)
+    (all∷ (omega (arith, g, ok.1)) (all_append (stmts_short (suc d) li n q (some j) (suc j) 0 e a ok.3 g) (stmts_short (suc d) li n q (some j) (suc j + size a) (len a) e b ok.4 g)))
 
 lines_short : (e : Option ℕ) (ls : Lines) → LinesOk ls → All Short (nodes_before e ls)
 unfolding nodes_before LinesOk
 lines_short e nolines ok = all[]
-lines_short e (line ls n s) ok = all_append (lines_short (line_entry (total ls) s e) ls ok.0) (stmts_short 0 (count ls) n [] (total ls) 0 e s ok.3 (omega arith))
+lines_short e (line ls n s) ok = all_append (lines_short (line_entry (total ls) s e) ls ok.0) (stmts_short 0 (count ls) n [] none (total ls) 0 e s ok.3 (omega arith))
 
 -- ---- the line of a node
 
@@ -116,14 +117,14 @@ pub record OnLine (ls : Lines) (n : Node) : Type 0 where
   pub inside : n.line < count ls
   pub number_is : get_or (line_numbers ls) n.line 0 ≡ n.number
 
-stmts_line : (li n : ℕ) (p : List ℕ) (i k : ℕ) (e : Option ℕ) (s : Stmts) → All (λ (d : Node). (d.line ≡ li) × (d.number ≡ n)) (allocate li n p i k e s)
+stmts_line : (li n : ℕ) (p : List ℕ) (v : Option ℕ) (i k : ℕ) (e : Option ℕ) (s : Stmts) → All (λ (d : Node). (d.line ≡ li) × (d.number ≡ n)) (allocate li n p v i k e s)
 unfolding allocate
-stmts_line li n p i k e ∅ = all[]
-stmts_line li n p i k e (s ▸ o) = all_append (stmts_line li n p i k (some (i + size s)) s) (all∷ (refl, refl) all[])
-stmts_line li n p i k e (branching s w t a u b) =
+stmts_line li n p v i k e ∅ = all[]
+stmts_line li n p v i k e (s ▸ o) = all_append (stmts_line li n p v i k (some (i + size s)) s) (all∷ (refl, refl) all[])
+stmts_line li n p v i k e (branching s w t a u b) =
     let j = i + size s in
     let q = p ++ ((k + len s) ∷ []) in
-    all_append (stmts_line li n p i k (some j) s) (all∷ (refl, refl) (all_append (stmts_line li n q (suc j) 0 e a) (stmts_line li n q (suc j + size a) (len a) e b)))
+    all_append (stmts_line li n p v i k (some j) s) (all∷ (refl, refl) (all_append (stmts_line li n q (some j) (suc j) 0 e a) (stmts_line li n q (some j) (suc j + size a) (len a) e b)))
 
 lines_on : (e : Option ℕ) (ls : Lines) → All (OnLine ls) (nodes_before e ls)
 unfolding nodes_before line_numbers count
@@ -135,7 +136,7 @@ lines_on e (line ls n s) =
     (all_map (λ d o. record {
       inside = omega (arith, o.0);
       number_is = ap (λ (x : ℕ). get_or (line_numbers ls ++ (n ∷ [])) x 0) o.0 ∙ get_or_at (line_numbers ls) n [] 0 (count ls) f ∙ sym o.1;
-    }) (stmts_line (count ls) n [] (total ls) 0 e s))
+    }) (stmts_line (count ls) n [] none (total ls) 0 e s))
 
 -- ---- the path by the table
 
@@ -177,6 +178,7 @@ paths_of P i (n ∷ ns) f = (rw (add-zero i) at (f 0 n refl), paths_of P (suc i)
 -- what the tables of line numbers and statements say of node i
 pub record NodeRead (ls : Lines) (lines stmts : List ℕ) (i : ℕ) (n : Node) : Type 0 where
   pub line_is : get_or stmts (i * 12 + 1) 0 ≡ n.line
+  pub holder_is : holder_of stmts i ≡ node_number n.holder
   pub line_in : n.line < count ls
   pub number_is : get_or lines n.line 0 ≡ n.number
   pub word_is : get_or stmts (i * 12) 0 ≡ stmt_number n.stmt
@@ -221,6 +223,7 @@ module _ (ls : Lines) (ok : LinesOk ls) (lines stmts more rest : List ℕ) (el :
       let k : n.line < length (line_numbers ls) = omega (arith, numbers-count ls, o.inside) in
       record {
         line_is = see i 1 r m.1 (omega arith) ∙ m.2.line_is;
+        holder_is = see i 2 r m.1 (omega arith) ∙ m.2.holder_is;
         line_in = o.inside;
         number_is = ap (λ (t : List ℕ). get_or t n.line 0) el ∙ get_or-append (line_numbers ls) more 0 n.line k ∙ o.number_is;
         word_is = ap (λ (x : ℕ). get_or stmts x 0) z ∙ see i 0 r m.1 (omega arith) ∙ m.2.word_is;

@@ -19,7 +19,7 @@ use Rattle.passes.specs.TableReads.{fall_of_lem}
 use Rattle.formatting.specs.Printing.{each_snoc}
 use Rattle.formatting.specs.Pages.{Wrote, wrote_both, pair_text}
 use Rattle.formatting.specs.declared.page.Page.{Page}
-use Rattle.printing.specs.PrintedTables.{head_text, lists_text, node_text, some_text, entry_text, back_text, returns_text}
+use Rattle.printing.specs.PrintedTables.{head_text, holder_text, lists_text, node_text, some_text, entry_text, back_text, returns_text}
 use Rattle.passes.specs.GraphHeld.{GraphHeld}
 use Rattle.passes.specs.ReturnTargets.{each_below}
 use Rattle.passes.specs.GraphReads.{node_count_lem, some_node, reads, succ_part_here, pred_part_here, continuation_is, returns_are}
@@ -52,9 +52,9 @@ rows_index ls i f (n ∷ ns) h =
 
 -- ---- a node's row
 
-row_is : (i : ℕ) (d : Node) (ss ps : List ℕ) → head_text i d.number d.line ++ joined d.path ++ lists_text ss ps ≡ node_row i d ss ps
-unfolding head_text lists_text node_row
-row_is i d ss ps = simp append_assoc
+row_is : (i : ℕ) (d : Node) (ss ps : List ℕ) → head_text i d.number d.line ++ joined d.path ++ holder_text (node_number d.holder) ++ lists_text ss ps ≡ node_row i d ss ps
+unfolding head_text holder_text lists_text node_row
+row_is i d ss ps = rw (decode_number d.holder) (simp append_assoc)
 
 -- ---- line entries
 
@@ -92,7 +92,7 @@ module _ {L : Listing} {lines stmts entries falls lists returns succ pred : List
   node_is i d e =
       let r = reads g i d e in
       let h : i < n = omega (arith, in_range (wire L).nodes i d e, node_count_lem g) in
-      rw (r.line_is, r.number_is, r.path_is, succ_part_here g i h, pred_part_here g i h) (row_is i d (get_or (all_successors L) i []) (predecessors_in i 0 (all_successors L)))
+      rw (r.line_is, r.number_is, r.path_is, r.holder_is, succ_part_here g i h, pred_part_here g i h) (row_is i d (get_or (all_successors L) i []) (predecessors_in i 0 (all_successors L)))
 
   nodes_text : each (node_text lines stmts lists succ pred) (below n) ≡ node_rows (all_successors L) 0 (wire L).nodes
   nodes_text =

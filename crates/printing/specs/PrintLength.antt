@@ -54,17 +54,22 @@ joined_length (all∷ {a = n} {l = l} h hs) = omega (arith, length-append (decim
 
 -- ---- a node's row
 
-pub node_row_length : (i : ℕ) (n : Node) (ss ps : List ℕ) → Small i → NodeShort n → All Small ss → All Small ps → length (node_row i n ss ps) ≤ 125 + 5 * length ss + 5 * length ps
+holder_length : (o : Option ℕ) → All Small (list o) → length (spaced (list o)) ≤ 5
+unfolding list
+holder_length none h = omega (arith, spaced-length h)
+holder_length (some n) h = omega (arith, spaced-length h)
+
+pub node_row_length : (i : ℕ) (n : Node) (ss ps : List ℕ) → Small i → NodeShort n → All Small ss → All Small ps → length (node_row i n ss ps) ≤ 135 + 5 * length ss + 5 * length ps
 unfolding node_row spaced each bytes
 node_row_length i n ss ps h r hs hp =
     simp length-append
-    (omega (arith, id_length i (omega arith), number_length n.number r.number_ok, id_length n.line (omega (arith, r.line_ok)), joined_length r.path_ok, r.path_short, spaced-length hs, spaced-length hp))
+    (omega (arith, id_length i (omega arith), number_length n.number r.number_ok, id_length n.line (omega (arith, r.line_ok)), joined_length r.path_ok, r.path_short, holder_length n.holder r.holder_ok, spaced-length hs, spaced-length hp))
 
 -- ---- the node rows: each edge is printed twice
 
 -- from node i on: where its lists begin stands on the left, where those behind the last begin on the right
 pub node_rows-length : (ls : List (List ℕ)) (i : ℕ) {ns : List Node} → All NodeShort ns → All (All Small) ls → length ls ≤ 4096 → i + length ns ≤ length ls
-    → length (node_rows ls i ns) + 5 * start_of ls i + 5 * start_of (preds_of ls) i ≤ 125 * length ns + 5 * start_of ls (i + length ns) + 5 * start_of (preds_of ls) (i + length ns)
+    → length (node_rows ls i ns) + 5 * start_of ls i + 5 * start_of (preds_of ls) i ≤ 135 * length ns + 5 * start_of ls (i + length ns) + 5 * start_of (preds_of ls) (i + length ns)
 unfolding node_rows
 node_rows-length ls i all[] hs few h = let z : i + 0 ≡ i = omega arith in rw z (omega arith)
 node_rows-length ls i (all∷ {a = n} {l = ns} p ps) hs few h =
@@ -117,7 +122,7 @@ below_length (suc n) = omega (arith, length-append (below n) (n ∷ []), below_l
 -- ---- the whole graph
 
 module _ (L : Listing) (ok : LinesOk L.lines) (hc : count L.lines ≤ 1024) (ht : total L.lines ≤ 4096) where
-  pub nodes-length : edge_count L ≤ 32768 → length (node_rows (all_successors L) 0 (wire L).nodes) ≤ 839680
+  pub nodes-length : edge_count L ≤ 32768 → length (node_rows (all_successors L) 0 (wire L).nodes) ≤ 880640
   nodes-length h =
       let ls = all_successors L in
       let s = successor_lists L in
@@ -150,7 +155,7 @@ module _ (L : Listing) (ok : LinesOk L.lines) (hc : count L.lines ≤ 1024) (ht 
   unfolding spaced each
   head_length = simp length-append (omega (arith, id_length 0 (omega arith), id_length (node_count L) (omega (arith, node_count_lem L))))
 
-  -- by these bounds 949,277 bytes at most
+  -- by these bounds 990,237 bytes at most
   pub printed-length : edge_count L ≤ 32768 → length (printed L) ≤ 1048576
   unfolding printed bytes
   printed-length h =

@@ -23,12 +23,16 @@ use Rattle.formatting.specs.declared.page.Page.{Page}
 unfoldable pub head_text : (i number line : ℕ) → List ℕ
 head_text i number line = bytes "(node" ++ spaced (i ∷ number ∷ line ∷ []) ++ bytes " ("
 
+-- one more than the IF that holds it, or 0
+unfoldable pub holder_text : ℕ → List ℕ
+holder_text h = bytes ") (in" ++ spaced (decode h)
+
 unfoldable pub lists_text : (ss ps : List ℕ) → List ℕ
 lists_text ss ps = bytes ") (succ" ++ spaced ss ++ bytes ") (pred" ++ spaced ps ++ bytes "))\n"
 
 unfoldable pub node_text : (lines stmts lists succ pred : List ℕ) → ℕ → List ℕ
 node_text lines stmts lists succ pred i =
-    head_text i (get_or lines (line_of stmts i) 0) (line_of stmts i) ++ joined (path_in stmts 16 i) ++ lists_text (succ_part lists succ i) (pred_part lists pred i)
+    head_text i (get_or lines (line_of stmts i) 0) (line_of stmts i) ++ joined (path_in stmts 16 i) ++ holder_text (holder_of stmts i) ++ lists_text (succ_part lists succ i) (pred_part lists pred i)
 
 -- ---- the other rows
 
@@ -118,13 +122,22 @@ wrote_lists {p} {q} {s} {t} lists succ pred i own before e f x y z =
     let y' : Wrote q s (bytes ") (pred" ++ spaced (pred_part lists pred i)) = rw f at y in
     wrote_is (simp append_assoc) (wrote_both (wrote_both x' y') z)
 
-pub wrote_node : {p q s t : Page} (lines stmts lists succ pred : List ℕ) (i number line : ℕ) → line ≡ line_of stmts i → number ≡ get_or lines line 0
-    → Wrote p q (head_text i number line) → Wrote q s (joined (path_in stmts 16 i)) → Wrote s t (lists_text (succ_part lists succ i) (pred_part lists pred i))
+-- the IF that holds it, or none
+pub no_holder : {p q : Page} (h : ℕ) → 0 ≡ h → Wrote p q (bytes ") (in") → Wrote p q (holder_text h)
+unfolding holder_text spaced each
+no_holder h e a = wrote_is (sym (append-nil (bytes ") (in")) ∙ ap holder_text e) a
+
+pub one_holder : {p q s : Page} (x h : ℕ) → suc x ≡ h → Wrote p q (bytes ") (in") → Wrote q s (32 ∷ decimal x) → Wrote p s (holder_text h)
+unfolding holder_text spaced each
+one_holder x h e a b = wrote_is (ap (λ (l : List ℕ). bytes ") (in" ++ (32 ∷ l)) (sym (append-nil (decimal x))) ∙ ap holder_text e) (wrote_both a b)
+
+pub wrote_node : {p q o s t : Page} (lines stmts lists succ pred : List ℕ) (i number line : ℕ) → line ≡ line_of stmts i → number ≡ get_or lines line 0
+    → Wrote p q (head_text i number line) → Wrote q o (joined (path_in stmts 16 i)) → Wrote o s (holder_text (holder_of stmts i)) → Wrote s t (lists_text (succ_part lists succ i) (pred_part lists pred i))
     → Wrote p t (node_text lines stmts lists succ pred i)
 unfolding node_text
-wrote_node {p} {q} {s} {t} lines stmts lists succ pred i number line e f a b c =
+wrote_node {p} {q} {o} {s} {t} lines stmts lists succ pred i number line e f a b h c =
     let a' : Wrote p q (head_text i (get_or lines (line_of stmts i) 0) (line_of stmts i)) = rw (f, e) at a in
-    wrote_both (wrote_both a' b) c
+    wrote_is (simp append_assoc) (wrote_both (wrote_both (wrote_both a' b) h) c)
 
 -- ---- the pieces of the other rows
 

@@ -2,10 +2,10 @@
 ghost use Rattle.std.specs.Prelude.{◌≡◌, ◌+◌, ◌*◌, ◌<◌, ◌≤◌, length};
 ghost use Rattle.graph.specs.Lists.{each, below};
 ghost use Rattle.graph.specs.Print.{joined};
-ghost use Rattle.tables.specs.Columns.{succ_start, succ_count, pred_start, pred_count, path_in};
+ghost use Rattle.tables.specs.Columns.{succ_start, succ_count, pred_start, pred_count, holder_of, path_in};
 ghost use Rattle.formatting.specs.Pages.{Wrote};
 ghost use Rattle.printing.specs.FromGraph.{nodes_from, NodesReadableFrom, lists_text_from, node_text_from};
-ghost use Rattle.printing.specs.PrintedTables.{head_text};
+ghost use Rattle.printing.specs.PrintedTables.{head_text, holder_text};
 
 use adjacency::successors::{predecessors, successors};
 use formatting::page::Page;
@@ -39,6 +39,16 @@ fn put_head(page: &mut Page<'_>, i: usize, number: usize, line: usize)
     page.put_bytes(b" (");
 }
 
+// The IF that holds node i, or none, behind its path.
+fn put_holder(page: &mut Page<'_>, records: &Records<'_>, i: usize)
+    ensures { Wrote page.old page.new (holder_text (holder_of records.now.stmts.now i)) }
+{
+    page.put_bytes(b") (in");
+    if let Some(outer) = records.holder(i) {
+        page.put_number(outer);
+    }
+}
+
 // Both lists of node i, which are parts of the edge tables, and the end of the row.
 fn put_lists(page: &mut Page<'_>, g: &Graph<'_>, i: usize)
     requires { (i < nodes_from g.now) × (nodes_from g.now * LIST_ENTRIES ≤ length g.now.lists.now) × (succ_start g.now.lists.now i + succ_count g.now.lists.now i ≤ length g.now.succ.now) × (pred_start g.now.lists.now i + pred_count g.now.lists.now i ≤ length g.now.pred.now) }
@@ -61,6 +71,7 @@ fn put_node(page: &mut Page<'_>, g: &Graph<'_>, records: &Records<'_>, i: usize)
     let line = records.line(i);
     put_head(page, i, usize::from(g.lines[line]), line);
     put_path(page, records, i, MAX_DEPTH);
+    put_holder(page, records, i);
     put_lists(page, g, i);
 }
 

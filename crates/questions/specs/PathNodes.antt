@@ -66,65 +66,65 @@ deeper p x k m d u =
 inner : (q : List ℕ) (k m : ℕ) (d : Node) → Under q k m d → q ≡ d.path → ⊥
 inner q k m d v g = absurd (omega (arith, ap length (g ∙ v.path_is), length-append q (v.at ∷ v.rest)))
 
-stmts_under : (li n : ℕ) (p : List ℕ) (i k : ℕ) (e : Option ℕ) (s : Stmts) → All (Under p k (k + len s)) (allocate li n p i k e s)
+stmts_under : (li n : ℕ) (p : List ℕ) (v : Option ℕ) (i k : ℕ) (e : Option ℕ) (s : Stmts) → All (Under p k (k + len s)) (allocate li n p v i k e s)
 unfolding allocate len
-stmts_under li n p i k e ∅ = all[]
-stmts_under li n p i k e (s ▸ o) =
-    all_append (all_map (wider p k (k + len s) k (k + suc (len s)) (omega arith) (omega arith)) (stmts_under li n p i k (some (i + size s)) s))
+stmts_under li n p v i k e ∅ = all[]
+stmts_under li n p v i k e (s ▸ o) =
+    all_append (all_map (wider p k (k + len s) k (k + suc (len s)) (omega arith) (omega arith)) (stmts_under li n p v i k (some (i + size s)) s))
     (all∷ (record { at = k + len s; rest = []; path_is = refl; from = omega arith; below = omega arith }) all[])
-stmts_under li n p i k e (branching s w t a u b) =
+stmts_under li n p v i k e (branching s w t a u b) =
     let j = i + size s in
     let x = k + len s in
     let q = p ++ (x ∷ []) in
     let f : (d : Node) → Under p x (suc x) d → Under p k (k + suc (len s)) d = wider p x (suc x) k (k + suc (len s)) (omega arith) (omega arith) in
-    all_append (all_map (wider p k x k (k + suc (len s)) (omega arith) (omega arith)) (stmts_under li n p i k (some j) s))
+    all_append (all_map (wider p k x k (k + suc (len s)) (omega arith) (omega arith)) (stmts_under li n p v i k (some j) s))
     (all∷ (record { at = x; rest = []; path_is = refl; from = omega arith; below = omega arith })
-    (all_append (all_map (λ d v. f d (deeper p x 0 (0 + len a) d v)) (stmts_under li n q (suc j) 0 e a))
-    (all_map (λ d v. f d (deeper p x (len a) (len a + len b) d v)) (stmts_under li n q (suc j + size a) (len a) e b))))
+    (all_append (all_map (λ d v. f d (deeper p x 0 (0 + len a) d v)) (stmts_under li n q (some j) (suc j) 0 e a))
+    (all_map (λ d v. f d (deeper p x (len a) (len a + len b) d v)) (stmts_under li n q (some j) (suc j + size a) (len a) e b))))
 
-stmts_distinct : (li n : ℕ) (p : List ℕ) (i k : ℕ) (e : Option ℕ) (s : Stmts) → Distinct (allocate li n p i k e s)
+stmts_distinct : (li n : ℕ) (p : List ℕ) (v : Option ℕ) (i k : ℕ) (e : Option ℕ) (s : Stmts) → Distinct (allocate li n p v i k e s)
 unfolding allocate
-stmts_distinct li n p i k e ∅ = dist[]
-stmts_distinct li n p i k e (s ▸ o) =
+stmts_distinct li n p v i k e ∅ = dist[]
+stmts_distinct li n p v i k e (s ▸ o) =
     let x = k + len s in
-    distinct_append (stmts_distinct li n p i k (some (i + size s)) s) (dist∷ all[] dist[])
-    (cross (under_apart p k x x (suc x) (omega arith)) (stmts_under li n p i k (some (i + size s)) s)
+    distinct_append (stmts_distinct li n p v i k (some (i + size s)) s) (dist∷ all[] dist[])
+    (cross (under_apart p k x x (suc x) (omega arith)) (stmts_under li n p v i k (some (i + size s)) s)
     (all∷ (record { at = x; rest = []; path_is = refl; from = omega arith; below = omega arith }) all[]))
-stmts_distinct li n p i k e (branching s w t a u b) =
+stmts_distinct li n p v i k e (branching s w t a u b) =
     let j = i + size s in
     let x = k + len s in
     let q = p ++ (x ∷ []) in
-    let ua = stmts_under li n q (suc j) 0 e a in
-    let ub = stmts_under li n q (suc j + size a) (len a) e b in
-    distinct_append (stmts_distinct li n p i k (some j) s)
+    let ua = stmts_under li n q (some j) (suc j) 0 e a in
+    let ub = stmts_under li n q (some j) (suc j + size a) (len a) e b in
+    distinct_append (stmts_distinct li n p v i k (some j) s)
     (dist∷ (all_append (all_map (λ d v f g. inner q 0 (0 + len a) d v g) ua) (all_map (λ d v f g. inner q (len a) (len a + len b) d v g) ub))
-    (distinct_append (stmts_distinct li n q (suc j) 0 e a) (stmts_distinct li n q (suc j + size a) (len a) e b)
+    (distinct_append (stmts_distinct li n q (some j) (suc j) 0 e a) (stmts_distinct li n q (some j) (suc j + size a) (len a) e b)
     (cross (under_apart q 0 (0 + len a) (len a) (len a + len b) (omega arith)) ua ub)))
-    (cross (under_apart p k x x (suc x) (omega arith)) (stmts_under li n p i k (some j) s)
+    (cross (under_apart p k x x (suc x) (omega arith)) (stmts_under li n p v i k (some j) s)
     (all∷ (record { at = x; rest = []; path_is = refl; from = omega arith; below = omega arith })
     (all_append (all_map (deeper p x 0 (0 + len a)) ua) (all_map (deeper p x (len a) (len a + len b)) ub))))
 
-stmts_line : (li n : ℕ) (p : List ℕ) (i k : ℕ) (e : Option ℕ) (s : Stmts) → All (λ (d : Node). d.line ≡ li) (allocate li n p i k e s)
+stmts_line : (li n : ℕ) (p : List ℕ) (v : Option ℕ) (i k : ℕ) (e : Option ℕ) (s : Stmts) → All (λ (d : Node). d.line ≡ li) (allocate li n p v i k e s)
 unfolding allocate
-stmts_line li n p i k e ∅ = all[]
-stmts_line li n p i k e (s ▸ o) = all_append (stmts_line li n p i k (some (i + size s)) s) (all∷ refl all[])
-stmts_line li n p i k e (branching s w t a u b) =
+stmts_line li n p v i k e ∅ = all[]
+stmts_line li n p v i k e (s ▸ o) = all_append (stmts_line li n p v i k (some (i + size s)) s) (all∷ refl all[])
+stmts_line li n p v i k e (branching s w t a u b) =
     let j = i + size s in
     let q = p ++ ((k + len s) ∷ []) in
-    all_append (stmts_line li n p i k (some j) s) (all∷ refl (all_append (stmts_line li n q (suc j) 0 e a) (stmts_line li n q (suc j + size a) (len a) e b)))
+    all_append (stmts_line li n p v i k (some j) s) (all∷ refl (all_append (stmts_line li n q (some j) (suc j) 0 e a) (stmts_line li n q (some j) (suc j + size a) (len a) e b)))
 
 lines_below : (e : Option ℕ) (ls : Lines) → All (λ (d : Node). d.line < count ls) (nodes_before e ls)
 unfolding nodes_before count
 lines_below e nolines = all[]
 lines_below e (line ls n s) =
-    all_append (all_map (λ d h. omega (arith, h)) (lines_below (line_entry (total ls) s e) ls)) (all_map (λ d h. omega (arith, h)) (stmts_line (count ls) n [] (total ls) 0 e s))
+    all_append (all_map (λ d h. omega (arith, h)) (lines_below (line_entry (total ls) s e) ls)) (all_map (λ d h. omega (arith, h)) (stmts_line (count ls) n [] none (total ls) 0 e s))
 
 lines_distinct : (e : Option ℕ) (ls : Lines) → Distinct (nodes_before e ls)
 unfolding nodes_before
 lines_distinct e nolines = dist[]
 lines_distinct e (line ls n s) =
-    distinct_append (lines_distinct (line_entry (total ls) s e) ls) (stmts_distinct (count ls) n [] (total ls) 0 e s)
-    (cross (λ a b h g f _. absurd (omega (arith, h, g, f))) (lines_below (line_entry (total ls) s e) ls) (stmts_line (count ls) n [] (total ls) 0 e s))
+    distinct_append (lines_distinct (line_entry (total ls) s e) ls) (stmts_distinct (count ls) n [] none (total ls) 0 e s)
+    (cross (λ a b h g f _. absurd (omega (arith, h, g, f))) (lines_below (line_entry (total ls) s e) ls) (stmts_line (count ls) n [] none (total ls) 0 e s))
 
 pub line_below : (ls : Lines) (i : ℕ) (d : Node) → get_elem? (nodes_before none ls) i ≡ some d → d.line < count ls
 line_below ls i d e = all-at (lines_below none ls) i d e
@@ -182,27 +182,27 @@ module _ {G : ℕ → Option Node} where
   held_later li p h i j g (line_held e f) = line_held e f
   held_later li p h i j g (if_held k m a o b e f c) = if_held k m a o (omega arith) e f c
 
-  stmts_held : (li n : ℕ) (p : List ℕ) (h i k : ℕ) (e : Option ℕ) (s : Stmts) → ListHeld G li p h i → NodesOf G i (allocate li n p i k e s) → HeldMatch G i (allocate li n p i k e s) (stmt_recs li h k i s)
+  stmts_held : (li n : ℕ) (p : List ℕ) (v : Option ℕ) (h i k : ℕ) (e : Option ℕ) (s : Stmts) → ListHeld G li p h i → NodesOf G i (allocate li n p v i k e s) → HeldMatch G i (allocate li n p v i k e s) (stmt_recs li h k i s)
   unfolding allocate stmt_recs simple_rec cond_rec
-  stmts_held li n p h i k e ∅ q a = held[]
-  stmts_held li n p h i k e (s ▸ o) q a =
-      let x = nodes-split G i (allocate li n p i k (some (i + size s)) s) _ a in
-      let f = length-allocate li n p i k (some (i + size s)) s in
-      held_append {j = i + size s} (stmts_held li n p h i k (some (i + size s)) s q x.0) (rw f refl)
+  stmts_held li n p v h i k e ∅ q a = held[]
+  stmts_held li n p v h i k e (s ▸ o) q a =
+      let x = nodes-split G i (allocate li n p v i k (some (i + size s)) s) _ a in
+      let f = length-allocate li n p v i k (some (i + size s)) s in
+      held_append {j = i + size s} (stmts_held li n p v h i k (some (i + size s)) s q x.0) (rw f refl)
       (held∷ (held_one li p h i (i + size s) (k + len s) _ q (omega arith) refl refl) held[])
-  stmts_held li n p h i k e (branching s w t a u b) q c =
+  stmts_held li n p v h i k e (branching s w t a u b) q c =
       let j = i + size s in
-      let v = p ++ ((k + len s) ∷ []) in
-      let f = length-allocate li n p i k (some j) s in
-      let x = nodes-split G i (allocate li n p i k (some j) s) _ c in
+      let path = p ++ ((k + len s) ∷ []) in
+      let f = length-allocate li n p v i k (some j) s in
+      let x = nodes-split G i (allocate li n p v i k (some j) s) _ c in
       let y = rw f at x.1 in
-      let z = nodes-split G (suc j) (allocate li n v (suc j) 0 e a) _ y.1 in
-      let g = length-allocate li n v (suc j) 0 e a in
-      let l : ListHeld G li v (suc j) (suc j) = if_held j _ y.0 tt (omega arith) refl refl refl in
-      held_append {j = j} (stmts_held li n p h i k (some j) s q x.0) (rw f refl)
+      let z = nodes-split G (suc j) (allocate li n path (some j) (suc j) 0 e a) _ y.1 in
+      let g = length-allocate li n path (some j) (suc j) 0 e a in
+      let l : ListHeld G li path (suc j) (suc j) = if_held j _ y.0 tt (omega arith) refl refl refl in
+      held_append {j = j} (stmts_held li n p v h i k (some j) s q x.0) (rw f refl)
       (held∷ (held_one li p h i j (k + len s) _ q (omega arith) refl refl)
-      (held_append {j = suc j + size a} (stmts_held li n v (suc j) (suc j) 0 e a l z.0) (rw g refl)
-      (stmts_held li n v (suc j) (suc j + size a) (len a) e b (held_later li v (suc j) (suc j) (suc j + size a) (omega arith) l) (rw g at z.1))))
+      (held_append {j = suc j + size a} (stmts_held li n path (some j) (suc j) (suc j) 0 e a l z.0) (rw g refl)
+      (stmts_held li n path (some j) (suc j) (suc j + size a) (len a) e b (held_later li path (suc j) (suc j) (suc j + size a) (omega arith) l) (rw g at z.1))))
 
   lines_held : (e : Option ℕ) (ls : Lines) → NodesOf G 0 (nodes_before e ls) → HeldMatch G 0 (nodes_before e ls) (line_recs ls)
   unfolding nodes_before line_recs
@@ -212,7 +212,7 @@ module _ {G : ℕ → Option Node} where
       let f = length-nodes d ls in
       let x = nodes-split G 0 (nodes_before d ls) _ a in
       let z : 0 + length (nodes_before d ls) ≡ total ls = omega (arith, f) in
-      held_append (lines_held d ls x.0) (sym z) (stmts_held (count ls) n [] 0 (total ls) 0 e s (line_held refl refl) (rw z at x.1))
+      held_append (lines_held d ls x.0) (sym z) (stmts_held (count ls) n [] none 0 (total ls) 0 e s (line_held refl refl) (rw z at x.1))
 
 nodes_of : (G : ℕ → Option Node) (i : ℕ) (ns : List Node) → ((k : ℕ) (n : Node) → get_elem? ns k ≡ some n → G (i + k) ≡ some n) → NodesOf G i ns
 nodes_of G i [] f = tt

@@ -50,13 +50,13 @@ table =
     record { text = "(module 0\n(line 10\n(GOTO 1)\n)\n)\n"; writes = "(refused 2 2)\n" } ∷
     record { text = "(module 0\n(line 10\n(got 1)\n)\n)\n"; writes = "(refused 2 2)\n" } ∷
     record { text = "(module 0\n(line 10\n(gotoo 1)\n)\n)\n"; writes = "(refused 2 2)\n" } ∷
-    record { text = "(module 0\n(line 10\n(goto 0)\n)\n)\n"; writes = "(graph 0 1\n(node 0 10 0 (0) (succ) (pred))\n(entry 10 0)\n(returns)\n)\n" } ∷
-    record { text = "(module 0\n(line 10\n(goto 65535)\n)\n)\n"; writes = "(graph 0 1\n(node 0 10 0 (0) (succ) (pred))\n(entry 10 0)\n(returns)\n)\n" } ∷
-    record { text = "(module 0\n(line 10\n(gosub 10)\n)\n)\n"; writes = "(graph 0 1\n(node 0 10 0 (0) (succ 0) (pred 0))\n(entry 10 0)\n(returns)\n)\n" } ∷
-    record { text = "(module 0\n(line 10\n(run)\n)\n)\n"; writes = "(graph 0 1\n(node 0 10 0 (0) (succ 0) (pred 0))\n(entry 10 0)\n(returns)\n)\n" } ∷
-    record { text = "(module 0\n(line 10\n(run 0)\n)\n)\n"; writes = "(graph 0 1\n(node 0 10 0 (0) (succ) (pred))\n(entry 10 0)\n(returns)\n)\n" } ∷
-    record { text = "(module 0\n(line 10\n(ongoto 1)\n)\n)\n"; writes = "(graph 0 1\n(node 0 10 0 (0) (succ) (pred))\n(entry 10 0)\n(returns)\n)\n" } ∷
-    record { text = "(module 0\n(line 10\n(ongosub 1 1 1)\n)\n)\n"; writes = "(graph 0 1\n(node 0 10 0 (0) (succ) (pred))\n(entry 10 0)\n(returns)\n)\n" } ∷
+    record { text = "(module 0\n(line 10\n(goto 0)\n)\n)\n"; writes = "(graph 0 1\n(node 0 10 0 (0) (in) (succ) (pred))\n(entry 10 0)\n(returns)\n)\n" } ∷
+    record { text = "(module 0\n(line 10\n(goto 65535)\n)\n)\n"; writes = "(graph 0 1\n(node 0 10 0 (0) (in) (succ) (pred))\n(entry 10 0)\n(returns)\n)\n" } ∷
+    record { text = "(module 0\n(line 10\n(gosub 10)\n)\n)\n"; writes = "(graph 0 1\n(node 0 10 0 (0) (in) (succ 0) (pred 0))\n(entry 10 0)\n(returns)\n)\n" } ∷
+    record { text = "(module 0\n(line 10\n(run)\n)\n)\n"; writes = "(graph 0 1\n(node 0 10 0 (0) (in) (succ 0) (pred 0))\n(entry 10 0)\n(returns)\n)\n" } ∷
+    record { text = "(module 0\n(line 10\n(run 0)\n)\n)\n"; writes = "(graph 0 1\n(node 0 10 0 (0) (in) (succ) (pred))\n(entry 10 0)\n(returns)\n)\n" } ∷
+    record { text = "(module 0\n(line 10\n(ongoto 1)\n)\n)\n"; writes = "(graph 0 1\n(node 0 10 0 (0) (in) (succ) (pred))\n(entry 10 0)\n(returns)\n)\n" } ∷
+    record { text = "(module 0\n(line 10\n(ongosub 1 1 1)\n)\n)\n"; writes = "(graph 0 1\n(node 0 10 0 (0) (in) (succ) (pred))\n(entry 10 0)\n(returns)\n)\n" } ∷
     record { text = "(module 0\n(line 10\n(goto I)\n)\n)\n"; writes = "(refused 2 2)\n" } ∷
     record { text = "(module 0\n(line 10\n(ongoto 1 I)\n)\n)\n"; writes = "(refused 2 2)\n" } ∷
     record { text = "(module 0\n(line 10\n(run I)\n)\n)\n"; writes = "(refused 2 2)\n" } ∷

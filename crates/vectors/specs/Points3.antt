@@ -25,10 +25,10 @@ table =
     record { text = "(module 0\n(line 10\n(next orphan * COUNT*)\n)\n)\n"; writes = "(refused 3 2)\n" } ∷
     record { text = "(module 0\n(line 10\n(next plain COUNT CO- CO)\n)\n)\n"; writes = "(refused 3 2)\n" } ∷
     record { text = "(module 0\n(line 10\n(for CCCCCCCCCCCCCCCCCC dispatched)\n)\n)\n"; writes = "(refused 3 2)\n" } ∷
-    record { text = "(module 0\n(line 10\n(for COUNTERS% static)\n)\n)\n"; writes = "(graph 0 1\n(node 0 10 0 (0) (succ) (pred))\n(entry 10 0)\n(returns)\n)\n" } ∷
-    record { text = "(module 0\n(line 10\n(for COUNTERS static)\n)\n)\n"; writes = "(graph 0 1\n(node 0 10 0 (0) (succ) (pred))\n(entry 10 0)\n(returns)\n)\n" } ∷
-    record { text = "(module 0\n(line 10\n(for CO0 dispatched)\n)\n)\n"; writes = "(graph 0 1\n(node 0 10 0 (0) (succ) (pred))\n(entry 10 0)\n(returns)\n)\n" } ∷
-    record { text = "(module 0\n(line 10\n(next plain COUNT COUNTER CO% C$ COUNT)\n)\n)\n"; writes = "(graph 0 1\n(node 0 10 0 (0) (succ) (pred))\n(entry 10 0)\n(returns)\n)\n" } ∷
+    record { text = "(module 0\n(line 10\n(for COUNTERS% static)\n)\n)\n"; writes = "(graph 0 1\n(node 0 10 0 (0) (in) (succ) (pred))\n(entry 10 0)\n(returns)\n)\n" } ∷
+    record { text = "(module 0\n(line 10\n(for COUNTERS static)\n)\n)\n"; writes = "(graph 0 1\n(node 0 10 0 (0) (in) (succ) (pred))\n(entry 10 0)\n(returns)\n)\n" } ∷
+    record { text = "(module 0\n(line 10\n(for CO0 dispatched)\n)\n)\n"; writes = "(graph 0 1\n(node 0 10 0 (0) (in) (succ) (pred))\n(entry 10 0)\n(returns)\n)\n" } ∷
+    record { text = "(module 0\n(line 10\n(next plain COUNT COUNTER CO% C$ COUNT)\n)\n)\n"; writes = "(graph 0 1\n(node 0 10 0 (0) (in) (succ) (pred))\n(entry 10 0)\n(returns)\n)\n" } ∷
     record { text = "(module 00\n)\n"; writes = "(refused 2 0)\n" } ∷
     record { text = "(module 01\n)\n"; writes = "(refused 2 0)\n" } ∷
     record { text = "(module 2\n)\n"; writes = "(refused 2 0)\n" } ∷

@@ -1,4 +1,4 @@
--- `put_node`: the three pieces of the row. Assumes nothing.
+-- `put_node`: the four pieces of the row. Assumes nothing.
 use native.Mathlib.Omega.{arith}
 use Rattle.std.proofs.Common.{◌<◌}
 use Rattle.printing.specs.FromGraph.{nodes_from}
@@ -18,4 +18,4 @@ put_lists-requires c =
     (h, p.rows, p.succ_in i h, p.pred_in i h)
 
 pub returns : goal.returns
-returns c = let g = c.args.g.now in wrote_node g.lines.now c.args.records.now.stmts.now g.lists.now g.succ.now g.pred.now c.args.i _ _ c.line-line.ensures c.from.ensures c.put_head.ensures c.put_path.ensures c.put_lists.ensures
+returns c = let g = c.args.g.now in wrote_node g.lines.now c.args.records.now.stmts.now g.lists.now g.succ.now g.pred.now c.args.i _ _ c.line-line.ensures c.from.ensures c.put_head.ensures c.put_path.ensures c.put_holder.ensures c.put_lists.ensures
