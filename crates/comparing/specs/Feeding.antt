@@ -6,7 +6,7 @@ use Rattle.std.proofs.Common.{◌∙◌, subst, length-drop, take_all, take-appe
 use native.Mathlib.Omega.{arith}
 use Rattle.listings.specs.Bytes.{pick}
 use Rattle.comparing.specs.Judging.{Reading, start, opened, lost, beside, met}
-use Rattle.comparing.specs.Comparing.{Standing, same, differs, ended, begins, differing, fed_byte, fed, is_start}
+use Rattle.comparing.specs.Comparing.{Standing, same, differs, ended, begins, rows_number, differing, fed_byte, fed, is_start}
 use Rattle.comparing.specs.ComparingLaws.{fed-append}
 use Rattle.comparing.specs.ComparingStates.{fed_more}
 
@@ -88,6 +88,39 @@ fed-rows due at r piece m e p w = record {
 pub fed_differs : (due : List ℕ) (at : ℕ) (r : Reading) (b : ℕ) → differing at r b ≡ fed_byte due (differs at r) b
 unfolding fed_byte
 fed_differs due at r b = refl
+
+-- the first i bytes of a piece are of the row that differs already, and the judge stands at z behind them
+abbrev pub Differing : (at : ℕ) (r : Reading) (piece : List ℕ) (i : ℕ) (z : Reading) → Type 0
+Differing at r piece i z = (due : List ℕ) → fed due (differs at r) (take i piece) ≡ differs at z
+
+module _ (at : ℕ) (r : Reading) (piece : List ℕ) where
+  pub differing_none : Differing at r piece 0 r
+  unfolding fed
+  differing_none due = refl
+
+  module _ (i : ℕ) (z : Reading) (h : i < length piece) (g : Differing at r piece i z) (b : ℕ) (is : b ≡ get_or piece i 0) where
+    -- one byte more
+    differing_by : (due : List ℕ) → fed due (differs at r) (take (i + 1) piece) ≡ differing at z b
+    unfolding fed_byte
+    differing_by due = sym (fed_more due (differs at r) piece i h) ∙ ap (fed_byte due (fed due (differs at r) (take i piece))) (sym is) ∙ ap (λ (s : Standing). fed_byte due s b) (g due)
+
+    pub differing_on : eqb b 10 ≡ false → Differing at r piece (i + 1) (met z b)
+    unfolding differing
+    differing_on e due = differing_by due ∙ ap (λ (x : Bool). pick x (ended (rows_number z) at) (differs at (met z b))) e
+
+    pub differing_ends : eqb b 10 ≡ true → (due : List ℕ) → FedTo due (differs at r) piece (ended (rows_number z) at) (behind piece (i + 1))
+    unfolding differing
+    differing_ends e due = record {
+      fewer = omega (arith, ap length (behind_is piece (i + 1)), length-drop (i + 1) piece);
+      stands = ap (fed due (ended (rows_number z) at)) (behind_is piece (i + 1))
+          ∙ ap (λ (y : Standing). fed due y (drop (i + 1) piece)) (sym (differing_by due ∙ ap (λ (x : Bool). pick x (ended (rows_number z) at) (differs at (met z b))) e))
+          ∙ sym (fed-append due (differs at r) (take (i + 1) piece) (drop (i + 1) piece)) ∙ ap (fed due (differs at r)) (take-append-drop (i + 1) piece);
+    }
+
+  -- the row goes on behind the piece
+  pub differing_all : (i : ℕ) (z : Reading) → 0 < length piece → length piece ≤ i → Differing at r piece i z → (due : List ℕ) → FedTo due (differs at r) piece (differs at z) []
+  unfolding fed
+  differing_all i z h k g due = record { fewer = h; stands = sym (g due) ∙ ap (fed due (differs at r)) (take_all i piece k) }
 
 ended_stays : (due : List ℕ) (n at : ℕ) (g : List ℕ) → fed due (ended n at) g ≡ ended n at
 unfolding fed fed_byte

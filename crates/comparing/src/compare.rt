@@ -1,9 +1,9 @@
 // The graph given beside the graph due, byte by byte; the first row that is not the one due decides.
-ghost use Rattle.std.specs.Prelude.{◌≡◌, true, ◌<◌, ◌≤◌, eqb, length, drop};
+ghost use Rattle.std.specs.Prelude.{ℕ, List, ◌≡◌, true, ◌<◌, ◌≤◌, eqb, length, drop};
 ghost use Rattle.listings.specs.Bytes.{pick};
-ghost use Rattle.comparing.specs.Judging.{start};
+ghost use Rattle.comparing.specs.Judging.{start, lost};
 ghost use Rattle.comparing.specs.JudgeStates.{reading_of};
-ghost use Rattle.comparing.specs.Comparing.{same, begins, differing, fed_byte, fed, place_at, ruled};
+ghost use Rattle.comparing.specs.Comparing.{same, differs, begins, differing, fed_byte, fed, place_at, ruled};
 ghost use Rattle.comparing.specs.ComparingStates.{standing_of, verdict_of};
 ghost use Rattle.comparing.specs.Feeding.{RowsDue, FedTo};
 
@@ -77,6 +77,29 @@ fn place_at(due: &[u8], at: usize) -> usize
     due.iter().take(at).filter(|b| **b == b'\n').count()
 }
 
+// The bytes of a row in no form, up to its end or that of the piece: only where it ends matters.
+fn lost_on<'a>(at: usize, piece: &'a [u8]) -> Fed<'a>
+    requires { 0 < length piece.now }
+    ensures { (due : List ℕ) → FedTo due (differs at lost) piece.now (standing_of result.state) result.left.now }
+{
+    for (i, b) in piece.iter().enumerate() {
+        if *b == b'\n' {
+            return Fed {
+                state: Comparing::Ended {
+                    reason: Reason::NotARow,
+                    at,
+                },
+                left: &piece[i + 1..],
+            };
+        }
+    }
+    let judge = Judge::Lost;
+    Fed {
+        state: Comparing::Differs(Reached { at, judge }),
+        left: &[],
+    }
+}
+
 impl Reached {
     // A byte of a row that is not the one due.
     #[tactic(auto, using(std::proofs::lemmas::Bool::Decides::nat_tests), unfolding(crate::specs::Comparing::differing, crate::specs::ComparingStates::standing_of))]
@@ -93,6 +116,35 @@ impl Reached {
             at: self.at,
             judge: self.judge.judge_byte(b),
         })
+    }
+
+    // The bytes of a row that is not the one due, up to its end or that of the piece.
+    // Kept: a loop of its own, and one for a row in no form: with a turn of `feed` for each byte, which hands all of the
+    // state on, a row of 100 MB in no form took 1.7 times as long.
+    fn differ_on<'a>(self, piece: &'a [u8]) -> Fed<'a>
+        requires { 0 < length piece.now }
+        ensures { (due : List ℕ) → FedTo due (differs self.at (reading_of self.judge)) piece.now (standing_of result.state) result.left.now }
+    {
+        if let Judge::Lost = self.judge {
+            return lost_on(self.at, piece);
+        }
+        let mut judge = self.judge;
+        for (i, b) in piece.iter().enumerate() {
+            if *b == b'\n' {
+                return Fed {
+                    state: Comparing::Ended {
+                        reason: judge.row_reason(),
+                        at: self.at,
+                    },
+                    left: &piece[i + 1..],
+                };
+            }
+            judge = judge.judge_byte(*b);
+        }
+        Fed {
+            state: Comparing::Differs(Reached { at: self.at, judge }),
+            left: &[],
+        }
     }
 
     // One byte more, where all was as due.
@@ -168,10 +220,7 @@ impl Comparing {
     {
         match self {
             Comparing::Same(r) => r.feed_rows(due, piece),
-            Comparing::Differs(r) => Fed {
-                state: r.differ(piece[0]),
-                left: &piece[1..],
-            },
+            Comparing::Differs(r) => r.differ_on(piece),
             Comparing::Ended { .. } => Fed {
                 state: self,
                 left: &[],

@@ -7,6 +7,8 @@ ghost use Rattle.listings.specs.Bytes.{decimal};
 ghost use Rattle.graph.specs.Print.{spaced};
 ghost use Rattle.formatting.specs.Printing.{Puts};
 
+use layout::fronts::put_front;
+
 // One byte.
 // Kept: the place by value, as the head of this file says.
 pub(crate) fn put_byte(part: &mut [u8], at: usize, b: u8) -> usize
@@ -31,10 +33,10 @@ pub(crate) fn put_bytes(part: &mut [u8], at: usize, word: &[u8]) -> usize
     let room = all - at;
     if word.len() <= room {
         let end = at + word.len();
-        part[at..end].copy_from_slice(word);
+        put_front(&mut part[at..end], word);
         return end;
     }
-    part[at..].copy_from_slice(&word[..room]);
+    put_front(&mut part[at..], &word[..room]);
     all
 }
 

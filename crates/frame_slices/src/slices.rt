@@ -4,6 +4,7 @@ ghost use Rattle.std.specs.Option.{option_to_list};
 ghost use Rattle.graph.specs.Questions.{kept, if_room};
 ghost use Rattle.frame_slices.specs.FrameAnswer.{FrameAnswered};
 
+use layout::fronts::put_front;
 use layout::refusals::{Reason, Refusal};
 use tables::lists::holds;
 
@@ -32,7 +33,7 @@ pub fn copy_list(list: &[u16], out: &mut [u16]) -> Result<usize, Refusal>
     if out.len() < len {
         return Err(Reason::NoRoom.at(len));
     }
-    out[..len].copy_from_slice(list);
+    put_front(out, list);
     out[len..].fill(0);
     Ok(len)
 }

@@ -3,6 +3,7 @@
 #![tactic(auto)]
 
 pub mod columns;
+pub mod fronts;
 pub mod limits;
 pub mod refusals;
 pub mod widths;

@@ -111,13 +111,13 @@ impl Opening {
     }
 
     // A closed form with words after its opening word.
-    #[tactic(auto, unfolding(crate::specs::CodedRows::closed_args), using(crate::specs::CodedRows::to_by_number, crate::specs::CodedRows::closed_others))]
+    #[tactic(auto, unfolding(crate::specs::CodedRows::closed_args, tokens::specs::Arguments::check_opened), using(crate::specs::CodedRows::to_by_number, crate::specs::CodedRows::closed_others))]
     fn closed_args(self, s: &[u8]) -> Result<Row, Misfit>
         ensures { result ≡ closed_args self.kind self.number (split 32 s.now) }
     {
         match self.kind {
             Kind::To => due_number(s, Position::InCond).map(Row::To),
-            _ => simple_row(self.number, check_kind(self.kind, s)),
+            _ => simple_row(self.number, check_kind(Some(self.kind), s)),
         }
     }
 

@@ -6,15 +6,17 @@ ghost use Rattle.tables.specs.Columns.{succ_start, succ_count};
 ghost use Rattle.storing.specs.Appending.{append_fits, AppendAnswered};
 
 use layout::columns::{LIST_ENTRIES, SUCC_COUNT};
+use layout::fronts::put_front;
 use layout::limits::MAX_NUMBER;
 use tables::lists::list_ends;
 
 // A list goes to the front of the part; what stands behind it stays.
+#[tactic(auto, using(layout::specs::Fronts::front_fits))]
 pub(crate) fn store_list(part: &mut [u16], list: &[u16])
     requires { length list.now ≤ length part.old }
     ensures { part.new ≡ list.now ++ drop (length list.now) part.old }
 {
-    part[..list.len()].copy_from_slice(list);
+    put_front(part, list);
 }
 
 // A node's list goes behind those stored before it, from entry `at` on, and its row says where; the answer is where the

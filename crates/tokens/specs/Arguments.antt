@@ -1,6 +1,6 @@
 -- The words after a form's opening word, as the code judges them: why one of them is refused, by the lowest number, and
 -- how many there are. Assumes nothing.
-use Rattle.std.specs.Prelude.{ℕ, suc, ◌⊎◌, ◌+◌, ◌≤◌, ◌<◌, ◌≡◌, refl, List, [], ◌∷◌, Bool, true, false, ◌&&◌, ◌||◌, not, eqb, ltb, length, get_or, take, drop, Result, Ok, Err}
+use Rattle.std.specs.Prelude.{ℕ, suc, ◌⊎◌, ◌+◌, ◌≤◌, ◌<◌, ◌≡◌, refl, List, [], ◌∷◌, Bool, true, false, ◌&&◌, ◌||◌, not, eqb, ltb, length, get_or, take, drop, Option as Maybe, Some, None, Result, Ok, Err}
 use Rattle.std.specs.Option.{ok_or}
 use Rattle.std.specs.Result.{result_and}
 use Rattle.std.proofs.Common.{sym, ◌∙◌, inl, inr, arith, not-suc-le-zero, add-one, drop_of_length-le}
@@ -272,6 +272,11 @@ check_kind kind.To ws = no_form
 check_kind kind.Stmts ws = no_form
 check_kind (kind.Cond x) ws = no_form
 check_kind kind.Bare ws = no_form
+
+-- what is none of the 28 opening words has no kind
+unfoldable pub check_opened : Maybe Kind → List (List ℕ) → Checked
+check_opened None ws = no_form
+check_opened (Some g) ws = check_kind g ws
 
 -- ---- a name and a tier
 

@@ -2,7 +2,7 @@
 ghost use Rattle.std.specs.Prelude.{◌≡◌, length};
 ghost use Rattle.listings.specs.Rows.{are_words, split, parse_name, parse_slot, parse_tier, parse_mark, single};
 ghost use Rattle.tokens.specs.Numbers.{as_number};
-ghost use Rattle.tokens.specs.Arguments.{are_slots, checked, verdict, refusal_by, lowest, lowest_of, check_for, check_next, check_kind};
+ghost use Rattle.tokens.specs.Arguments.{are_slots, checked, verdict, refusal_by, lowest, lowest_of, check_for, check_next, check_opened};
 
 use super::names::is_name;
 use super::numbers::number;
@@ -192,11 +192,14 @@ fn check_single(s: &[u8]) -> Checked
     }
 }
 
-// The words of s, one or more, after an opening word of this kind.
-#[tactic(auto, unfolding(crate::specs::Arguments::check_kind))]
-pub fn check_kind(kind: Kind, s: &[u8]) -> Checked
-    ensures { result ≡ check_kind kind (split 32 s.now) }
+// The words of s, one or more, after an opening word of this kind; after none of the 28 they are no form.
+#[tactic(auto, unfolding(crate::specs::Arguments::check_opened, crate::specs::Arguments::check_kind))]
+pub fn check_kind(kind: Option<Kind>, s: &[u8]) -> Checked
+    ensures { result ≡ check_opened kind (split 32 s.now) }
 {
+    let Some(kind) = kind else {
+        return NO_FORM;
+    };
     match kind {
         Kind::Number | Kind::Run => check_single(s),
         Kind::Numbers => check_all(s, Arguments::Numbers),

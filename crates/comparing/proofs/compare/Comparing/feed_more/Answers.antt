@@ -1,8 +1,8 @@
 -- `feed_more`: by each state. Assumes nothing.
-use mathlib.Core.Path.{sym, ap, subst, ◌∙◌}
+use mathlib.Core.Path.{sym, ap, subst}
 use mathlib.Core.List.{[]}
 use Rattle.comparing.specs.ComparingStates.{standing_of}
-use Rattle.comparing.specs.Feeding.{FedTo, fed-one, fed_differs, fed-ended, fed_as}
+use Rattle.comparing.specs.Feeding.{FedTo, fed-ended, fed_as}
 use Rattle.comparing.proofs.compare.Comparing.feed_more.Goals as goal
 
 pub returns-in-Same : goal.returns-in-Same
@@ -11,7 +11,7 @@ returns-in-Same c = fed_as (ap standing_of (sym c.in-Same.is)) c.feed_rows.ensur
 
 pub returns-in-Differs : goal.returns-in-Differs
 unfolding standing_of
-returns-in-Differs c = fed_as (ap standing_of (sym c.in-Differs.is)) (fed-one c.args.due.now _ c.args.piece.now c.requires _ (c.differ.ensures ∙ fed_differs c.args.due.now _ _ _))
+returns-in-Differs c = fed_as (ap standing_of (sym c.in-Differs.is)) (c.differ_on.ensures c.args.due.now)
 
 pub returns-in-Ended : goal.returns-in-Ended
 unfolding standing_of
