@@ -3,10 +3,8 @@ use Rattle.std.specs.Prelude.{ℕ, ◌≡◌, List, [], ◌∷◌, length, Resul
 use Rattle.std.specs.Prelude as std
 use Rattle.std.proofs.Common.{subst}
 use Rattle.std.proofs.Math.Option.{Option, none, some}
-use Rattle.layout.specs.declared.refusals.Refusal.{Refusal}
-use Rattle.layout.specs.Refusals.{number_of}
 use Rattle.graph.specs.Questions.{Reply, answer, refused}
-use Rattle.tables.specs.Told.{told, told_by}
+use Rattle.tables.specs.Told.{told_as}
 use Rattle.adjacency.specs.EntryAt.{node_of}
 use Rattle.frame_slices.specs.FrameAnswer.{length_of, slice_after}
 
@@ -47,12 +45,18 @@ pub record ListNumbered (q : Reply (List ℕ)) (out out' : List ℕ) (number : �
 pub numbered_as : {A : Type 0} {f : A → List ℕ} (q p : Reply A) {n : ℕ} {w : List ℕ} → q ≡ p → Numbered f q n w → Numbered f p n w
 numbered_as {A} {f} q p {n} {w} e g = subst (λ (z : Reply A). Numbered f z n w) e g
 
-pub entry_numbered : (r : Result (std.Option ℕ) Refusal) (q : Reply (Option ℕ)) {n : ℕ} {w : List ℕ} → told_by node_of r ≡ q → Numbered (λ x. entry_words (node_of x)) (told r) n w → Numbered entry_words q n w
-unfolding code_of words_of
-entry_numbered (Ok x) q e g = numbered_as (answer (node_of x)) q e (record { number_is = g.number_is; words_are = g.words_are })
-entry_numbered (Err x) q e g = numbered_as (refused (number_of x.reason) x.place) q e (record { number_is = g.number_is; words_are = g.words_are })
+-- a line's entry, as the definition has it
+abbrev pub entry_told : {R : Type 0} → (R → ℕ × ℕ) → Result (std.Option ℕ) R → Reply (Option ℕ)
+entry_told f (Ok x) = answer (node_of x)
+entry_told f (Err r) = refused (f r).0 (f r).1
 
-pub length_numbered : (r : Result ℕ Refusal) (q : Reply (List ℕ)) {n : ℕ} {w : List ℕ} → told r ≡ length_of q → Numbered (λ k. k ∷ 0 ∷ []) (told r) n w → Numbered length_words q n w
+pub entry_numbered : {R : Type 0} (f : R → ℕ × ℕ) (r : Result (std.Option ℕ) R) (q : Reply (Option ℕ)) {n : ℕ} {w : List ℕ} → entry_told f r ≡ q → Numbered (λ x. entry_words (node_of x)) (told_as f r) n w
+    → Numbered entry_words q n w
+unfolding code_of words_of
+entry_numbered f (Ok x) q e g = numbered_as (answer (node_of x)) q e (record { number_is = g.number_is; words_are = g.words_are })
+entry_numbered f (Err x) q e g = numbered_as (refused (f x).0 (f x).1) q e (record { number_is = g.number_is; words_are = g.words_are })
+
+pub length_numbered : (x : Reply ℕ) (q : Reply (List ℕ)) {n : ℕ} {w : List ℕ} → x ≡ length_of q → Numbered (λ k. k ∷ 0 ∷ []) x n w → Numbered length_words q n w
 unfolding length_of code_of words_of length_words
-length_numbered r (answer l) e g = let h = numbered_as (told r) (answer (length l)) e g in record { number_is = h.number_is; words_are = h.words_are }
-length_numbered r (refused m p) e g = let h = numbered_as (told r) (refused m p) e g in record { number_is = h.number_is; words_are = h.words_are }
+length_numbered x (answer l) e g = let h = numbered_as x (answer (length l)) e g in record { number_is = h.number_is; words_are = h.words_are }
+length_numbered x (refused m p) e g = let h = numbered_as x (refused m p) e g in record { number_is = h.number_is; words_are = h.words_are }

@@ -2,9 +2,8 @@
 use Rattle.std.specs.Prelude.{Result, Ok, Err, ℕ, ◌≡◌, List, [], ◌∷◌}
 use Rattle.std.proofs.Common.{◌∙◌, ap}
 use Rattle.graph.specs.Check as check
-use Rattle.comparing.specs.ComparingStates.{verdict_of}
-use Rattle.layout.specs.declared.refusals.Refusal.{Refusal}
-use Rattle.c_answers.specs.DoneNumbers.{done_number, done_place}
+use Rattle.comparing.specs.ComparingStates.{verdict_by}
+use Rattle.c_answers.specs.DoneNumbers.{number_by, place_by}
 
 -- the number and the place of each verdict; 0 and 0 for a graph that is right
 unfoldable pub number_of : check.Verdict → ℕ
@@ -17,8 +16,8 @@ place_of (check.wrong n p) = p
 
 -- ---- judged, then told
 
-pub verdict_numbered : (v : Result (Unit {0}) Refusal) {w : check.Verdict} {number : ℕ} {place : List ℕ} → verdict_of v ≡ w → (number ≡ done_number v) × (place ≡ done_place v)
+pub verdict_numbered : {R : Type 0} (f : R → ℕ × ℕ) (v : Result (Unit {0}) R) {w : check.Verdict} {number : ℕ} {place : List ℕ} → verdict_by f v ≡ w → (number ≡ number_by f v) × (place ≡ place_by f v)
     → (number ≡ number_of w) × (place ≡ place_of w ∷ [])
-unfolding number_of place_of verdict_of
-verdict_numbered (Ok u) e g = (g.0 ∙ ap number_of e, g.1 ∙ ap (λ (z : check.Verdict). place_of z ∷ []) e)
-verdict_numbered (Err r) e g = (g.0 ∙ ap number_of e, g.1 ∙ ap (λ (z : check.Verdict). place_of z ∷ []) e)
+unfolding number_of place_of verdict_by
+verdict_numbered f (Ok u) e g = (g.0 ∙ ap number_of e, g.1 ∙ ap (λ (z : check.Verdict). place_of z ∷ []) e)
+verdict_numbered f (Err r) e g = (g.0 ∙ ap number_of e, g.1 ∙ ap (λ (z : check.Verdict). place_of z ∷ []) e)

@@ -1,10 +1,10 @@
 // The answer to a question, as a number and two words.
 ghost use Rattle.std.specs.Prelude.{◌≡◌, ℕ, List, [], ◌∷◌};
-ghost use Rattle.tables.specs.Told.{told};
+ghost use Rattle.tables.specs.Told.{told_as};
 ghost use Rattle.adjacency.specs.EntryAt.{node_of};
 ghost use Rattle.c_answers.specs.QuestionNumbers.{Numbered, pair_words, entry_words};
 
-use layout::refusals::Refusal;
+use layout::refusals::Refused;
 
 // What is answered, in two words.
 pub trait Words {
@@ -48,8 +48,8 @@ impl Words for usize {
 }
 
 // 0 and the words of an answer; or document 01's number, and the refusal's place and 0.
-pub fn number_of_answer<T: Words>(answer: Result<T, Refusal>, words: &mut [usize; 2]) -> u8
-    ensures { Numbered T.as_words (told answer) result words.new }
+pub fn number_of_answer<T: Words, R: Refused>(answer: Result<T, R>, words: &mut [usize; 2]) -> u8
+    ensures { Numbered T.as_words (told_as R.as_pair answer) result words.new }
 {
     match answer {
         Ok(answered) => {
@@ -57,8 +57,8 @@ pub fn number_of_answer<T: Words>(answer: Result<T, Refusal>, words: &mut [usize
             0
         }
         Err(refusal) => {
-            *words = [refusal.place, 0];
-            refusal.reason.number()
+            *words = [refusal.place(), 0];
+            refusal.number()
         }
     }
 }

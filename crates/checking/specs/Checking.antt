@@ -1,6 +1,6 @@
 -- A graph checked beside its listing (document 02, L1): the verdict is the definition's, whatever the listing, the graph and the tables are. Assumes nothing.
 use Rattle.std.specs.Prelude.{Result, Ok, Err, ℕ, ◌≤◌, ◌<◌, ◌≡◌, List, length, take}
-use Rattle.std.proofs.Common.{◌∙◌, arith}
+use Rattle.std.proofs.Common.{◌∙◌, sym, arith}
 use Rattle.listings.specs.Bytes.{bytes}
 use Rattle.graph.specs.Print.{printed_refusal}
 use Rattle.graph.specs.Build.{Capacity, Built, graph, refused, build, written}
@@ -11,10 +11,8 @@ use Rattle.wiring.specs.BuiltAnswer.{BuiltAnswer}
 use Rattle.wiring.specs.BuiltAnswer as answer
 use Rattle.comparing.specs.Judging.{start}
 use Rattle.comparing.specs.Comparing.{Standing, same, fed, ruled}
-use Rattle.comparing.specs.ComparingStates.{verdict_of}
+use Rattle.comparing.specs.ComparingStates.{verdict_by}
 use Rattle.comparing.specs.GraphChecked.{graph_checked}
-use Rattle.layout.specs.declared.refusals.Refusal.{Refusal}
-use Rattle.layout.specs.Refusals.{number_of}
 use Rattle.formatting.specs.Printing.{Puts}
 use Rattle.printing.specs.ListGraph.{GraphListed}
 use Rattle.printing.specs.PrintLength.{written-length, refusal_length}
@@ -26,11 +24,11 @@ concluded answer.Graph z due = ruled due z
 concluded (answer.Refused n p) z due = wrong n p
 
 -- page is page' after: the tables and the page are as `list_graph` leaves them, and the verdict is the definition's
-pub record GraphChecked (text given : List ℕ) (s : Sizes) (c l t a e f k i r u p page page' : List ℕ) (v : Result (Unit {0}) Refusal) : Type 0 where
+pub record GraphChecked (text given : List ℕ) (s : Sizes) (c l t a e f k i r u p page page' : List ℕ) (v : Verdict) : Type 0 where
   pub built : BuiltAnswer
   pub len : ℕ
   pub listed : GraphListed text s c l t a e f k i r u p page page' built len
-  pub verdict : verdict_of v ≡ checked (capacity s) text given
+  pub verdict : v ≡ checked (capacity s) text given
 
 -- ---- proofs
 
@@ -50,7 +48,7 @@ module _ (text given : List ℕ) (s : Sizes) (c l t a e f k i r u p page page' :
   pub page_whole : Whole page' n (written (build (capacity s) text))
   page_whole = puts_whole page page' (written (build (capacity s) text)) n (omega (arith, written-length (capacity s) text)) w.listed
 
-  pub graph_is_checked : (v : Result (Unit {0}) Refusal) → verdict_of v ≡ concluded x (fed (take n page') (same 0 start) given) (take n page')
+  pub graph_is_checked : (v : Verdict) → v ≡ concluded x (fed (take n page') (same 0 start) given) (take n page')
       → GraphChecked text given s c l t a e f k i r u p page page' v
   graph_is_checked v q =
       record { built = x; len = n; listed = w; verdict = q ∙ concluded_so (capacity s) text given (take n page') x w.built.answer page_whole.bytes }
@@ -58,17 +56,16 @@ module _ (text given : List ℕ) (s : Sizes) (c l t a e f k i r u p page page' :
 -- ---- a verdict as a row
 
 -- all of the row is put into `out`, which is out' then
-pub record RowShown (out out' : List ℕ) (n : ℕ) (v : Result (Unit {0}) Refusal) : Type 0 where
-  pub puts : Puts out 0 out' n (shown (verdict_of v))
-  pub whole : Whole out' n (shown (verdict_of v))
+pub record RowShown (out out' : List ℕ) (n : ℕ) (v : Verdict) : Type 0 where
+  pub puts : Puts out 0 out' n (shown v)
+  pub whole : Whole out' n (shown v)
 
-module _ (out out' : List ℕ) (n : ℕ) (v : Result (Unit {0}) Refusal) (h : 64 ≤ length out) where
-  pub right-shown : v ≡ Ok tt → Puts out 0 out' n (bytes "(right)\n") → RowShown out out' n v
-  unfolding shown verdict_of bytes
+module _ {R : Type 0} (f : R → ℕ × ℕ) (out out' : List ℕ) (n : ℕ) (v : Result (Unit {0}) R) (h : 64 ≤ length out) where
+  pub right-shown : v ≡ Ok tt → Puts out 0 out' n (bytes "(right)\n") → RowShown out out' n (verdict_by f v)
+  unfolding shown verdict_by bytes
   right-shown e g = rw e (record { puts = g; whole = puts_whole out out' (bytes "(right)\n") n (omega arith) g })
 
-  pub wrong_shown : (r : Refusal) → v ≡ Err r → number_of r.reason < 100000000000000000000 → r.place < 100000000000000000000 → Puts out 0 out' n (printed_refusal (number_of r.reason) r.place)
-      → RowShown out out' n v
-  unfolding shown verdict_of
-  wrong_shown r e hj hy g =
-      rw e (record { puts = g; whole = puts_whole out out' (printed_refusal (number_of r.reason) r.place) n (omega (arith, refusal_length (number_of r.reason) r.place hj hy)) g })
+  pub wrong_shown : (r : R) (j y : ℕ) → v ≡ Err r → j ≡ (f r).0 → y ≡ (f r).1 → j < 100000000000000000000 → y < 100000000000000000000 → Puts out 0 out' n (printed_refusal j y)
+      → RowShown out out' n (verdict_by f v)
+  unfolding shown verdict_by
+  wrong_shown r j y e ej ey hj hy g = rw (e, sym ej, sym ey) (record { puts = g; whole = puts_whole out out' (printed_refusal j y) n (omega (arith, refusal_length j y hj hy)) g })

@@ -2,18 +2,18 @@
 ghost use Rattle.std.specs.Prelude.{◌≡◌};
 ghost use Rattle.comparing.specs.Judging.{start};
 ghost use Rattle.comparing.specs.Comparing.{same, fed};
-ghost use Rattle.comparing.specs.ComparingStates.{standing_of, verdict_of};
+ghost use Rattle.comparing.specs.ComparingStates.{standing_by, verdict_by, verdict_of};
 ghost use Rattle.passes.specs.TableForms.{sizes_of};
-ghost use Rattle.wiring.specs.BuiltAnswer.{built_told};
+ghost use Rattle.wiring.specs.BuiltAnswer.{built_as, built_told};
 ghost use Rattle.checking.specs.Checking.{concluded, GraphChecked};
 
 use comparing::compare::Comparing;
-use layout::refusals::Refusal;
+use layout::refusals::{Refusal, Refused};
 use printing::list::{MAX_PRINTED, list_graph};
 
 // The graph given ends: the listing's refusal, whatever was given, or what the comparison says.
-pub fn conclude(built: Result<(), Refusal>, s: Comparing, due: &[u8]) -> Result<(), Refusal>
-    ensures { verdict_of result ≡ concluded (built_told built) (standing_of s) due.now }
+pub fn conclude<R: Refused>(built: Result<(), R>, s: Comparing<R>, due: &[u8]) -> Result<(), R>
+    ensures { verdict_by R.as_pair result ≡ concluded (built_as R.as_pair built) (standing_by R.as_pair s) due.now }
 {
     built?;
     s.rule(due)
@@ -45,7 +45,7 @@ pub fn check_graph(
     pred: &mut [u16],
     page: &mut [u8; MAX_PRINTED],
 ) -> Result<(), Refusal>
-    ensures { GraphChecked text.now graph.now (sizes_of lines.old stmts.old args.old entries.old falls.old links.old lists.old returns.old succ.old pred.old) counts.new lines.new stmts.new args.new entries.new falls.new links.new lists.new returns.new succ.new pred.new page.old page.new result }
+    ensures { GraphChecked text.now graph.now (sizes_of lines.old stmts.old args.old entries.old falls.old links.old lists.old returns.old succ.old pred.old) counts.new lines.new stmts.new args.new entries.new falls.new links.new lists.new returns.new succ.new pred.new page.old page.new (verdict_of result) }
 {
     let listed = list_graph(
         text, counts, lines, stmts, args, entries, falls, links, lists, returns, succ, pred, page,

@@ -1,19 +1,21 @@
 // A verdict as a row.
+ghost use Rattle.comparing.specs.ComparingStates.{verdict_by};
 ghost use Rattle.checking.specs.Checking.{RowShown};
 
 use formatting::page::{print_bytes, print_refusal};
-use layout::refusals::Refusal;
+use layout::refusals::Refused;
 
 // Room for each such row.
 pub const MAX_ROW: usize = 64;
 
 // The row that is printed for a verdict.
 // Kept: a length, as `formatting::page::print_bytes` answers.
-pub fn show_verdict(out: &mut [u8; MAX_ROW], verdict: Result<(), Refusal>) -> usize
-    ensures { RowShown out.old out.new result verdict }
+// Kept: a pair of what the refusal tells: of its numbers it is known how long they can be.
+pub fn show_verdict<R: Refused>(out: &mut [u8; MAX_ROW], verdict: Result<(), R>) -> usize
+    ensures { RowShown out.old out.new result (verdict_by R.as_pair verdict) }
 {
     match verdict {
         Ok(()) => print_bytes(out, b"(right)\n"),
-        Err(refusal) => print_refusal(out, refusal),
+        Err(refusal) => print_refusal(out, (refusal.number(), refusal.place())),
     }
 }

@@ -17,17 +17,25 @@ use Rattle.comparing.specs.declared.judge.Judge.TheVariants.{Start, Opened, Lost
 use Rattle.comparing.specs.declared.compare.Comparing.{Comparing}
 use Rattle.comparing.specs.declared.compare.Comparing.TheVariants.{Same, Differs, Ended}
 use Rattle.layout.specs.declared.refusals.Refusal.{Refusal}
-use Rattle.layout.specs.Refusals.{number_of}
+use Rattle.layout.specs.Refusals.{refusal_pair}
 
-unfoldable pub standing_of : Comparing → Standing
-standing_of (Same r) = same r.at (reading_of r.judge)
-standing_of (Differs r) = differs r.at (reading_of r.judge)
-standing_of (Ended k at) = ended (number_of k) at
+-- by what a refusal tells, its number and its place
+unfoldable pub standing_by : {R : Type 0} → (R → ℕ × ℕ) → Comparing R → Standing
+standing_by f (Same r) = same r.at (reading_of r.judge)
+standing_by f (Differs r) = differs r.at (reading_of r.judge)
+standing_by f (Ended r) = ended (f r).0 (f r).1
 
 -- the number and the place of each verdict
-unfoldable pub verdict_of : Result (Unit {0}) Refusal → check.Verdict
-verdict_of (Ok u) = check.right
-verdict_of (Err r) = check.wrong (number_of r.reason) r.place
+unfoldable pub verdict_by : {R : Type 0} → (R → ℕ × ℕ) → Result (Unit {0}) R → check.Verdict
+verdict_by f (Ok u) = check.right
+verdict_by f (Err r) = check.wrong (f r).0 (f r).1
+
+-- the same of the papers' refusals
+abbrev pub standing_of : Comparing Refusal → Standing
+standing_of = standing_by refusal_pair
+
+abbrev pub verdict_of : Result (Unit {0}) Refusal → check.Verdict
+verdict_of = verdict_by refusal_pair
 
 -- ---- the byte due
 

@@ -4,11 +4,11 @@ ghost use Rattle.listings.specs.Bytes.{pick};
 ghost use Rattle.comparing.specs.Judging.{start, lost};
 ghost use Rattle.comparing.specs.JudgeStates.{reading_of};
 ghost use Rattle.comparing.specs.Comparing.{same, differs, begins, differing, fed_byte, fed, place_at, ruled};
-ghost use Rattle.comparing.specs.ComparingStates.{standing_of, verdict_of};
+ghost use Rattle.comparing.specs.ComparingStates.{standing_by, verdict_by};
 ghost use Rattle.comparing.specs.Feeding.{RowsDue, FedTo};
 
 use crate::judge::Judge;
-use layout::refusals::{Reason, Refusal};
+use layout::refusals::{Reason, Refused};
 
 // How many bytes of the graph due were met, and where the row stands beside its form.
 #[derive(Clone, Copy)]
@@ -17,18 +17,19 @@ pub struct Reached {
     pub judge: Judge,
 }
 
-// All that was given is due so far; this row is not the one due; a row was not, and has ended.
+// All that was given is due so far; this row is not the one due; a row was not, and has ended. What is refused then stands
+// at the byte where that row differed, and `rule` moves it to the row.
 #[derive(Clone, Copy)]
-pub enum Comparing {
+pub enum Comparing<R> {
     Same(Reached),
     Differs(Reached),
-    Ended { reason: Reason, at: usize },
+    Ended(R),
 }
 
 // What was found so far, and what is left of a piece.
 #[derive(Clone, Copy)]
-struct Fed<'a> {
-    state: Comparing,
+struct Fed<'a, R> {
+    state: Comparing<R>,
     left: &'a [u8],
 }
 
@@ -78,17 +79,14 @@ fn place_at(due: &[u8], at: usize) -> usize
 }
 
 // The bytes of a row in no form, up to its end or that of the piece: only where it ends matters.
-fn lost_on<'a>(at: usize, piece: &'a [u8]) -> Fed<'a>
+fn lost_on<'a, R: Refused>(at: usize, piece: &'a [u8]) -> Fed<'a, R>
     requires { 0 < length piece.now }
-    ensures { (due : List ℕ) → FedTo due (differs at lost) piece.now (standing_of result.state) result.left.now }
+    ensures { (due : List ℕ) → FedTo due (differs at lost) piece.now (standing_by R.as_pair result.state) result.left.now }
 {
     for (i, b) in piece.iter().enumerate() {
         if *b == b'\n' {
             return Fed {
-                state: Comparing::Ended {
-                    reason: Reason::NotARow,
-                    at,
-                },
+                state: Comparing::Ended(R::refused(Reason::NotARow, at)),
                 left: &piece[i + 1..],
             };
         }
@@ -102,15 +100,12 @@ fn lost_on<'a>(at: usize, piece: &'a [u8]) -> Fed<'a>
 
 impl Reached {
     // A byte of a row that is not the one due.
-    #[tactic(auto, using(std::proofs::lemmas::Bool::Decides::nat_tests), unfolding(crate::specs::Comparing::differing, crate::specs::ComparingStates::standing_of))]
-    fn differ(self, b: u8) -> Comparing
-        ensures { standing_of result ≡ differing self.at (reading_of self.judge) b }
+    #[tactic(auto, using(std::proofs::lemmas::Bool::Decides::nat_tests), unfolding(crate::specs::Comparing::differing, crate::specs::ComparingStates::standing_by))]
+    fn differ<R: Refused>(self, b: u8) -> Comparing<R>
+        ensures { standing_by R.as_pair result ≡ differing self.at (reading_of self.judge) b }
     {
         if b == b'\n' {
-            return Comparing::Ended {
-                reason: self.judge.row_reason(),
-                at: self.at,
-            };
+            return Comparing::Ended(R::refused(self.judge.row_reason(), self.at));
         }
         Comparing::Differs(Reached {
             at: self.at,
@@ -121,9 +116,9 @@ impl Reached {
     // The bytes of a row that is not the one due, up to its end or that of the piece.
     // Kept: a loop of its own, and one for a row in no form: with a turn of `feed` for each byte, which hands all of the
     // state on, a row of 100 MB in no form took 1.7 times as long.
-    fn differ_on<'a>(self, piece: &'a [u8]) -> Fed<'a>
+    fn differ_on<'a, R: Refused>(self, piece: &'a [u8]) -> Fed<'a, R>
         requires { 0 < length piece.now }
-        ensures { (due : List ℕ) → FedTo due (differs self.at (reading_of self.judge)) piece.now (standing_of result.state) result.left.now }
+        ensures { (due : List ℕ) → FedTo due (differs self.at (reading_of self.judge)) piece.now (standing_by R.as_pair result.state) result.left.now }
     {
         if let Judge::Lost = self.judge {
             return lost_on(self.at, piece);
@@ -132,10 +127,7 @@ impl Reached {
         for (i, b) in piece.iter().enumerate() {
             if *b == b'\n' {
                 return Fed {
-                    state: Comparing::Ended {
-                        reason: judge.row_reason(),
-                        at: self.at,
-                    },
+                    state: Comparing::Ended(R::refused(judge.row_reason(), self.at)),
                     left: &piece[i + 1..],
                 };
             }
@@ -148,9 +140,9 @@ impl Reached {
     }
 
     // One byte more, where all was as due.
-    #[tactic(auto, unfolding(crate::specs::Comparing::fed_byte, crate::specs::ComparingStates::standing_of))]
-    fn feed_same(self, due: &[u8], b: u8) -> Comparing
-        ensures { standing_of result ≡ fed_byte due.now (same self.at (reading_of self.judge)) b }
+    #[tactic(auto, unfolding(crate::specs::Comparing::fed_byte, crate::specs::ComparingStates::standing_by))]
+    fn feed_same<R: Refused>(self, due: &[u8], b: u8) -> Comparing<R>
+        ensures { standing_by R.as_pair result ≡ fed_byte due.now (same self.at (reading_of self.judge)) b }
     {
         if is_due(due, self.at, b) {
             return Comparing::Same(Reached {
@@ -162,9 +154,9 @@ impl Reached {
     }
 
     // Where all was as due: rows that are due at once, else one byte.
-    fn feed_rows<'a>(self, due: &[u8], piece: &'a [u8]) -> Fed<'a>
+    fn feed_rows<'a, R: Refused>(self, due: &[u8], piece: &'a [u8]) -> Fed<'a, R>
         requires { 0 < length piece.now }
-        ensures { FedTo due.now (same self.at (reading_of self.judge)) piece.now (standing_of result.state) result.left.now }
+        ensures { FedTo due.now (same self.at (reading_of self.judge)) piece.now (standing_by R.as_pair result.state) result.left.now }
     {
         let m = if self.judge.is_start() {
             rows_due(self.at, due, piece)
@@ -187,25 +179,25 @@ impl Reached {
     }
 
     // The graph given ends, and all was as due.
-    #[tactic(auto, using(crate::specs::ComparingStates::nothing_left, crate::specs::ComparingStates::something_left), unfolding(crate::specs::Comparing::ruled, crate::specs::ComparingStates::verdict_of))]
-    fn rule_same(self, due: &[u8]) -> Result<(), Refusal>
-        ensures { verdict_of result ≡ ruled due.now (same self.at (reading_of self.judge)) }
+    #[tactic(auto, using(crate::specs::ComparingStates::nothing_left, crate::specs::ComparingStates::something_left), unfolding(crate::specs::Comparing::ruled, crate::specs::ComparingStates::verdict_by))]
+    fn rule_same<R: Refused>(self, due: &[u8]) -> Result<(), R>
+        ensures { verdict_by R.as_pair result ≡ ruled due.now (same self.at (reading_of self.judge)) }
     {
         if !self.judge.is_start() {
-            return Err(Reason::NotARow.at(place_at(due, self.at)));
+            return Err(R::refused(Reason::NotARow, place_at(due, self.at)));
         }
         if due.len() <= self.at {
             return Ok(());
         }
-        Err(Reason::WrongRow.at(place_at(due, self.at)))
+        Err(R::refused(Reason::WrongRow, place_at(due, self.at)))
     }
 }
 
-impl Comparing {
+impl<R: Refused> Comparing<R> {
     // Before the first byte.
-    #[tactic(auto, unfolding(crate::specs::JudgeStates::reading_of, crate::specs::ComparingStates::standing_of))]
-    pub fn begin() -> Comparing
-        ensures { standing_of result ≡ same 0 start }
+    #[tactic(auto, unfolding(crate::specs::JudgeStates::reading_of, crate::specs::ComparingStates::standing_by))]
+    pub fn begin() -> Comparing<R>
+        ensures { standing_by R.as_pair result ≡ same 0 start }
     {
         Comparing::Same(Reached {
             at: 0,
@@ -214,14 +206,14 @@ impl Comparing {
     }
 
     // At least one byte more; behind a row that was not due nothing counts.
-    fn feed_more<'a>(self, due: &[u8], piece: &'a [u8]) -> Fed<'a>
+    fn feed_more<'a>(self, due: &[u8], piece: &'a [u8]) -> Fed<'a, R>
         requires { 0 < length piece.now }
-        ensures { FedTo due.now (standing_of self) piece.now (standing_of result.state) result.left.now }
+        ensures { FedTo due.now (standing_by R.as_pair self) piece.now (standing_by R.as_pair result.state) result.left.now }
     {
         match self {
             Comparing::Same(r) => r.feed_rows(due, piece),
             Comparing::Differs(r) => r.differ_on(piece),
-            Comparing::Ended { .. } => Fed {
+            Comparing::Ended(_) => Fed {
                 state: self,
                 left: &[],
             },
@@ -230,8 +222,8 @@ impl Comparing {
 
     // One piece more of the graph given.
     // Kept: `while`, since a turn takes one byte or many rows: an iterator of such steps would be no plainer.
-    pub fn feed(self, due: &[u8], piece: &[u8]) -> Comparing
-        ensures { standing_of result ≡ fed due.now (standing_of self) piece.now }
+    pub fn feed(self, due: &[u8], piece: &[u8]) -> Comparing<R>
+        ensures { standing_by R.as_pair result ≡ fed due.now (standing_by R.as_pair self) piece.now }
     {
         let mut s = self;
         let mut left = piece;
@@ -244,14 +236,14 @@ impl Comparing {
     }
 
     // The graph given ends: right, or refused at the first row that is not the one due.
-    #[tactic(auto, unfolding(crate::specs::Comparing::ruled, crate::specs::ComparingStates::standing_of, crate::specs::ComparingStates::verdict_of))]
-    pub fn rule(self, due: &[u8]) -> Result<(), Refusal>
-        ensures { verdict_of result ≡ ruled due.now (standing_of self) }
+    #[tactic(auto, unfolding(crate::specs::Comparing::ruled, crate::specs::ComparingStates::standing_by, crate::specs::ComparingStates::verdict_by))]
+    pub fn rule(self, due: &[u8]) -> Result<(), R>
+        ensures { verdict_by R.as_pair result ≡ ruled due.now (standing_by R.as_pair self) }
     {
         match self {
             Comparing::Same(r) => r.rule_same(due),
-            Comparing::Differs(r) => Err(Reason::NotARow.at(place_at(due, r.at))),
-            Comparing::Ended { reason, at } => Err(reason.at(place_at(due, at))),
+            Comparing::Differs(r) => Err(R::refused(Reason::NotARow, place_at(due, r.at))),
+            Comparing::Ended(r) => Err(r.moved(place_at(due, r.place()))),
         }
     }
 }

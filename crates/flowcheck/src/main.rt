@@ -10,6 +10,7 @@ use checking::verdict::{MAX_ROW, show_verdict};
 use comparing::compare::Comparing;
 use filling::read_full;
 use layout::limits::MAX_BYTES;
+use layout::refusals::Refusal;
 use printing::list::MAX_PRINTED;
 use std::env::FillError;
 use std::fs::File;
@@ -102,7 +103,7 @@ fn expect_text_end<'a>(n: usize, listing: &mut Named<'a>) -> Result<(), Failure<
 
 // The graph in a file beside the one due, in pieces.
 // Kept: a range and no `loop`: a proved loop has to end, so its turns are counted, up to a number that no run comes to.
-fn compare_file(file: &mut File, due: &[u8]) -> Comparing
+fn compare_file(file: &mut File, due: &[u8]) -> Comparing<Refusal>
     ensures { SomeFed due.now (standing_of result) }
 {
     let mut s = Comparing::begin();

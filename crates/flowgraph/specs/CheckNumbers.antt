@@ -3,8 +3,8 @@ use Rattle.std.specs.Prelude.{Result, ℕ, ◌≡◌, List, [], ◌∷◌}
 use Rattle.graph.specs.Check.{checked}
 use Rattle.passes.specs.TableForms.{Sizes, capacity}
 use Rattle.wiring.specs.BuiltAnswer.{BuiltAnswer}
-use Rattle.layout.specs.declared.refusals.Refusal.{Refusal}
-use Rattle.c_answers.specs.DoneNumbers.{done_number, done_place}
+use Rattle.comparing.specs.ComparingStates.{verdict_by}
+use Rattle.c_answers.specs.DoneNumbers.{number_by, place_by}
 use Rattle.printing.specs.ListGraph.{GraphListed}
 use Rattle.checking.specs.Checking.{GraphChecked}
 use Rattle.c_answers.specs.VerdictNumbers.{number_of, place_of, verdict_numbered}
@@ -18,9 +18,9 @@ pub record CheckNumbered (text given : List ℕ) (s : Sizes) (c l t a e f k i r 
   pub listed : GraphListed text s c l t a e f k i r u p page page' built len
 
 -- judged, then told
-pub check-numbered : {text given : List ℕ} {s : Sizes} {c l t a e f k i r u p page page' : List ℕ} {v : Result (Unit {0}) Refusal} {number : ℕ} {place : List ℕ}
-    → GraphChecked text given s c l t a e f k i r u p page page' v → (number ≡ done_number v) × (place ≡ done_place v)
+pub check-numbered : {text given : List ℕ} {s : Sizes} {c l t a e f k i r u p page page' : List ℕ} {R : Type 0} (h : R → ℕ × ℕ) (v : Result (Unit {0}) R) {number : ℕ} {place : List ℕ}
+    → GraphChecked text given s c l t a e f k i r u p page page' (verdict_by h v) → (number ≡ number_by h v) × (place ≡ place_by h v)
     → CheckNumbered text given s c l t a e f k i r u p page page' number place
-check-numbered {v = v} w g =
-    let z = verdict_numbered v w.verdict g in
+check-numbered h v w g =
+    let z = verdict_numbered h v w.verdict g in
     record { number_is = z.0; place_is = z.1; built = w.built; len = w.len; listed = w.listed }

@@ -3,12 +3,11 @@ ghost use Rattle.std.specs.Prelude.{◌≡◌, [], ◌∷◌, ◌++◌, ◌<◌,
 ghost use Rattle.listings.specs.Bytes.{decimal};
 ghost use Rattle.listings.specs.WordTable.{words};
 ghost use Rattle.graph.specs.Print.{spaced, printed_refusal};
-ghost use Rattle.layout.specs.Refusals.{number_of};
 ghost use Rattle.formatting.specs.Printing.{Puts};
 ghost use Rattle.formatting.specs.Pages.{Wrote, pair_text};
 
 use crate::parts;
-use layout::refusals::Refusal;
+use layout::refusals::Refused;
 use tokens::words::word;
 
 // A lent part, and where its next byte goes.
@@ -109,11 +108,11 @@ impl<'a> Page<'a> {
     }
 
     // "A refusal prints only" its number and place.
-    pub fn put_refusal(&mut self, refusal: Refusal)
-        ensures { Wrote self.old self.new (printed_refusal (number_of refusal.reason) refusal.place) }
+    pub fn put_refusal<R: Refused>(&mut self, refusal: R)
+        ensures { Wrote self.old self.new (printed_refusal (R.as_pair refusal).0 (R.as_pair refusal).1) }
     {
-        let number = usize::from(refusal.reason.number());
-        self.put_pair_row(b"(refused", number, refusal.place);
+        let number = usize::from(refusal.number());
+        self.put_pair_row(b"(refused", number, refusal.place());
     }
 }
 
@@ -129,8 +128,8 @@ pub fn print_bytes(out: &mut [u8], bytes: &[u8]) -> usize
 }
 
 // A printed refusal alone, in a lent part; answers where the next byte would go.
-pub fn print_refusal(out: &mut [u8], refusal: Refusal) -> usize
-    ensures { Puts out.old 0 out.new result (printed_refusal (number_of refusal.reason) refusal.place) }
+pub fn print_refusal<R: Refused>(out: &mut [u8], refusal: R) -> usize
+    ensures { Puts out.old 0 out.new result (printed_refusal (R.as_pair refusal).0 (R.as_pair refusal).1) }
 {
     let mut page = Page::new(out);
     page.put_refusal(refusal);

@@ -55,6 +55,10 @@ number_of reason.Lacking = 35
 abbrev pub refusal_at : Reason → ℕ → Refusal
 refusal_at r p = record { reason = r; place = p }
 
+-- "document 01's number and place"
+abbrev pub refusal_pair : Refusal → ℕ × ℕ
+refusal_pair r = (number_of r.reason, r.place)
+
 pub number_small : (r : Reason) → number_of r ≤ 35
 number_small reason.TextTooLong = omega arith
 number_small reason.NotAForm = omega arith

@@ -1,6 +1,6 @@
 // Why an input, a build or a question is refused, and at which place.
-ghost use Rattle.std.specs.Prelude.{◌≡◌};
-ghost use Rattle.layout.specs.Refusals.{number_of, refusal_at};
+ghost use Rattle.std.specs.Prelude.{◌≡◌, ℕ};
+ghost use Rattle.layout.specs.Refusals.{number_of, refusal_at, refusal_pair};
 
 // The reasons, with the papers' numbers.
 #[derive(Clone, Copy, Debug, PartialEq, Eq)]
@@ -51,5 +51,66 @@ impl Reason {
             reason: self,
             place,
         }
+    }
+}
+
+// What tells that something is refused: a number and a place. What hands a refusal on or prints it takes any of these.
+pub trait Refused: Copy {
+    ghost as_pair: { Self → ℕ × ℕ };
+
+    // For this reason, at that place.
+    fn refused(reason: Reason, place: usize) -> Self
+        ensures { as_pair result ≡ (number_of reason, place) };
+
+    fn number(self) -> u8
+        ensures { result ≡ (as_pair self).0 };
+
+    fn place(self) -> usize
+        ensures { result ≡ (as_pair self).1 };
+
+    // The same number, at another place.
+    fn moved(self, place: usize) -> Self
+        ensures { as_pair result ≡ ((as_pair self).0, place) };
+}
+
+// One of the papers' numbers.
+impl Refused for Refusal {
+    ghost as_pair = { refusal_pair };
+
+    fn refused(reason: Reason, place: usize) -> Refusal {
+        reason.at(place)
+    }
+
+    fn number(self) -> u8 {
+        self.reason.number()
+    }
+
+    fn place(self) -> usize {
+        self.place
+    }
+
+    fn moved(self, place: usize) -> Refusal {
+        self.reason.at(place)
+    }
+}
+
+// Any number.
+impl Refused for (u8, usize) {
+    ghost as_pair = { λ pair. pair };
+
+    fn refused(reason: Reason, place: usize) -> (u8, usize) {
+        (reason.number(), place)
+    }
+
+    fn number(self) -> u8 {
+        self.0
+    }
+
+    fn place(self) -> usize {
+        self.1
+    }
+
+    fn moved(self, place: usize) -> (u8, usize) {
+        (self.0, place)
     }
 }

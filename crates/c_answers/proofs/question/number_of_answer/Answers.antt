@@ -9,4 +9,4 @@ returns-in-Ok g c = rw c.in-Ok.is (record { number_is = refl; words_are = c.word
 
 pub returns-in-Err : goal.returns-in-Err
 unfolding code_of words_of
-returns-in-Err g c = rw c.in-Err.is (record { number_is = c.number.ensures; words_are = refl })
+returns-in-Err g c = rw c.in-Err.is (record { number_is = c.number.ensures; words_are = rw c.place.ensures refl })

@@ -4,4 +4,4 @@ use Rattle.comparing.specs.Feeding.{Differing}
 use Rattle.comparing.proofs.compare.lost_on.Given as goal
 
 abbrev pub invariant-loop-i : goal.invariant-loop-i
-invariant-loop-i l = Differing l.at lost l.piece l.i lost
+invariant-loop-i g l = Differing l.at lost l.piece l.i lost

@@ -4,4 +4,4 @@ use Rattle.comparing.specs.Feeding.{Differing}
 use Rattle.comparing.proofs.compare.Reached.differ_on.Given as goal
 
 abbrev pub invariant-loop-i : goal.invariant-loop-i
-invariant-loop-i l = Differing l.self.at (reading_of l.self.judge) l.piece l.i (reading_of l.judge)
+invariant-loop-i g l = Differing l.self.at (reading_of l.self.judge) l.piece l.i (reading_of l.judge)
