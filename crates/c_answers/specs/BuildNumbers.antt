@@ -4,7 +4,7 @@ use Rattle.std.proofs.Common.{◌∙◌, ap, subst}
 use Rattle.graph.specs.Build.{Built, graph, refused}
 use Rattle.passes.specs.TableForms.{Sizes}
 use Rattle.wiring.specs.GraphTables.{Answered, answer_of, answer_graph, answer_refused}
-use Rattle.c_answers.specs.DoneNumbers.{number_by, place_by}
+use Rattle.c_answers.specs.DoneNumbers.{number_as, place_as}
 use Rattle.wiring.specs.BuiltAnswer.{BuiltAnswer, built_as}
 use Rattle.wiring.specs.BuiltAnswer as answer
 
@@ -32,7 +32,7 @@ abbrev pub built_place : BuiltAnswer → List ℕ
 built_place answer.Graph = 0 ∷ []
 built_place (answer.Refused n p) = p ∷ []
 
-done_built : {R : Type 0} (f : R → ℕ × ℕ) (r : Result (Unit {0}) R) → (number_by f r ≡ built_number (built_as f r)) × (place_by f r ≡ built_place (built_as f r))
+done_built : {R : Type 0} (f : R → ℕ × ℕ) (r : Result (Unit {0}) R) → (number_as f r ≡ built_number (built_as f r)) × (place_as f r ≡ built_place (built_as f r))
 done_built f (Ok u) = (refl, refl)
 done_built f (Err r) = (refl, refl)
 
@@ -44,7 +44,7 @@ built_numbered (graph L) h g = let e = h ∙ answer_graph L in (g.0 ∙ ap built
 built_numbered (refused n p) h g = let e = h ∙ answer_refused n p in (g.0 ∙ ap built_number e, g.1 ∙ ap built_place e)
 
 pub build-numbered : {b : Built} {s : Sizes} {c l t a e f k i r u p : List ℕ} {R : Type 0} (h : R → ℕ × ℕ) (x : Result (Unit {0}) R) {number : ℕ} {place : List ℕ} → Answered b s c l t a e f k i r u p (built_as h x)
-    → (number ≡ number_by h x) × (place ≡ place_by h x) → BuildNumbered b s c l t a e f k i r u p number place
+    → (number ≡ number_as h x) × (place ≡ place_as h x) → BuildNumbered b s c l t a e f k i r u p number place
 build-numbered {b} {s} {c} {l} {t} {a} {e} {f} {k} {i} {r} {u} {p} h x w g =
     let d = done_built h x in
     let z = built_numbered b w.answer (g.0 ∙ d.0, g.1 ∙ d.1) in

@@ -1,6 +1,6 @@
 // The answer of a build or of a check, which is only whether it is refused.
 ghost use Rattle.std.specs.Prelude.{◌≡◌};
-ghost use Rattle.c_answers.specs.DoneNumbers.{number_by, place_by};
+ghost use Rattle.c_answers.specs.DoneNumbers.{number_as, place_as};
 
 use layout::refusals::Refused;
 
@@ -8,7 +8,7 @@ use layout::refusals::Refused;
 // Kept: beside `number_of_answer`, since C lends one place here, and two words to a question: by a const parameter
 // `Words` would say for each length what a refusal writes as well, and `impl Words<1> for ()` serve this one caller.
 pub fn number_of_done<R: Refused>(done: Result<(), R>, place: &mut [usize; 1]) -> u8
-    ensures { (result ≡ number_by R.as_pair done) × (place.new ≡ place_by R.as_pair done) }
+    ensures { (result ≡ number_as R.as_pair done) × (place.new ≡ place_as R.as_pair done) }
 {
     match done {
         Ok(()) => {

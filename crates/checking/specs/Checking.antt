@@ -11,7 +11,7 @@ use Rattle.wiring.specs.BuiltAnswer.{BuiltAnswer}
 use Rattle.wiring.specs.BuiltAnswer as answer
 use Rattle.comparing.specs.Judging.{start}
 use Rattle.comparing.specs.Comparing.{Standing, same, fed, ruled}
-use Rattle.comparing.specs.ComparingStates.{verdict_by}
+use Rattle.comparing.specs.ComparingStates.{verdict_as}
 use Rattle.comparing.specs.GraphChecked.{graph_checked}
 use Rattle.formatting.specs.Printing.{Puts}
 use Rattle.printing.specs.ListGraph.{GraphListed}
@@ -61,11 +61,11 @@ pub record RowShown (out out' : List ℕ) (n : ℕ) (v : Verdict) : Type 0 where
   pub whole : Whole out' n (shown v)
 
 module _ {R : Type 0} (f : R → ℕ × ℕ) (out out' : List ℕ) (n : ℕ) (v : Result (Unit {0}) R) (h : 64 ≤ length out) where
-  pub right-shown : v ≡ Ok tt → Puts out 0 out' n (bytes "(right)\n") → RowShown out out' n (verdict_by f v)
-  unfolding shown verdict_by bytes
+  pub right-shown : v ≡ Ok tt → Puts out 0 out' n (bytes "(right)\n") → RowShown out out' n (verdict_as f v)
+  unfolding shown verdict_as bytes
   right-shown e g = rw e (record { puts = g; whole = puts_whole out out' (bytes "(right)\n") n (omega arith) g })
 
   pub wrong_shown : (r : R) (j y : ℕ) → v ≡ Err r → j ≡ (f r).0 → y ≡ (f r).1 → j < 100000000000000000000 → y < 100000000000000000000 → Puts out 0 out' n (printed_refusal j y)
-      → RowShown out out' n (verdict_by f v)
-  unfolding shown verdict_by
+      → RowShown out out' n (verdict_as f v)
+  unfolding shown verdict_as
   wrong_shown r j y e ej ey hj hy g = rw (e, sym ej, sym ey) (record { puts = g; whole = puts_whole out out' (printed_refusal j y) n (omega (arith, refusal_length j y hj hy)) g })

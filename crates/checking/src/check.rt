@@ -2,7 +2,7 @@
 ghost use Rattle.std.specs.Prelude.{◌≡◌};
 ghost use Rattle.comparing.specs.Judging.{start};
 ghost use Rattle.comparing.specs.Comparing.{same, fed};
-ghost use Rattle.comparing.specs.ComparingStates.{standing_by, verdict_by, verdict_of};
+ghost use Rattle.comparing.specs.ComparingStates.{standing_as, verdict_as, verdict_of};
 ghost use Rattle.passes.specs.TableForms.{sizes_of};
 ghost use Rattle.wiring.specs.BuiltAnswer.{built_as, built_told};
 ghost use Rattle.checking.specs.Checking.{concluded, GraphChecked};
@@ -13,7 +13,7 @@ use printing::list::{MAX_PRINTED, list_graph};
 
 // The graph given ends: the listing's refusal, whatever was given, or what the comparison says.
 pub fn conclude<R: Refused>(built: Result<(), R>, s: Comparing<R>, due: &[u8]) -> Result<(), R>
-    ensures { verdict_by R.as_pair result ≡ concluded (built_as R.as_pair built) (standing_by R.as_pair s) due.now }
+    ensures { verdict_as R.as_pair result ≡ concluded (built_as R.as_pair built) (standing_as R.as_pair s) due.now }
 {
     built?;
     s.rule(due)

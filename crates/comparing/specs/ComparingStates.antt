@@ -20,22 +20,22 @@ use Rattle.layout.specs.declared.refusals.Refusal.{Refusal}
 use Rattle.layout.specs.Refusals.{refusal_pair}
 
 -- by what a refusal tells, its number and its place
-unfoldable pub standing_by : {R : Type 0} → (R → ℕ × ℕ) → Comparing R → Standing
-standing_by f (Same r) = same r.at (reading_of r.judge)
-standing_by f (Differs r) = differs r.at (reading_of r.judge)
-standing_by f (Ended r) = ended (f r).0 (f r).1
+unfoldable pub standing_as : {R : Type 0} → (R → ℕ × ℕ) → Comparing R → Standing
+standing_as f (Same r) = same r.at (reading_of r.judge)
+standing_as f (Differs r) = differs r.at (reading_of r.judge)
+standing_as f (Ended r) = ended (f r).0 (f r).1
 
 -- the number and the place of each verdict
-unfoldable pub verdict_by : {R : Type 0} → (R → ℕ × ℕ) → Result (Unit {0}) R → check.Verdict
-verdict_by f (Ok u) = check.right
-verdict_by f (Err r) = check.wrong (f r).0 (f r).1
+unfoldable pub verdict_as : {R : Type 0} → (R → ℕ × ℕ) → Result (Unit {0}) R → check.Verdict
+verdict_as f (Ok u) = check.right
+verdict_as f (Err r) = check.wrong (f r).0 (f r).1
 
 -- the same of the papers' refusals
 abbrev pub standing_of : Comparing Refusal → Standing
-standing_of = standing_by refusal_pair
+standing_of = standing_as refusal_pair
 
 abbrev pub verdict_of : Result (Unit {0}) Refusal → check.Verdict
-verdict_of = verdict_by refusal_pair
+verdict_of = verdict_as refusal_pair
 
 -- ---- the byte due
 

@@ -4,7 +4,7 @@ ghost use Rattle.listings.specs.Bytes.{pick};
 ghost use Rattle.comparing.specs.Judging.{start, lost};
 ghost use Rattle.comparing.specs.JudgeStates.{reading_of};
 ghost use Rattle.comparing.specs.Comparing.{same, differs, begins, differing, fed_byte, fed, place_at, ruled};
-ghost use Rattle.comparing.specs.ComparingStates.{standing_by, verdict_by};
+ghost use Rattle.comparing.specs.ComparingStates.{standing_as, verdict_as};
 ghost use Rattle.comparing.specs.Feeding.{RowsDue, FedTo};
 
 use crate::judge::Judge;
@@ -81,7 +81,7 @@ fn place_at(due: &[u8], at: usize) -> usize
 // The bytes of a row in no form, up to its end or that of the piece: only where it ends matters.
 fn lost_on<'a, R: Refused>(at: usize, piece: &'a [u8]) -> Fed<'a, R>
     requires { 0 < length piece.now }
-    ensures { (due : List ℕ) → FedTo due (differs at lost) piece.now (standing_by R.as_pair result.state) result.left.now }
+    ensures { (due : List ℕ) → FedTo due (differs at lost) piece.now (standing_as R.as_pair result.state) result.left.now }
 {
     for (i, b) in piece.iter().enumerate() {
         if *b == b'\n' {
@@ -100,9 +100,9 @@ fn lost_on<'a, R: Refused>(at: usize, piece: &'a [u8]) -> Fed<'a, R>
 
 impl Reached {
     // A byte of a row that is not the one due.
-    #[tactic(auto, using(std::proofs::lemmas::Bool::Decides::nat_tests), unfolding(crate::specs::Comparing::differing, crate::specs::ComparingStates::standing_by))]
+    #[tactic(auto, using(std::proofs::lemmas::Bool::Decides::nat_tests), unfolding(crate::specs::Comparing::differing, crate::specs::ComparingStates::standing_as))]
     fn differ<R: Refused>(self, b: u8) -> Comparing<R>
-        ensures { standing_by R.as_pair result ≡ differing self.at (reading_of self.judge) b }
+        ensures { standing_as R.as_pair result ≡ differing self.at (reading_of self.judge) b }
     {
         if b == b'\n' {
             return Comparing::Ended(R::refused(self.judge.row_reason(), self.at));
@@ -118,7 +118,7 @@ impl Reached {
     // state on, a row of 100 MB in no form took 1.7 times as long.
     fn differ_on<'a, R: Refused>(self, piece: &'a [u8]) -> Fed<'a, R>
         requires { 0 < length piece.now }
-        ensures { (due : List ℕ) → FedTo due (differs self.at (reading_of self.judge)) piece.now (standing_by R.as_pair result.state) result.left.now }
+        ensures { (due : List ℕ) → FedTo due (differs self.at (reading_of self.judge)) piece.now (standing_as R.as_pair result.state) result.left.now }
     {
         if let Judge::Lost = self.judge {
             return lost_on(self.at, piece);
@@ -140,9 +140,9 @@ impl Reached {
     }
 
     // One byte more, where all was as due.
-    #[tactic(auto, unfolding(crate::specs::Comparing::fed_byte, crate::specs::ComparingStates::standing_by))]
+    #[tactic(auto, unfolding(crate::specs::Comparing::fed_byte, crate::specs::ComparingStates::standing_as))]
     fn feed_same<R: Refused>(self, due: &[u8], b: u8) -> Comparing<R>
-        ensures { standing_by R.as_pair result ≡ fed_byte due.now (same self.at (reading_of self.judge)) b }
+        ensures { standing_as R.as_pair result ≡ fed_byte due.now (same self.at (reading_of self.judge)) b }
     {
         if is_due(due, self.at, b) {
             return Comparing::Same(Reached {
@@ -156,7 +156,7 @@ impl Reached {
     // Where all was as due: rows that are due at once, else one byte.
     fn feed_rows<'a, R: Refused>(self, due: &[u8], piece: &'a [u8]) -> Fed<'a, R>
         requires { 0 < length piece.now }
-        ensures { FedTo due.now (same self.at (reading_of self.judge)) piece.now (standing_by R.as_pair result.state) result.left.now }
+        ensures { FedTo due.now (same self.at (reading_of self.judge)) piece.now (standing_as R.as_pair result.state) result.left.now }
     {
         let m = if self.judge.is_start() {
             rows_due(self.at, due, piece)
@@ -179,9 +179,9 @@ impl Reached {
     }
 
     // The graph given ends, and all was as due.
-    #[tactic(auto, using(crate::specs::ComparingStates::nothing_left, crate::specs::ComparingStates::something_left), unfolding(crate::specs::Comparing::ruled, crate::specs::ComparingStates::verdict_by))]
+    #[tactic(auto, using(crate::specs::ComparingStates::nothing_left, crate::specs::ComparingStates::something_left), unfolding(crate::specs::Comparing::ruled, crate::specs::ComparingStates::verdict_as))]
     fn rule_same<R: Refused>(self, due: &[u8]) -> Result<(), R>
-        ensures { verdict_by R.as_pair result ≡ ruled due.now (same self.at (reading_of self.judge)) }
+        ensures { verdict_as R.as_pair result ≡ ruled due.now (same self.at (reading_of self.judge)) }
     {
         if !self.judge.is_start() {
             return Err(R::refused(Reason::NotARow, place_at(due, self.at)));
@@ -195,9 +195,9 @@ impl Reached {
 
 impl<R: Refused> Comparing<R> {
     // Before the first byte.
-    #[tactic(auto, unfolding(crate::specs::JudgeStates::reading_of, crate::specs::ComparingStates::standing_by))]
+    #[tactic(auto, unfolding(crate::specs::JudgeStates::reading_of, crate::specs::ComparingStates::standing_as))]
     pub fn begin() -> Comparing<R>
-        ensures { standing_by R.as_pair result ≡ same 0 start }
+        ensures { standing_as R.as_pair result ≡ same 0 start }
     {
         Comparing::Same(Reached {
             at: 0,
@@ -208,7 +208,7 @@ impl<R: Refused> Comparing<R> {
     // At least one byte more; behind a row that was not due nothing counts.
     fn feed_more<'a>(self, due: &[u8], piece: &'a [u8]) -> Fed<'a, R>
         requires { 0 < length piece.now }
-        ensures { FedTo due.now (standing_by R.as_pair self) piece.now (standing_by R.as_pair result.state) result.left.now }
+        ensures { FedTo due.now (standing_as R.as_pair self) piece.now (standing_as R.as_pair result.state) result.left.now }
     {
         match self {
             Comparing::Same(r) => r.feed_rows(due, piece),
@@ -223,7 +223,7 @@ impl<R: Refused> Comparing<R> {
     // One piece more of the graph given.
     // Kept: `while`, since a turn takes one byte or many rows: an iterator of such steps would be no plainer.
     pub fn feed(self, due: &[u8], piece: &[u8]) -> Comparing<R>
-        ensures { standing_by R.as_pair result ≡ fed due.now (standing_by R.as_pair self) piece.now }
+        ensures { standing_as R.as_pair result ≡ fed due.now (standing_as R.as_pair self) piece.now }
     {
         let mut s = self;
         let mut left = piece;
@@ -236,9 +236,9 @@ impl<R: Refused> Comparing<R> {
     }
 
     // The graph given ends: right, or refused at the first row that is not the one due.
-    #[tactic(auto, unfolding(crate::specs::Comparing::ruled, crate::specs::ComparingStates::standing_by, crate::specs::ComparingStates::verdict_by))]
+    #[tactic(auto, unfolding(crate::specs::Comparing::ruled, crate::specs::ComparingStates::standing_as, crate::specs::ComparingStates::verdict_as))]
     pub fn rule(self, due: &[u8]) -> Result<(), R>
-        ensures { verdict_by R.as_pair result ≡ ruled due.now (standing_by R.as_pair self) }
+        ensures { verdict_as R.as_pair result ≡ ruled due.now (standing_as R.as_pair self) }
     {
         match self {
             Comparing::Same(r) => r.rule_same(due),

@@ -3,8 +3,8 @@ use Rattle.std.specs.Prelude.{Result, ℕ, ◌≡◌, List, [], ◌∷◌}
 use Rattle.graph.specs.Check.{checked}
 use Rattle.passes.specs.TableForms.{Sizes, capacity}
 use Rattle.wiring.specs.BuiltAnswer.{BuiltAnswer}
-use Rattle.comparing.specs.ComparingStates.{verdict_by}
-use Rattle.c_answers.specs.DoneNumbers.{number_by, place_by}
+use Rattle.comparing.specs.ComparingStates.{verdict_as}
+use Rattle.c_answers.specs.DoneNumbers.{number_as, place_as}
 use Rattle.printing.specs.ListGraph.{GraphListed}
 use Rattle.checking.specs.Checking.{GraphChecked}
 use Rattle.c_answers.specs.VerdictNumbers.{number_of, place_of, verdict_numbered}
@@ -19,7 +19,7 @@ pub record CheckNumbered (text given : List ℕ) (s : Sizes) (c l t a e f k i r 
 
 -- judged, then told
 pub check-numbered : {text given : List ℕ} {s : Sizes} {c l t a e f k i r u p page page' : List ℕ} {R : Type 0} (h : R → ℕ × ℕ) (v : Result (Unit {0}) R) {number : ℕ} {place : List ℕ}
-    → GraphChecked text given s c l t a e f k i r u p page page' (verdict_by h v) → (number ≡ number_by h v) × (place ≡ place_by h v)
+    → GraphChecked text given s c l t a e f k i r u p page page' (verdict_as h v) → (number ≡ number_as h v) × (place ≡ place_as h v)
     → CheckNumbered text given s c l t a e f k i r u p page page' number place
 check-numbered h v w g =
     let z = verdict_numbered h v w.verdict g in

@@ -94,7 +94,7 @@ impl Refused for Refusal {
     }
 }
 
-// Any number.
+// Any number that a byte holds.
 impl Refused for (u8, usize) {
     ghost as_pair = { λ pair. pair };
 
@@ -102,10 +102,12 @@ impl Refused for (u8, usize) {
         (reason.number(), place)
     }
 
+    // Kept: this and the next are of one shape: each reads one field, the first and the second.
     fn number(self) -> u8 {
         self.0
     }
 
+    // Kept: as above.
     fn place(self) -> usize {
         self.1
     }

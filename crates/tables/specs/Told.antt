@@ -6,8 +6,8 @@ use Rattle.layout.specs.declared.refusals.Refusal.{Refusal}
 use Rattle.layout.specs.Refusals.{number_of, refusal_pair}
 
 abbrev pub told_as : {A R : Type 0} → (R → ℕ × ℕ) → Result A R → Reply A
-told_as n (Ok a) = answer a
-told_as n (Err r) = refused (n r).0 (n r).1
+told_as f (Ok a) = answer a
+told_as f (Err r) = refused (f r).0 (f r).1
 
 -- the same of the papers' refusals
 abbrev pub told : {A : Type 0} → Result A Refusal → Reply A

@@ -2,12 +2,12 @@
 use mathlib.Core.Path.{◌≡◌}
 use lib.ListN.{length}
 use Rattle.comparing.specs.Comparing.{fed}
-use Rattle.comparing.specs.ComparingStates.{standing_by}
+use Rattle.comparing.specs.ComparingStates.{standing_as}
 use Rattle.comparing.proofs.compare.Comparing.feed.Given as goal
 
 abbrev pub invariant-loop-left : goal.invariant-loop-left
 invariant-loop-left g l =
-    let told = standing_by g.R.Refused.as_pair in
+    let told = standing_as g.R.Refused.as_pair in
     fed l.due (told l.s) l.left ≡ fed l.due (told l.initial.s) l.piece
 
 abbrev pub decreases-loop-left : goal.decreases-loop-left

@@ -2,7 +2,7 @@
 use mathlib.Core.Path.{refl}
 use borrow.Author.Tests.{ne_eqb, eq-eqb}
 use Rattle.comparing.specs.JudgeStates.{reading_of}
-use Rattle.comparing.specs.ComparingStates.{standing_by}
+use Rattle.comparing.specs.ComparingStates.{standing_as}
 use Rattle.comparing.specs.Feeding.{differing_none, differing_on, differing_ends, differing_all}
 use Rattle.comparing.proofs.compare.Reached.differ_on.Goals as goal
 
@@ -10,7 +10,7 @@ pub loop-i-init : goal.loop-i-init
 loop-i-init g c = differing_none c.args.self.at (reading_of c.args.self.judge) c.args.piece.now
 
 pub returns-then-b-eq10 : goal.returns-then-b-eq10
-unfolding standing_by
+unfolding standing_as
 returns-then-b-eq10 g c =
     let a = c.args in
     let l = c.loop-i in
@@ -23,7 +23,7 @@ loop-i-preserved g c =
     rw c.judge_byte-judge.ensures (differing_on a.self.at (reading_of a.self.judge) a.piece.now l.i (reading_of l.judge) c.loop-i-test.true l.invariant _ refl (ne_eqb _ _ c.if-b-eq10.false))
 
 pub returns : goal.returns
-unfolding standing_by
+unfolding standing_as
 returns g c =
     let a = c.args in
     let l = c.loop-i in

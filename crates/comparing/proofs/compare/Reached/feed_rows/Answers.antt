@@ -3,7 +3,7 @@ use mathlib.Core.Path.{sym, subst, ◌∙◌}
 use native.Mathlib.Omega.{arith}
 use Rattle.comparing.specs.Comparing.{same}
 use Rattle.comparing.specs.JudgeStates.{reading_of}
-use Rattle.comparing.specs.ComparingStates.{standing_by}
+use Rattle.comparing.specs.ComparingStates.{standing_as}
 use Rattle.comparing.specs.Feeding.{RowsDue, fed-one, fed-rows}
 use Rattle.comparing.proofs.compare.Reached.feed_rows.Goals as goal
 use Rattle.comparing.proofs.compare.Reached.feed_rows.Goals.{then-is_start, else-is_start}
@@ -12,7 +12,7 @@ pub returns-then-m-eq0 : goal.returns-then-m-eq0
 returns-then-m-eq0 g c = fed-one c.args.due.now (same c.args.self.at (reading_of c.args.self.judge)) c.args.piece.now c.requires _ c.feed_same.ensures
 
 pub returns : goal.returns
-unfolding reading_of standing_by
+unfolding reading_of standing_as
 returns g c =
     let a = c.args in
     let i = c.if-is_start in
